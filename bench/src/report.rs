@@ -1,0 +1,101 @@
+//! What is measured, and the tables that come of it.
+
+use crate::measure::{measure, Measured, BATCH, PAIRS};
+use crate::operations::{Stage, OPERATIONS};
+use crate::scripts::{full, mixed, E1};
+use crate::table::Table;
+
+/// How the figures below were taken.
+pub fn conditions() -> String {
+    format!(
+        "Both programs are timed in one run, in turn: {PAIRS} pairs of batches of about {} \
+         microseconds,\neach program first in half of them. The ratio is ours by reference, taken \
+         pair by pair: the median,\nand the 10th to 90th percentile. Times are medians. Both \
+         programs use the same buffers, which are\nfilled with junk before each batch, outside \
+         the timed part, and are neither cleared nor refilled\nbetween the calls of a batch. \
+         Reading itself clears the unused rows, and judging and writing look\nat them; that is \
+         part of each call.\n",
+        BATCH.as_micros()
+    )
+}
+
+/// Three scripts from small to full.
+pub fn sizes() -> Table {
+    let scripts = [
+        ("small", E1.to_vec()),
+        ("middling", mixed(60)),
+        ("full", full()),
+    ];
+    let mut lines = Vec::new();
+    for operation in &OPERATIONS {
+        for (name, script) in &scripts {
+            let mut stage = Stage::new(script.clone());
+            let measured = measure(operation, &mut stage);
+            let mut line = vec![
+                operation.name.to_string(),
+                name.to_string(),
+                stage.terms().to_string(),
+                script.len().to_string(),
+                format!("{:.0}", measured.ours),
+                format!("{:.0}", measured.reference),
+            ];
+            line.extend(ratio(&measured));
+            lines.push(line);
+        }
+    }
+    Table {
+        title: "Nanoseconds per call",
+        head: vec![
+            "operation",
+            "script",
+            "terms",
+            "bytes",
+            "ours",
+            "reference",
+            "ratio",
+            "10% to 90%",
+        ],
+        lines,
+    }
+}
+
+/// The same mixture of terms at sizes that double.
+pub fn growth() -> Table {
+    let mut lines = Vec::new();
+    for operation in &OPERATIONS {
+        for terms in [16, 32, 64, 128, 256, 512] {
+            let mut stage = Stage::new(mixed(terms));
+            let measured = measure(operation, &mut stage);
+            let each = |time: f64| format!("{:.1}", time / terms as f64);
+            let mut line = vec![
+                operation.name.to_string(),
+                terms.to_string(),
+                stage.script.len().to_string(),
+                each(measured.ours),
+                each(measured.reference),
+            ];
+            line.extend(ratio(&measured));
+            lines.push(line);
+        }
+    }
+    Table {
+        title: "Growth: nanoseconds per term",
+        head: vec![
+            "operation",
+            "terms",
+            "bytes",
+            "ours",
+            "reference",
+            "ratio",
+            "10% to 90%",
+        ],
+        lines,
+    }
+}
+
+fn ratio(measured: &Measured) -> [String; 2] {
+    [
+        format!("{:.2}", measured.ratio),
+        format!("{:.2} to {:.2}", measured.low, measured.high),
+    ]
+}

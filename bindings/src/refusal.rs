@@ -1,0 +1,25 @@
+//! What every function answers where it does not accept its input.
+
+use std::error::Error;
+use std::fmt::{self, Display, Formatter};
+
+/// A refusal: its number and its place.
+///
+/// Refusals 1 to 5 are the caller's, with place 0 and no lent memory changed,
+/// and the lowest number is the one given. Refusals 10 to 19 are about the
+/// script; their place is a byte offset from reading and a row from rows.
+#[derive(Clone, Copy, Debug, PartialEq, Eq)]
+pub struct Refusal {
+    /// The number of the refusal.
+    pub number: u32,
+    /// Where it was met.
+    pub place: u32,
+}
+
+impl Display for Refusal {
+    fn fmt(&self, to: &mut Formatter<'_>) -> fmt::Result {
+        write!(to, "refused {} at {}", self.number, self.place)
+    }
+}
+
+impl Error for Refusal {}

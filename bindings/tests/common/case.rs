@@ -1,0 +1,83 @@
+//! One case of a comparison, and how it is shown when it fails.
+
+use super::guarded::{Cell, Guarded};
+use roomscript::FIELDS;
+use std::fmt::{self, Debug, Display, Formatter, LowerHex};
+
+/// What both programs were given.
+pub enum Input<'a> {
+    Script(&'a [u8]),
+    Rows(&'a [u32]),
+}
+
+pub struct Case<'a> {
+    pub seed: u64,
+    /// Counted from 0; a run of one case more than this meets it again.
+    pub number: u64,
+    pub input: Input<'a>,
+}
+
+impl Case<'_> {
+    #[track_caller]
+    pub fn expect(&self, holds: bool, what: impl Display) {
+        assert!(holds, "{what}\n{self}");
+    }
+
+    #[track_caller]
+    pub fn equal<T: PartialEq + Debug>(&self, ours: T, other: T, what: impl Display) {
+        if ours != other {
+            panic!("{what}: ours {ours:?}, but {other:?} is due\n{self}");
+        }
+    }
+
+    /// Compares whole buffers and names the first difference.
+    #[track_caller]
+    pub fn same<T: PartialEq + LowerHex>(&self, ours: &[T], other: &[T], what: impl Display) {
+        if ours == other {
+            return;
+        }
+        let mut pairs = ours.iter().zip(other);
+        match pairs.position(|(ours, other)| ours != other) {
+            Some(at) => panic!(
+                "{what}: at {at} ours is {:x}, but {:x} is due\n{self}",
+                ours[at], other[at]
+            ),
+            None => panic!("{what}: the lengths differ\n{self}"),
+        }
+    }
+
+    #[track_caller]
+    pub fn guarded<T: Cell>(&self, buffer: &Guarded<T>, what: impl Display) {
+        self.expect(
+            buffer.guards_hold(),
+            format_args!("guards of the {what} are written"),
+        );
+    }
+}
+
+impl Display for Case<'_> {
+    fn fmt(&self, to: &mut Formatter<'_>) -> fmt::Result {
+        writeln!(to, "seed {}, case {}", self.seed, self.number)?;
+        match self.input {
+            Input::Script(script) => write!(to, "script of {}", hex_bytes(script)),
+            Input::Rows(rows) => write!(to, "rows of {}", hex_rows(rows)),
+        }
+    }
+}
+
+pub fn hex_bytes(bytes: &[u8]) -> String {
+    let shown: Vec<String> = bytes.iter().map(|byte| format!("{byte:02X}")).collect();
+    format!("{} bytes: {}", bytes.len(), shown.join(" "))
+}
+
+/// Rows in hex, a line each, without the fields of 0 at the end.
+pub fn hex_rows(rows: &[u32]) -> String {
+    let used = rows.iter().rposition(|field| *field != 0);
+    let used = used.map_or(0, |last| last + 1);
+    let mut text = format!("{} fields:", rows.len());
+    for (index, row) in rows[..used].chunks(FIELDS).enumerate() {
+        let fields: Vec<String> = row.iter().map(|field| format!("{field:X}")).collect();
+        text.push_str(&format!("\n  row {index}: {}", fields.join(" ")));
+    }
+    text
+}

@@ -1,0 +1,123 @@
+//! Rows judged and written by both programs, and read again.
+
+use crate::common::case::{Case, Input};
+use crate::common::guarded::Guarded;
+use crate::common::settings::Settings;
+use crate::common::tally::Tally;
+use crate::due;
+use reference::random::Random;
+use reference::Generator;
+use roomscript::{MAX_BYTES, ROWS_LEN};
+
+/// The buffers of a case, reused from one to the next.
+struct Buffers {
+    rows: Guarded<u32>,
+    again: Guarded<u32>,
+    ours: Guarded<u8>,
+    other: Guarded<u8>,
+}
+
+impl Buffers {
+    fn new() -> Self {
+        Buffers {
+            rows: Guarded::new(),
+            again: Guarded::new(),
+            ours: Guarded::new(),
+            other: Guarded::new(),
+        }
+    }
+}
+
+#[test]
+fn rows_are_judged_and_written_alike() {
+    let settings = Settings::from_environment();
+    let mut generator = Generator::new(settings.seed);
+    // A sequence of its own, so that the rows depend on nothing else.
+    let mut random = Random::new(!settings.seed);
+    let mut buffers = Buffers::new();
+    let mut judged = Tally::new("judge_rows");
+    let mut written = Tally::new("write");
+    let mut rows = Vec::new();
+    for number in 0..settings.cases {
+        generator.rows_any_length(&mut rows);
+        let case = Case {
+            seed: settings.seed,
+            number,
+            input: Input::Rows(&rows),
+        };
+        let junk = random.bits() as u32;
+        buffers.rows.hold(&rows, junk);
+        judge_by_both(&case, &rows, &mut buffers, &mut judged);
+        for length in output_lengths(&rows, &mut random) {
+            let junk = random.bits() as u32;
+            buffers.ours.fill(length, junk);
+            buffers.other.fill(length, junk);
+            write_by_both(&case, &rows, &mut buffers, &mut written);
+        }
+    }
+    judged.report(&settings, &[0, 2, 12, 13, 14, 15, 17, 18, 19]);
+    written.report(&settings, &[0, 2, 5, 12, 13, 14, 15, 17, 18, 19]);
+}
+
+fn judge_by_both(case: &Case, rows: &[u32], buffers: &mut Buffers, tally: &mut Tally) {
+    let answer = roomscript::judge_rows(buffers.rows.lent());
+    let expected = due(reference::judge_rows(rows));
+    case.equal(answer, expected, "answer of judge_rows");
+    case.same(buffers.rows.lent(), rows, "rows after judge_rows");
+    case.guarded(&buffers.rows, "rows after judge_rows");
+    tally.count(answer);
+}
+
+/// Lengths of outputs: none, around the length of the script where there is
+/// one, and longer than any script.
+fn output_lengths(rows: &[u32], random: &mut Random) -> Vec<usize> {
+    let longer = MAX_BYTES + random.index(200);
+    match reference::write(rows, &mut [0; MAX_BYTES]) {
+        Ok(length) => {
+            let length = length as usize;
+            let shorter = random.index(length);
+            let more = length + 2 + random.index(100);
+            vec![0, shorter, length - 1, length, length + 1, more, longer]
+        }
+        Err(_) => vec![0, random.index(100), longer],
+    }
+}
+
+/// Both write to an output of the same length with the same junk.
+fn write_by_both(case: &Case, rows: &[u32], buffers: &mut Buffers, tally: &mut Tally) {
+    let Buffers { ours, other, .. } = buffers;
+    let room = ours.lent().len();
+    let answer = roomscript::write(buffers.rows.lent(), ours.lent_mut());
+    let expected = due(reference::write(rows, other.lent_mut()));
+    case.equal(
+        answer,
+        expected,
+        format_args!("answer of write to {room} bytes"),
+    );
+    case.same(
+        ours.lent(),
+        other.lent(),
+        format_args!("output after write to {room} bytes"),
+    );
+    case.guarded(ours, "output after write");
+    case.same(buffers.rows.lent(), rows, "rows after write");
+    case.guarded(&buffers.rows, "rows after write");
+    tally.count(answer);
+    if let Ok(length) = answer {
+        read_again(case, rows, length, buffers);
+    }
+}
+
+/// Reading what was written gives the rows back.
+fn read_again(case: &Case, rows: &[u32], length: u32, buffers: &mut Buffers) {
+    let Buffers { again, ours, .. } = buffers;
+    again.fill(ROWS_LEN, length);
+    let script = &ours.lent()[..length as usize];
+    case.equal(
+        roomscript::read(script, again.lent_mut()),
+        roomscript::judge_rows(rows),
+        "answer of read after write",
+    );
+    case.same(again.lent(), rows, "rows read after write");
+    case.guarded(again, "rows read after write");
+}

@@ -1,0 +1,64 @@
+-- The numbers after a script's last row: their sum, the first that is not 0, and what the reader says of them.
+use Prim.Native.Nat.{ℕ, suc, _+_, _/_, _≤_, _<_}
+use native.Mathlib.Omega.{arith}
+use native.Mathlib.Numerals.{add-one}
+use mathlib.Core.Path.{_≡_, refl, sym, ap, _∙_}
+use mathlib.Core.Bool.{Bool, true, false}
+use mathlib.Core.List.{List, [], _∷_}
+use lib.ListN.{length, drop, getD, length-drop, drop-of-length-le}
+use lib.Seq.{drop-cons}
+use lib.Dec.{ltb, eqb}
+use borrow.Author.Tests.{lt-ltb, le-ltb, eq-eqb, ne-eqb}
+use Rattle.reader.specs.Result.{ok, err, need, pick, _>>=_}
+use Rattle.reader.specs.Layout.{inRows}
+use Rattle.reader.specs.Reader.{nothingLeft}
+use Rattle.reader.specs.RowParts.{sum, firstUsed}
+
+first-left : (rows : List ℕ) (i : ℕ) → i < length rows → drop i rows ≡ getD rows i 0 ∷ drop (i + 1) rows
+first-left rows i h = rw (add-one, drop-cons rows i 0)
+
+pub sum-more : (rows : List ℕ) (i : ℕ) → i < length rows → sum (drop i rows) ≡ getD rows i 0 + sum (drop (i + 1) rows)
+unfolding sum
+sum-more rows i h = ap sum (first-left rows i h)
+
+pub sum-none : (rows : List ℕ) (i : ℕ) → length rows ≤ i → sum (drop i rows) ≡ 0
+unfolding sum
+sum-none rows i h = ap sum (drop-of-length-le rows h)
+
+pub used-later : (rows : List ℕ) (i : ℕ) → i < length rows → getD rows i 0 ≡ 0 → firstUsed i (drop i rows) ≡ firstUsed (i + 1) (drop (i + 1) rows)
+unfolding firstUsed
+used-later rows i h z = rw (first-left rows i h, eq-eqb _ _ z, add-one)
+
+pub used-here : (rows : List ℕ) (i : ℕ) → i < length rows → (getD rows i 0 ≡ 0 → ⊥) → firstUsed i (drop i rows) ≡ i
+unfolding firstUsed
+used-here rows i h n = rw (first-left rows i h, ne-eqb _ _ n)
+
+pub used-none : (rows : List ℕ) (i : ℕ) → length rows ≤ i → firstUsed i (drop i rows) ≡ i
+unfolding firstUsed
+used-none rows i h = ap (firstUsed i) (drop-of-length-le rows h)
+
+all-unused : (k : ℕ) (xs : List ℕ) → sum xs ≡ 0 → firstUsed k xs ≡ k + length xs
+unfolding sum firstUsed
+all-unused k [] h = omega arith
+all-unused k (x ∷ xs) h =
+    let z : x ≡ 0 = omega arith in
+    let e : suc k + length xs ≡ k + suc (length xs) = omega arith in
+    rw (eq-eqb x 0 z) (all-unused (suc k) xs (omega arith) ∙ e)
+
+-- Numbers that add up to 0 are all 0.
+pub sum-unused : (rows : List ℕ) (i : ℕ) → i ≤ length rows → sum (drop i rows) ≡ 0 → length rows ≡ firstUsed i (drop i rows)
+sum-unused rows i h z = omega (arith, all-unused i (drop i rows) z, length-drop i rows)
+
+-- "19" is at the row of the first number that is not 0.
+pub left-judged : (k : ℕ) (xs : List ℕ) → nothingLeft inRows k xs ≡ pick (ltb (firstUsed k xs) (k + length xs)) (err (19, firstUsed k xs / 5)) (ok tt)
+unfolding nothingLeft firstUsed need _>>=_
+left-judged k [] = rw (le-ltb k (k + 0) (omega arith))
+left-judged k (x ∷ xs) = go (left-judged (suc k) xs) (eqb x 0)
+  where
+    used : ℕ
+    used = firstUsed (suc k) xs
+
+    go : nothingLeft inRows (suc k) xs ≡ pick (ltb used (suc k + length xs)) (err (19, used / 5)) (ok tt) → (t : Bool)
+        → _>>=_ (need t (19, k / 5)) (λ u. nothingLeft inRows (suc k) xs) ≡ pick (ltb (pick t used k) (k + suc (length xs))) (err (19, pick t used k / 5)) (ok tt)
+    go ih true = let e : suc k + length xs ≡ k + suc (length xs) = omega arith in ih ∙ ap (λ (n : ℕ). pick (ltb used n) (err (19, used / 5)) (ok tt)) e
+    go ih false = rw (lt-ltb k (k + suc (length xs)) (omega arith))

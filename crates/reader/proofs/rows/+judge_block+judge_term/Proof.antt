@@ -1,0 +1,184 @@
+-- The term judge and the block judge, which call each other, meet their contracts. The measure is twice the levels left, one more for
+-- the block; the loop keeps what is left equal to what the whole gives. Assumes nothing.
+use borrow.Author.Needs.{needs}
+use native.Mathlib.Omega.{arith}
+use Prim.Native.Nat.{ℕ, _<_, _≤_, _+_, _*_}
+use mathlib.Core.Path.{_≡_, refl, sym, _∙_}
+use Rattle.reader.proofs.RowSpans.{Words, refused-span, entered, boxed-few, leaf-spans, around-spans, block-spans, block-count, restSpan, all-span, none-span, stop-span, rest-few, rest-span}
+use borrow.Fn.Kinds.{In}
+use borrow.Fn.PlainCycle.{Measures, is, falls, and}
+use Rattle.reader.proofs.rows.judge_block.Reads as judge-block
+use Rattle.reader.proofs.rows.judge_block.Kinds as judge-block-kinds
+use Rattle.reader.proofs.rows.+judge_block+judge_term.Lts-judge_block as judge-block-lts
+use Rattle.reader.proofs.rows.judge_term.Reads as judge-term
+use Rattle.reader.proofs.rows.judge_term.Kinds as judge-term-kinds
+use Rattle.reader.proofs.rows.+judge_block+judge_term.Lts-judge_term as judge-term-lts
+use Rattle.reader.proofs.rows.boxes_with.Reads as boxes-with-reads
+use Rattle.reader.proofs.rows.field_at.Reads as field-at-reads
+use Rattle.reader.proofs.rows.row_number.Reads as row-number-reads
+use Rattle.reader.proofs.rows.wide.Reads as wide-reads
+use Rattle.reader.proofs.rows.+judge_block+judge_term.{statement}
+use Rattle.reader.proofs.rows.+judge_block+judge_term.Tie.{close}
+
+abbrev μ-judge-block : Measures 1 judge-block-kinds.ps ℕ
+μ-judge-block κs a = a .1 .1 .1 .0 * 2 + 1
+
+abbrev μ-judge-term : Measures 1 judge-term-kinds.ps ℕ
+μ-judge-term κs a = a .1 .1 .0 * 2
+
+abbrev judge-block-at : ℕ → In 1 judge-block-kinds.ps
+judge-block-at t =
+    and 1 judge-block-kinds.ps (is 1 judge-block-kinds.ps μ-judge-block t) judge-block.Pre
+
+abbrev judge-block-below : ℕ → In 1 judge-block-kinds.ps
+judge-block-below t =
+    and 1 judge-block-kinds.ps (falls 1 judge-block-kinds.ps _<_ μ-judge-block t) judge-block.Pre
+
+abbrev judge-term-at : ℕ → In 1 judge-term-kinds.ps
+judge-term-at t =
+    and 1 judge-term-kinds.ps (is 1 judge-term-kinds.ps μ-judge-term t) judge-term.Pre
+
+abbrev judge-term-below : ℕ → In 1 judge-term-kinds.ps
+judge-term-below t =
+    and 1 judge-term-kinds.ps (falls 1 judge-term-kinds.ps _<_ μ-judge-term t) judge-term.Pre
+
+abbrev judge-block-Inv-loop : judge-block-lts.InvT-loop
+judge-block-Inv-loop rows i count levels boxes next₀ boxed₀ left₀ next boxed left =
+    (boxed ≤ 64) × (restSpan levels rows left next boxed ≡ restSpan levels rows count i boxes)
+
+abbrev judge-block-μ-loop : judge-block-lts.MeasureT-loop
+judge-block-μ-loop rows i count levels boxes next₀ boxed₀ left₀ next boxed left = left
+
+abbrev judge-block-claims : ℕ → judge-block-lts.Claims
+judge-block-claims t = (judge-term-below t, judge-term.Post)
+
+abbrev judge-term-claims : ℕ → judge-term-lts.Claims
+judge-term-claims t = (row-number-reads.Asked, row-number-reads.Learnt, field-at-reads.Asked, field-at-reads.Learnt, wide-reads.Asked, wide-reads.Learnt, judge-block-below t, judge-block.Post, boxes-with-reads.Asked, boxes-with-reads.Learnt, judge-term-below t, judge-term.Post)
+
+judge-block-loop-holds : (t : ℕ) → judge-block-lts.Need-loop-holds (judge-block-claims t) (judge-block-at t) judge-block.Post judge-block-Inv-loop judge-block-μ-loop
+judge-block-loop-holds t c = (c .before .pre .1 .0 .few, refl)
+
+judge-block-judge-term-requires : (t : ℕ) → judge-block-lts.Need-judge-term-requires (judge-block-claims t) (judge-block-at t) judge-block.Post judge-block-Inv-loop judge-block-μ-loop
+judge-block-judge-term-requires t c κs = (omega (arith, c .before .before .before .pre .0), record { full = c .before .before .before .pre .1 .0 .full; few = c .before .loop .inv .0 })
+
+judge-block-enum-known-span : (t : ℕ) → judge-block-lts.Need-enum-known-span (judge-block-claims t) (judge-block-at t) judge-block.Post judge-block-Inv-loop judge-block-μ-loop
+judge-block-enum-known-span t c = search needs
+
+judge-block-enum-told : (t : ℕ) → judge-block-lts.Need-enum-told (judge-block-claims t) (judge-block-at t) judge-block.Post judge-block-Inv-loop judge-block-μ-loop
+judge-block-enum-told t c = search needs
+
+judge-block-returns :
+    (t : ℕ) →
+    judge-block-lts.Need-returns
+    (judge-term-below t, judge-term.Post)
+    (judge-block-at t)
+    judge-block.Post
+    judge-block-Inv-loop
+    judge-block-μ-loop
+judge-block-returns t c =
+    let q = c .enum-told .given .1 in
+    q ∙ stop-span _ _ _ _ _ (c .before .before .before .loop-test .taken) _ _ (sym q ∙ c .before .before .judge-term .ensures) ∙ c .before .before .before .before .loop .inv .1 ∙ all-span _ _ _ _ _ (c .before .before .before .before .before .before .pre .1 .1)
+
+judge-block-sub-left : (t : ℕ) → judge-block-lts.Need-sub-left (judge-block-claims t) (judge-block-at t) judge-block.Post judge-block-Inv-loop judge-block-μ-loop
+judge-block-sub-left t c = omega arith
+
+judge-block-loop-less : (t : ℕ) → judge-block-lts.Need-loop-less (judge-block-claims t) (judge-block-at t) judge-block.Post judge-block-Inv-loop judge-block-μ-loop
+judge-block-loop-less t c = omega arith
+
+judge-block-loop-again : (t : ℕ) → judge-block-lts.Need-loop-again (judge-block-claims t) (judge-block-at t) judge-block.Post judge-block-Inv-loop judge-block-μ-loop
+judge-block-loop-again t c =
+    let w : Words (c .before .before .before .before .before .before .before .args .rows .now) = λ j. omega (arith, c .before .before .before .before .before .before .shared-slice-known .given j) in
+    let f = sym (c .before .span .given .1) ∙ c .before .before .before .judge-term .ensures in
+    (rest-few (c .before .before .before .before .before .before .before .args .levels) _ (c .before .before .before .before .before .loop .next) (c .before .before .before .before .before .loop .boxed) w _ _ f, rest-span _ _ _ _ w _ _ f _ (c .before .before .before .before .loop-test .taken) ∙ c .before .before .before .before .before .loop .inv .1)
+
+judge-block-returns-2 : (t : ℕ) → judge-block-lts.Need-returns-2 (judge-block-claims t) (judge-block-at t) judge-block.Post judge-block-Inv-loop judge-block-μ-loop
+judge-block-returns-2 t c = none-span _ _ _ _ _ (c .loop-test .left) ∙ c .before .loop .inv .1 ∙ all-span _ _ _ _ _ (c .before .before .before .pre .1 .1)
+
+judge-term-row-number-requires : (t : ℕ) → judge-term-lts.Need-row-number-requires (judge-term-claims t) (judge-term-at t) judge-term.Post
+judge-term-row-number-requires t c κs = c .before .pre .1 .full
+
+judge-term-returns : (t : ℕ) → judge-term-lts.Need-returns (judge-term-claims t) (judge-term-at t) judge-term.Post
+judge-term-returns t c = refused-span _ _ _ _ _ (c .before .before .before .pre .1) _ (c .before .row-number .ensures) (c .if1 .taken)
+
+judge-term-field-at-requires : (t : ℕ) → judge-term-lts.Need-field-at-requires (judge-term-claims t) (judge-term-at t) judge-term.Post
+judge-term-field-at-requires t c κs =
+    let e = entered _ _ _ _ _ (c .before .before .before .pre .1) _ (c .before .row-number .ensures) (c .if1 .left) in
+    (c .before .before .before .pre .1 .full, e .room, omega arith)
+
+judge-term-add-next : (t : ℕ) → judge-term-lts.Need-add-next (judge-term-claims t) (judge-term-at t) judge-term.Post
+judge-term-add-next t c = omega (arith, entered _ _ _ _ _ (c .before .before .before .before .pre .1) _ (c .before .before .row-number .ensures) (c .before .if1 .left) .room)
+
+judge-term-sub-deeper : (t : ℕ) → judge-term-lts.Need-sub-deeper (judge-term-claims t) (judge-term-at t) judge-term.Post
+judge-term-sub-deeper t c = omega (arith, entered _ _ _ _ _ (c .before .before .before .before .pre .1) _ (c .before .before .row-number .ensures) (c .before .if1 .left) .deep)
+
+judge-term-field-at-requires-2 : (t : ℕ) → judge-term-lts.Need-field-at-requires-2 (judge-term-claims t) (judge-term-at t) judge-term.Post
+judge-term-field-at-requires-2 t c κs =
+    let e = entered _ _ _ _ _ (c .before .before .before .before .before .pre .1) _ (c .before .before .before .row-number .ensures) (c .before .before .if1 .left) in
+    (c .before .before .before .before .before .pre .1 .full, e .room, omega arith)
+
+judge-term-wide-requires : (t : ℕ) → judge-term-lts.Need-wide-requires (judge-term-claims t) (judge-term-at t) judge-term.Post
+judge-term-wide-requires t c κs = search needs
+
+judge-term-judge-block-requires : (t : ℕ) → judge-term-lts.Need-judge-block-requires (judge-term-claims t) (judge-term-at t) judge-term.Post
+judge-term-judge-block-requires t c κs =
+    let e = entered _ _ _ _ _ (c .before .before .before .before .before .before .before .pre .1) _ (c .before .before .before .before .before .row-number .ensures) (c .before .before .before .before .if1 .left) in
+    (omega (arith, c .before .before .before .before .before .before .before .pre .0, e .deep), (record { full = c .before .before .before .before .before .before .before .pre .1 .full; few = c .before .before .before .before .before .before .before .pre .1 .few }, block-count _ _ _ _ _ e _ (c .before .before .before .field-at .ensures) (c .before .before .match .keys1) _ (c .wide .ensures ∙ c .before .field-at2 .ensures)))
+
+judge-term-boxes-with-requires : (t : ℕ) → judge-term-lts.Need-boxes-with-requires (judge-term-claims t) (judge-term-at t) judge-term.Post
+judge-term-boxes-with-requires t c κs = c .before .before .before .before .before .before .before .pre .1 .few
+
+judge-term-judge-term-requires : (t : ℕ) → judge-term-lts.Need-judge-term-requires (judge-term-claims t) (judge-term-at t) judge-term.Post
+judge-term-judge-term-requires t c κs =
+    let e = entered _ _ _ _ _ (c .before .before .before .before .before .before .before .before .pre .1) _ (c .before .before .before .before .before .before .row-number .ensures) (c .before .before .before .before .before .if1 .left) in
+    (omega (arith, c .before .before .before .before .before .before .before .before .pre .0, e .deep), record { full = c .before .before .before .before .before .before .before .before .pre .1 .full; few = boxed-few _ _ _ _ _ e _ (c .before .before .before .before .field-at .ensures) _ (c .boxes-with .ensures) })
+
+judge-term-returns-2 : (t : ℕ) → judge-term-lts.Need-returns-2 (judge-term-claims t) (judge-term-at t) judge-term.Post
+judge-term-returns-2 t c =
+    let e = entered _ _ _ _ _ (c .before .before .before .before .before .before .before .before .pre .1) _ (c .before .before .before .before .before .before .row-number .ensures) (c .before .before .before .before .before .if1 .left) in
+    block-spans _ _ _ _ _ e _ (c .before .before .before .before .field-at .ensures) (c .before .before .before .match .keys1) _ (c .before .wide .ensures ∙ c .before .before .field-at2 .ensures) _ (c .judge-block .ensures)
+
+judge-term-returns-3 : (t : ℕ) → judge-term-lts.Need-returns-3 (judge-term-claims t) (judge-term-at t) judge-term.Post
+judge-term-returns-3 t c =
+    let e = entered _ _ _ _ _ (c .before .before .before .before .before .before .before .before .before .pre .1) _ (c .before .before .before .before .before .before .before .row-number .ensures) (c .before .before .before .before .before .before .if1 .left) in
+    around-spans _ _ _ _ _ e _ (c .before .before .before .before .before .field-at .ensures) (omega arith) (omega arith) _ (c .before .boxes-with .ensures) _ (c .judge-term .ensures)
+
+judge-term-returns-4 : (t : ℕ) → judge-term-lts.Need-returns-4 (judge-term-claims t) (judge-term-at t) judge-term.Post
+judge-term-returns-4 t c =
+    let e = entered _ _ _ _ _ (c .before .before .before .before .before .before .pre .1) _ (c .before .before .before .before .row-number .ensures) (c .before .before .before .if1 .left) in
+    leaf-spans _ _ _ _ _ e (c .before .before .field-at .result) (c .before .before .field-at .ensures) (λ z. omega arith) (λ z. omega arith) (λ z. omega arith) (λ z. omega arith)
+
+judge-term-returns-5 : (t : ℕ) → judge-term-lts.Need-returns-5 (judge-term-claims t) (judge-term-at t) judge-term.Post
+judge-term-returns-5 t c =
+    let e = entered _ _ _ _ _ (c .before .before .before .before .before .before .before .pre .1) _ (c .before .before .before .before .before .row-number .ensures) (c .before .before .before .before .if1 .left) in
+    leaf-spans _ _ _ _ _ e (c .before .before .before .field-at .result) (c .before .before .before .field-at .ensures) (λ z. omega arith) (λ z. omega arith) (λ z. omega arith) (c .before .before .match .rest .1)
+
+pub +judge-block+judge-term-spec : {M : Type 1} → statement M
++judge-block+judge-term-spec = close μ-judge-block μ-judge-term (λ t. judge-block-lts.spec (judge-block-claims t) (judge-block-at t)
+    judge-block.Post
+    judge-block-Inv-loop
+    judge-block-μ-loop
+    (judge-block-loop-holds t)
+    (judge-block-judge-term-requires t)
+    (judge-block-enum-known-span t)
+    (judge-block-enum-told t)
+    (judge-block-returns t)
+    (judge-block-sub-left t)
+    (judge-block-loop-less t)
+    (judge-block-loop-again t)
+    (judge-block-returns-2 t))
+    λ t. judge-term-lts.spec (judge-term-claims t) (judge-term-at t)
+    judge-term.Post
+    (judge-term-row-number-requires t)
+    (judge-term-returns t)
+    (judge-term-field-at-requires t)
+    (judge-term-add-next t)
+    (judge-term-sub-deeper t)
+    (judge-term-field-at-requires-2 t)
+    (judge-term-wide-requires t)
+    (judge-term-judge-block-requires t)
+    (judge-term-boxes-with-requires t)
+    (judge-term-judge-term-requires t)
+    (judge-term-returns-2 t)
+    (judge-term-returns-3 t)
+    (judge-term-returns-4 t)
+    (judge-term-returns-5 t)

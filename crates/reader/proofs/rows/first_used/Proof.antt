@@ -1,0 +1,66 @@
+-- `reader::rows/first_used` meets its contract. Assumes nothing.
+use Rattle.reader.specs.RowParts.{firstUsed}
+use Rattle.reader.proofs.LeftOver.{used-later, used-here, used-none, sum-unused}
+use borrow.Author.Needs.{needs}
+use native.Mathlib.Omega.{arith}
+use mathlib.Core.Path.{_≡_, sym, _∙_}
+use Prim.Native.Nat.{_-_, _≤_}
+use lib.ListN.{drop}
+use Rattle.reader.proofs.rows.first_used.Statement.{statement}
+use Rattle.reader.proofs.rows.first_used.Tie as tie
+use Rattle.reader.proofs.rows.first_used.Reads as reads
+use Rattle.reader.proofs.rows.first_used.Lts as lts
+use Rattle.reader.proofs.rows.sum_from.Reads as sum-from-reads
+
+abbrev Inv-loop : tie.InvT-loop
+Inv-loop rows from i₀ i = (i ≤ 2560) × (firstUsed i (drop i rows) ≡ firstUsed from (drop from rows))
+
+abbrev μ-loop : tie.MeasureT-loop
+μ-loop rows from i₀ i = 2560 - i
+
+sum-from-requires : tie.Need-sum-from-requires Inv-loop μ-loop
+sum-from-requires c κs = search needs
+
+returns : tie.Need-returns Inv-loop μ-loop
+returns c = sum-unused _ _ (omega arith) (sym (c .before .sum-from .ensures) ∙ c .if1 .taken)
+
+loop-holds : tie.Need-loop-holds Inv-loop μ-loop
+loop-holds c = search needs
+
+mul-if2 : tie.Need-mul-if2 Inv-loop μ-loop
+mul-if2 c = search needs
+
+shared-slice-read-if2 : tie.Need-shared-slice-read-if2 Inv-loop μ-loop
+shared-slice-read-if2 c = search needs
+
+returns-2 : tie.Need-returns-2 Inv-loop μ-loop
+returns-2 c = sym (used-here _ _ (omega arith) (c .if2 .taken)) ∙ c .before .before .before .loop .inv .1
+
+add-i : tie.Need-add-i Inv-loop μ-loop
+add-i c = search needs
+
+loop-less : tie.Need-loop-less Inv-loop μ-loop
+loop-less c = search needs
+
+loop-again : tie.Need-loop-again Inv-loop μ-loop
+loop-again c = (omega arith, sym (used-later _ _ (omega arith) (c .if2 .left)) ∙ c .before .before .before .loop .inv .1)
+
+returns-3 : tie.Need-returns-3 Inv-loop μ-loop
+returns-3 c = sym (used-none _ _ (omega arith)) ∙ c .before .loop .inv .1
+
+pub first-used-spec : {M : Type 1} → statement M
+first-used-spec =
+    tie.close
+    (tie.spec
+    Inv-loop
+    μ-loop
+    sum-from-requires
+    returns
+    loop-holds
+    mul-if2
+    shared-slice-read-if2
+    returns-2
+    add-i
+    loop-less
+    loop-again
+    returns-3)

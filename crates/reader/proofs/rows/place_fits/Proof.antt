@@ -1,0 +1,21 @@
+-- `reader::rows/place_fits` meets its contract. Assumes nothing.
+use Rattle.reader.specs.RowParts.{fieldFits, fieldsFit}
+use Rattle.reader.proofs.RowFields.{and-true}
+use borrow.Author.Tests.{lt-ltb, le-ltb}
+use mathlib.Core.Path.{sym}
+use lib.Dec.{leb·zero}
+use Rattle.reader.proofs.rows.place_fits.Statement.{statement}
+use Rattle.reader.proofs.rows.place_fits.Tie as tie
+use Rattle.reader.proofs.rows.place_fits.Reads as reads
+use Rattle.reader.proofs.rows.place_fits.Lts as lts
+
+returns : tie.Need-returns
+unfolding fieldsFit fieldFits
+returns c = rw (leb·zero (c .before .args .root), lt-ltb _ _ (c .if1 .taken), leb·zero (c .before .args .follows)) (sym (and-true _))
+
+returns-2 : tie.Need-returns-2
+unfolding fieldsFit fieldFits
+returns-2 c = rw (leb·zero (c .before .args .root), le-ltb _ _ (c .if1 .left))
+
+pub place-fits-spec : {M : Type 1} → statement M
+place-fits-spec = tie.close (tie.spec returns returns-2)

@@ -1,0 +1,80 @@
+-- `reader::script::judge_lead` meets its contract. Assumes nothing.
+use mathlib.Core.Path.{refl, sym}
+use borrow.Author.Tests.{lt-ltb, le-ltb, eq-eqb, ne-eqb}
+use Rattle.reader.specs.ByteParts.{leadJudged, onNumber}
+use Rattle.reader.proofs.Lists.{under-bytes}
+use Rattle.reader.proofs.NumberLaws.{number-stops, number-none}
+use borrow.Author.Needs.{needs}
+use Rattle.reader.proofs.script.judge_lead.Statement.{statement}
+use Rattle.reader.proofs.script.judge_lead.Tie as tie
+
+mark-number-requires : tie.Need-mark-number-requires
+mark-number-requires c κs = search needs
+
+returns : tie.Need-returns
+unfolding leadJudged onNumber
+returns c = (rw (← c .before .mark-number .ensures) (sym (number-stops _ _ _ (c .if1 .taken))), under-bytes (c .before .before .before .args .script .now) (c .before .before .shared-slice-known .given))
+
+mark-number-requires-2 : tie.Need-mark-number-requires-2
+mark-number-requires-2 c κs = search needs
+
+returns-2 : tie.Need-returns-2
+unfolding leadJudged
+returns-2 c = (rw (← c .before .before .before .mark-number .ensures, number-none _ _ _ (c .before .before .if1 .left), ← c .before .mark-number2 .ensures) (sym (number-stops _ _ _ (c .if2 .taken))), under-bytes (c .before .before .before .before .before .args .script .now) (c .before .before .before .before .shared-slice-known .given))
+
+mark-number-requires-3 : tie.Need-mark-number-requires-3
+mark-number-requires-3 c κs = search needs
+
+returns-3 : tie.Need-returns-3
+unfolding leadJudged
+returns-3 c = (rw (← c .before .before .before .before .before .mark-number .ensures, number-none _ _ _ (c .before .before .before .before .if1 .left), ← c .before .before .before .mark-number2 .ensures, number-none _ _ _ (c .before .before .if2 .left), ← c .before .mark-number3 .ensures) (sym (number-stops _ _ _ (c .if3 .taken))), under-bytes (c .before .before .before .before .before .before .before .args .script .now) (c .before .before .before .before .before .before .shared-slice-known .given))
+
+returns-4 : tie.Need-returns-4
+unfolding leadJudged
+returns-4 c = (rw (← c .before .before .before .before .before .before .mark-number .ensures, number-none _ _ _ (c .before .before .before .before .before .if1 .left), ← c .before .before .before .before .mark-number2 .ensures, number-none _ _ _ (c .before .before .before .if2 .left), ← c .before .before .mark-number3 .ensures, number-none _ _ _ (c .before .if3 .left), lt-ltb _ _ (c .if4 .taken)) refl, under-bytes (c .before .before .before .before .before .before .before .before .args .script .now) (c .before .before .before .before .before .before .before .shared-slice-known .given))
+
+shared-slice-read-wide : tie.Need-shared-slice-read-wide
+shared-slice-read-wide c = search needs
+
+wide-requires : tie.Need-wide-requires
+wide-requires c κs = search needs
+
+mul-version : tie.Need-mul-version
+mul-version c = search needs
+
+shared-slice-read-wide-2 : tie.Need-shared-slice-read-wide-2
+shared-slice-read-wide-2 c = search needs
+
+wide-requires-2 : tie.Need-wide-requires-2
+wide-requires-2 c κs = search needs
+
+add-version : tie.Need-add-version
+add-version c = search needs
+
+returns-5 : tie.Need-returns-5
+unfolding leadJudged
+returns-5 c = (rw (← c .before .before .before .before .before .before .before .before .before .before .before .mark-number .ensures, number-none _ _ _ (c .before .before .before .before .before .before .before .before .before .before .if1 .left), ← c .before .before .before .before .before .before .before .before .before .mark-number2 .ensures, number-none _ _ _ (c .before .before .before .before .before .before .before .before .if2 .left), ← c .before .before .before .before .before .before .before .mark-number3 .ensures, number-none _ _ _ (c .before .before .before .before .before .before .if3 .left), le-ltb _ _ (c .before .before .before .before .before .if4 .left), ← c .before .before .before .wide .ensures .0, ← c .before .wide2 .ensures .0, ne-eqb _ _ (c .if5 .taken)) refl, under-bytes (c .before .before .before .before .before .before .before .before .before .before .before .before .before .args .script .now) (c .before .before .before .before .before .before .before .before .before .before .before .before .shared-slice-known .given))
+
+returns-6 : tie.Need-returns-6
+unfolding leadJudged
+returns-6 c = (rw (← c .before .before .before .before .before .before .before .before .before .before .before .mark-number .ensures, number-none _ _ _ (c .before .before .before .before .before .before .before .before .before .before .if1 .left), ← c .before .before .before .before .before .before .before .before .before .mark-number2 .ensures, number-none _ _ _ (c .before .before .before .before .before .before .before .before .if2 .left), ← c .before .before .before .before .before .before .before .mark-number3 .ensures, number-none _ _ _ (c .before .before .before .before .before .before .if3 .left), le-ltb _ _ (c .before .before .before .before .before .if4 .left), ← c .before .before .before .wide .ensures .0, ← c .before .wide2 .ensures .0, eq-eqb _ _ (c .if5 .left)) refl, under-bytes (c .before .before .before .before .before .before .before .before .before .before .before .before .before .args .script .now) (c .before .before .before .before .before .before .before .before .before .before .before .before .shared-slice-known .given))
+
+pub judge-lead-spec : {M : Type 1} → statement M
+judge-lead-spec =
+    tie.close
+    (tie.spec
+    mark-number-requires
+    returns
+    mark-number-requires-2
+    returns-2
+    mark-number-requires-3
+    returns-3
+    returns-4
+    shared-slice-read-wide
+    wide-requires
+    mul-version
+    shared-slice-read-wide-2
+    wide-requires-2
+    add-version
+    returns-5
+    returns-6)

@@ -1,0 +1,323 @@
+-- The term reader and the block reader, which call each other, meet their contracts. The measure is twice the levels left, one more for
+-- the block; the loop's invariant is `Going`. Assumes nothing.
+use Rattle.reader.proofs.Lists.{within-list}
+use Rattle.reader.proofs.ByteLaws.{opening-clear}
+use Rattle.reader.proofs.TermLaws.{around-kind, leaf-kind, block-kind, head-of, filled-row, number-refused, operand-refused, leaf-returns, around-returns, block-returns, inner-ready, block-ready}
+use native.Mathlib.Omega.{arith}
+use mathlib.Core.Path.{_≡_, refl, sym, _∙_}
+use borrow.Author.Needs.{needs}
+use lib.ListN.{length}
+use Rattle.reader.proofs.LoopLaws.{Going, going-start, going-ready, going-refused, going-on, going-end}
+use Prim.Native.Nat.{ℕ, _<_, _+_, _*_}
+use borrow.Fn.Kinds.{In}
+use borrow.Fn.PlainCycle.{Measures, is, falls, and}
+use Rattle.reader.proofs.terms.read_block.Reads as read-block
+use Rattle.reader.proofs.terms.read_block.Kinds as read-block-kinds
+use Rattle.reader.proofs.terms.+read_block+read_term.Lts-read_block as read-block-lts
+use Rattle.reader.proofs.terms.read_term.Reads as read-term
+use Rattle.reader.proofs.terms.read_term.Kinds as read-term-kinds
+use Rattle.reader.proofs.terms.+read_block+read_term.Lts-read_term as read-term-lts
+use Rattle.reader.proofs.opening.opening_number.Reads as opening-number-reads
+use Rattle.reader.proofs.operands.read_operands.Reads as read-operands-reads
+use Rattle.reader.proofs.terms.boxes_with.Reads as boxes-with-reads
+use Rattle.reader.proofs.terms.+read_block+read_term.{statement}
+use Rattle.reader.proofs.terms.+read_block+read_term.Tie.{close}
+
+abbrev μ-read-block : Measures 2 read-block-kinds.ps ℕ
+μ-read-block κs a = a .1 .1 .1 .0 * 2 + 1
+
+abbrev μ-read-term : Measures 2 read-term-kinds.ps ℕ
+μ-read-term κs a = a .1 .1 .0 * 2
+
+abbrev read-block-at : ℕ → In 2 read-block-kinds.ps
+read-block-at t =
+    and 2 read-block-kinds.ps (is 2 read-block-kinds.ps μ-read-block t) read-block.Pre
+
+abbrev read-block-below : ℕ → In 2 read-block-kinds.ps
+read-block-below t =
+    and 2 read-block-kinds.ps (falls 2 read-block-kinds.ps _<_ μ-read-block t) read-block.Pre
+
+abbrev read-term-at : ℕ → In 2 read-term-kinds.ps
+read-term-at t = and 2 read-term-kinds.ps (is 2 read-term-kinds.ps μ-read-term t) read-term.Pre
+
+abbrev read-term-below : ℕ → In 2 read-term-kinds.ps
+read-term-below t =
+    and 2 read-term-kinds.ps (falls 2 read-term-kinds.ps _<_ μ-read-term t) read-term.Pre
+
+abbrev read-block-Inv-loop : read-block-lts.InvT-loop
+read-block-Inv-loop tail at count levels terms boxes rows₀ next₀ met₀ boxed₀ left₀ rows next met boxed left = Going levels count tail at terms boxes rows₀ rows next met boxed left × (length rows ≡ length rows₀)
+
+abbrev read-block-μ-loop : read-block-lts.MeasureT-loop
+read-block-μ-loop tail at count levels terms boxes rows₀ next₀ met₀ boxed₀ left₀ rows next met boxed left = left
+
+abbrev read-block-claims : ℕ → read-block-lts.Claims
+read-block-claims t = (read-term-below t, read-term.Post)
+
+abbrev read-term-claims : ℕ → read-term-lts.Claims
+read-term-claims t = (opening-number-reads.Asked, opening-number-reads.Learnt, read-operands-reads.Asked, read-operands-reads.Learnt, read-block-below t, read-block.Post, boxes-with-reads.Asked, boxes-with-reads.Learnt, read-term-below t, read-term.Post)
+
+read-block-loop-holds : (t : ℕ) → read-block-lts.Need-loop-holds (read-block-claims t) (read-block-at t) read-block.Post read-block-Inv-loop read-block-μ-loop
+read-block-loop-holds t c = (going-start _ _ _ _ _ _ _ (c .before .before .pre .1 .0) (c .before .before .pre .1 .1), refl)
+
+read-block-sub-used :
+    (t : ℕ) →
+    read-block-lts.Need-sub-used
+    (read-term-below t, read-term.Post)
+    (read-block-at t)
+    read-block.Post
+    read-block-Inv-loop
+    read-block-μ-loop
+read-block-sub-used t c = c .before .loop .inv .0 .from
+
+read-block-sub-read-term : (t : ℕ) → read-block-lts.Need-sub-read-term (read-block-claims t) (read-block-at t) read-block.Post read-block-Inv-loop read-block-μ-loop
+read-block-sub-read-term t c = c .before .loop .inv .0 .within
+
+read-block-part-read-term-start : (t : ℕ) → read-block-lts.Need-part-read-term-start (read-block-claims t) (read-block-at t) read-block.Post read-block-Inv-loop read-block-μ-loop
+read-block-part-read-term-start t c = c .before .loop .inv .0 .within
+
+read-block-part-read-term-end : (t : ℕ) → read-block-lts.Need-part-read-term-end (read-block-claims t) (read-block-at t) read-block.Post read-block-Inv-loop read-block-μ-loop
+read-block-part-read-term-end t c = search needs
+
+read-block-read-term-requires : (t : ℕ) → read-block-lts.Need-read-term-requires (read-block-claims t) (read-block-at t) read-block.Post read-block-Inv-loop read-block-μ-loop
+read-block-read-term-requires t c κs = (omega (arith, c .before .before .before .before .before .before .pre .0), going-ready _ _ _ _ _ _ _ _ _ _ _ _ (c .before .before .before .loop .inv .0))
+
+read-block-enum-known-got : (t : ℕ) → read-block-lts.Need-enum-known-got (read-block-claims t) (read-block-at t) read-block.Post read-block-Inv-loop read-block-μ-loop
+read-block-enum-known-got t c = search needs
+
+read-block-enum-told :
+    (t : ℕ) →
+    read-block-lts.Need-enum-told
+    (read-term-below t, read-term.Post)
+    (read-block-at t)
+    read-block.Post
+    read-block-Inv-loop
+    read-block-μ-loop
+read-block-enum-told t c = search needs
+
+read-block-same-length : (t : ℕ) → read-block-lts.Need-same-length (read-block-claims t) (read-block-at t) read-block.Post read-block-Inv-loop read-block-μ-loop
+read-block-same-length t c = c .before .before .before .before .read-term .kept .1 .1 .1 .1 .1 .1 .0 ∙ c .before .before .before .before .before .before .before .before .loop .inv .1
+
+read-block-returns :
+    (t : ℕ) →
+    read-block-lts.Need-returns
+    (read-term-below t, read-term.Post)
+    (read-block-at t)
+    read-block.Post
+    read-block-Inv-loop
+    read-block-μ-loop
+read-block-returns t c = going-refused _ _ _ _ _ _ _ _ _ _ _ _ (c .before .before .before .before .before .before .before .before .loop .inv .0) (c .before .before .before .before .before .before .before .loop-test .taken) _ _ (c .before .before .before .before .read-term .ensures) _ _ (c .enum-told .given .1)
+
+read-block-sub-left :
+    (t : ℕ) →
+    read-block-lts.Need-sub-left
+    (read-term-below t, read-term.Post)
+    (read-block-at t)
+    read-block.Post
+    read-block-Inv-loop
+    read-block-μ-loop
+read-block-sub-left t c = c .before .before .before .before .before .before .before .before .loop-test .taken
+
+read-block-loop-less :
+    (t : ℕ) →
+    read-block-lts.Need-loop-less
+    (read-term-below t, read-term.Post)
+    (read-block-at t)
+    read-block.Post
+    read-block-Inv-loop
+    read-block-μ-loop
+read-block-loop-less t c = omega (arith, c .before .before .before .before .before .before .before .before .loop-test .taken)
+
+read-block-loop-again : (t : ℕ) → read-block-lts.Need-loop-again (read-block-claims t) (read-block-at t) read-block.Post read-block-Inv-loop read-block-μ-loop
+read-block-loop-again t c = (going-on _ _ _ _ _ _ _ _ _ _ _ _ (c .before .before .before .before .before .before .before .before .before .loop .inv .0) (c .before .before .before .before .before .before .before .before .loop-test .taken) _ _ (c .before .before .before .before .before .read-term .ensures) _ _ _ (c .before .got .given .1) (c .before .before .before .before .before .read-term .kept .1 .1 .1 .1 .1 .1 .0 ∙ c .before .before .before .before .before .before .before .before .before .loop .inv .0 .ready .full), c .before .before .before .before .before .read-term .kept .1 .1 .1 .1 .1 .1 .0 ∙ c .before .before .before .before .before .before .before .before .before .loop .inv .1)
+
+read-block-same-length-2 : (t : ℕ) → read-block-lts.Need-same-length-2 (read-block-claims t) (read-block-at t) read-block.Post read-block-Inv-loop read-block-μ-loop
+read-block-same-length-2 t c = c .before .loop .inv .1
+
+read-block-returns-2 :
+    (t : ℕ) →
+    read-block-lts.Need-returns-2
+    (read-term-below t, read-term.Post)
+    (read-block-at t)
+    read-block.Post
+    read-block-Inv-loop
+    read-block-μ-loop
+read-block-returns-2 t c = going-end _ _ _ _ _ _ _ _ _ _ _ _ (c .before .loop .inv .0) (c .loop-test .left)
+
+read-term-opening-number-requires : (t : ℕ) → read-term-lts.Need-opening-number-requires (read-term-claims t) (read-term-at t) read-term.Post
+read-term-opening-number-requires t c κs = search needs
+
+read-term-returns : (t : ℕ) → read-term-lts.Need-returns (read-term-claims t) (read-term-at t) read-term.Post
+read-term-returns t c = number-refused _ _ _ _ _ _ _ _ (c .before .before .before .before .pre .1 .few) (c .before .opening-number .ensures) (c .if1 .taken)
+
+read-term-shared-slice-read-kind : (t : ℕ) → read-term-lts.Need-shared-slice-read-kind (read-term-claims t) (read-term-at t) read-term.Post
+read-term-shared-slice-read-kind t c = opening-clear _ _ _ (c .before .before .before .before .before .args .at) _ _ (c .before .before .before .before .before .pre .1 .few) (sym (c .before .before .opening-number .ensures) ∙ c .before .if1 .left) .bytes
+
+read-term-read-operands-requires : (t : ℕ) → read-term-lts.Need-read-operands-requires (read-term-claims t) (read-term-at t) read-term.Post
+read-term-read-operands-requires t c κs =
+    let k = opening-clear _ _ _ (c .before .before .before .before .before .before .args .at) _ _ (c .before .before .before .before .before .before .pre .1 .few) (sym (c .before .before .before .opening-number .ensures) ∙ c .before .before .if1 .left) in
+    (c .before .before .before .before .before .before .pre .1 .room, omega (arith, k .room, c .before .before .before .before .before .before .pre .1 .full), k .is-kind)
+
+read-term-enum-known-fields : (t : ℕ) → read-term-lts.Need-enum-known-fields (read-term-claims t) (read-term-at t) read-term.Post
+read-term-enum-known-fields t c = search needs
+
+read-term-enum-known-fields-2 : (t : ℕ) → read-term-lts.Need-enum-known-fields-2 (read-term-claims t) (read-term-at t) read-term.Post
+read-term-enum-known-fields-2 t c = search needs
+
+read-term-add-next : (t : ℕ) → read-term-lts.Need-add-next (read-term-claims t) (read-term-at t) read-term.Post
+read-term-add-next t c =
+    let k = opening-clear _ _ _ (c .before .before .before .before .before .before .before .before .before .before .before .before .args .at) _ _ (c .before .before .before .before .before .before .before .before .before .before .before .before .pre .1 .few) (sym (c .before .before .before .before .before .before .before .before .before .opening-number .ensures) ∙ c .before .before .before .before .before .before .before .before .if1 .left) in
+    let h = head-of _ _ _ (c .before .before .before .before .before .before .before .before .before .before .before .before .args .at) _ _ k _ (sym (c .before .before .before .before .before .read-operands .ensures .0) ∙ c .before .fields2 .given .1) in
+    omega (arith, h .within, c .before .before .before .before .before .before .before .before .before .before .before .before .pre .1 .room)
+
+read-term-sub-deeper : (t : ℕ) → read-term-lts.Need-sub-deeper (read-term-claims t) (read-term-at t) read-term.Post
+read-term-sub-deeper t c = opening-clear _ _ _ (c .before .before .before .before .before .before .before .before .before .before .before .before .args .at) _ _ (c .before .before .before .before .before .before .before .before .before .before .before .before .pre .1 .few) (sym (c .before .before .before .before .before .before .before .before .before .opening-number .ensures) ∙ c .before .before .before .before .before .before .before .before .if1 .left) .deep
+
+read-term-add-met : (t : ℕ) → read-term-lts.Need-add-met (read-term-claims t) (read-term-at t) read-term.Post
+read-term-add-met t c = omega (arith, opening-clear _ _ _ (c .before .before .before .before .before .before .before .before .before .before .before .before .args .at) _ _ (c .before .before .before .before .before .before .before .before .before .before .before .before .pre .1 .few) (sym (c .before .before .before .before .before .before .before .before .before .opening-number .ensures) ∙ c .before .before .before .before .before .before .before .before .if1 .left) .room)
+
+read-term-shared-slice-read-count : (t : ℕ) → read-term-lts.Need-shared-slice-read-count (read-term-claims t) (read-term-at t) read-term.Post
+read-term-shared-slice-read-count t c =
+    let k = opening-clear _ _ _ (c .before .before .before .before .before .before .before .before .before .before .before .before .before .before .args .at) _ _ (c .before .before .before .before .before .before .before .before .before .before .before .before .before .before .pre .1 .few) (sym (c .before .before .before .before .before .before .before .before .before .before .before .opening-number .ensures) ∙ c .before .before .before .before .before .before .before .before .before .before .if1 .left) in
+    let h = head-of _ _ _ (c .before .before .before .before .before .before .before .before .before .before .before .before .before .before .args .at) _ _ k _ (sym (c .before .before .before .before .before .before .before .read-operands .ensures .0) ∙ c .before .before .before .fields2 .given .1) in
+    within-list (c .before .before .before .before .before .before .before .before .before .before .before .before .before .before .args .tail .now) 1 (h .several (block-kind _ (h .byte ∙ c .before .match2 .keys1)))
+
+read-term-cast-count : (t : ℕ) → read-term-lts.Need-cast-count (read-term-claims t) (read-term-at t) read-term.Post
+read-term-cast-count t c = omega (arith, c .shared-slice-known3 .given 1)
+
+read-term-sub-read-block : (t : ℕ) → read-term-lts.Need-sub-read-block (read-term-claims t) (read-term-at t) read-term.Post
+read-term-sub-read-block t c =
+    let k = opening-clear _ _ _ (c .before .before .before .before .before .before .before .before .before .before .before .before .before .before .args .at) _ _ (c .before .before .before .before .before .before .before .before .before .before .before .before .before .before .pre .1 .few) (sym (c .before .before .before .before .before .before .before .before .before .before .before .opening-number .ensures) ∙ c .before .before .before .before .before .before .before .before .before .before .if1 .left) in
+    head-of _ _ _ (c .before .before .before .before .before .before .before .before .before .before .before .before .before .before .args .at) _ _ k _ (sym (c .before .before .before .before .before .before .before .read-operands .ensures .0) ∙ c .before .before .before .fields2 .given .1) .within
+
+read-term-part-read-block-start : (t : ℕ) → read-term-lts.Need-part-read-block-start (read-term-claims t) (read-term-at t) read-term.Post
+read-term-part-read-block-start t c =
+    let k = opening-clear _ _ _ (c .before .before .before .before .before .before .before .before .before .before .before .before .before .before .args .at) _ _ (c .before .before .before .before .before .before .before .before .before .before .before .before .before .before .pre .1 .few) (sym (c .before .before .before .before .before .before .before .before .before .before .before .opening-number .ensures) ∙ c .before .before .before .before .before .before .before .before .before .before .if1 .left) in
+    head-of _ _ _ (c .before .before .before .before .before .before .before .before .before .before .before .before .before .before .args .at) _ _ k _ (sym (c .before .before .before .before .before .before .before .read-operands .ensures .0) ∙ c .before .before .before .fields2 .given .1) .within
+
+read-term-part-read-block-end : (t : ℕ) → read-term-lts.Need-part-read-block-end (read-term-claims t) (read-term-at t) read-term.Post
+read-term-part-read-block-end t c = search needs
+
+read-term-read-block-requires : (t : ℕ) → read-term-lts.Need-read-block-requires (read-term-claims t) (read-term-at t) read-term.Post
+read-term-read-block-requires t c κs =
+    let k = opening-clear _ _ _ (c .before .before .before .before .before .before .before .before .before .before .before .before .before .before .before .before .args .at) _ _ (c .before .before .before .before .before .before .before .before .before .before .before .before .before .before .before .before .pre .1 .few) (sym (c .before .before .before .before .before .before .before .before .before .before .before .before .before .opening-number .ensures) ∙ c .before .before .before .before .before .before .before .before .before .before .before .before .if1 .left) in
+    let h = head-of _ _ _ (c .before .before .before .before .before .before .before .before .before .before .before .before .before .before .before .before .args .at) _ _ k _ (sym (c .before .before .before .before .before .before .before .before .before .read-operands .ensures .0) ∙ c .before .before .before .before .before .fields2 .given .1) in
+    (omega (arith, c .before .before .before .before .before .before .before .before .before .before .before .before .before .before .before .before .pre .0, h .deep), (block-ready _ _ _ _ _ _ _ h _ _ (filled-row _ _ _ _ _ _ _ (c .before .before .before .before .before .before .before .before .before .read-operands .ensures) (c .before .before .before .before .before .fields2 .given .1)) (c .before .before .before .before .before .before .before .before .before .before .before .before .before .before .before .before .pre .1) (c .before .before .before .before .before .before .before .before .before .read-operands .kept .1 .1 .1 .1 .0 ∙ c .before .before .before .before .before .before .before .before .before .before .before .before .before .before .before .before .pre .1 .full), h .several (block-kind _ (h .byte ∙ c .before .before .before .match2 .keys1))))
+
+read-term-boxes-with-requires : (t : ℕ) → read-term-lts.Need-boxes-with-requires (read-term-claims t) (read-term-at t) read-term.Post
+read-term-boxes-with-requires t c κs = c .before .before .before .before .before .before .before .before .before .before .before .before .before .before .before .pre .1 .few
+
+read-term-sub-read-term : (t : ℕ) → read-term-lts.Need-sub-read-term (read-term-claims t) (read-term-at t) read-term.Post
+read-term-sub-read-term t c =
+    let k = opening-clear _ _ _ (c .before .before .before .before .before .before .before .before .before .before .before .before .before .before .before .before .args .at) _ _ (c .before .before .before .before .before .before .before .before .before .before .before .before .before .before .before .before .pre .1 .few) (sym (c .before .before .before .before .before .before .before .before .before .before .before .before .before .opening-number .ensures) ∙ c .before .before .before .before .before .before .before .before .before .before .before .before .if1 .left) in
+    head-of _ _ _ (c .before .before .before .before .before .before .before .before .before .before .before .before .before .before .before .before .args .at) _ _ k _ (sym (c .before .before .before .before .before .before .before .before .before .read-operands .ensures .0) ∙ c .before .before .before .before .before .fields2 .given .1) .within
+
+read-term-part-read-term-start : (t : ℕ) → read-term-lts.Need-part-read-term-start (read-term-claims t) (read-term-at t) read-term.Post
+read-term-part-read-term-start t c =
+    let k = opening-clear _ _ _ (c .before .before .before .before .before .before .before .before .before .before .before .before .before .before .before .before .args .at) _ _ (c .before .before .before .before .before .before .before .before .before .before .before .before .before .before .before .before .pre .1 .few) (sym (c .before .before .before .before .before .before .before .before .before .before .before .before .before .opening-number .ensures) ∙ c .before .before .before .before .before .before .before .before .before .before .before .before .if1 .left) in
+    head-of _ _ _ (c .before .before .before .before .before .before .before .before .before .before .before .before .before .before .before .before .args .at) _ _ k _ (sym (c .before .before .before .before .before .before .before .before .before .read-operands .ensures .0) ∙ c .before .before .before .before .before .fields2 .given .1) .within
+
+read-term-part-read-term-end : (t : ℕ) → read-term-lts.Need-part-read-term-end (read-term-claims t) (read-term-at t) read-term.Post
+read-term-part-read-term-end t c = search needs
+
+read-term-read-term-requires : (t : ℕ) → read-term-lts.Need-read-term-requires (read-term-claims t) (read-term-at t) read-term.Post
+read-term-read-term-requires t c κs =
+    let k = opening-clear _ _ _ (c .before .before .before .before .before .before .before .before .before .before .before .before .before .before .before .before .before .before .args .at) _ _ (c .before .before .before .before .before .before .before .before .before .before .before .before .before .before .before .before .before .before .pre .1 .few) (sym (c .before .before .before .before .before .before .before .before .before .before .before .before .before .before .before .opening-number .ensures) ∙ c .before .before .before .before .before .before .before .before .before .before .before .before .before .before .if1 .left) in
+    let h = head-of _ _ _ (c .before .before .before .before .before .before .before .before .before .before .before .before .before .before .before .before .before .before .args .at) _ _ k _ (sym (c .before .before .before .before .before .before .before .before .before .before .before .read-operands .ensures .0) ∙ c .before .before .before .before .before .before .before .fields2 .given .1) in
+    (omega (arith, c .before .before .before .before .before .before .before .before .before .before .before .before .before .before .before .before .before .before .pre .0, h .deep), rw (c .before .before .boxes-with .ensures) (inner-ready _ _ _ _ _ _ _ h _ _ (filled-row _ _ _ _ _ _ _ (c .before .before .before .before .before .before .before .before .before .before .before .read-operands .ensures) (c .before .before .before .before .before .before .before .fields2 .given .1)) (c .before .before .before .before .before .before .before .before .before .before .before .before .before .before .before .before .before .before .pre .1) (c .before .before .before .before .before .before .before .before .before .before .before .read-operands .kept .1 .1 .1 .1 .0 ∙ c .before .before .before .before .before .before .before .before .before .before .before .before .before .before .before .before .before .before .pre .1 .full)))
+
+read-term-same-length : (t : ℕ) → read-term-lts.Need-same-length (read-term-claims t) (read-term-at t) read-term.Post
+read-term-same-length t c = c .before .before .before .before .before .read-operands .kept .1 .1 .1 .1 .0
+
+read-term-returns-2 : (t : ℕ) → read-term-lts.Need-returns-2 (read-term-claims t) (read-term-at t) read-term.Post
+read-term-returns-2 t c =
+    let k = opening-clear _ _ _ (c .before .before .before .before .before .before .before .before .before .before .before .before .args .at) _ _ (c .before .before .before .before .before .before .before .before .before .before .before .before .pre .1 .few) (sym (c .before .before .before .before .before .before .before .before .before .opening-number .ensures) ∙ c .before .before .before .before .before .before .before .before .if1 .left) in
+    operand-refused _ _ _ (c .before .before .before .before .before .before .before .before .before .before .before .before .args .at) _ _ _ _ _ _ k (sym (c .before .before .before .before .before .read-operands .ensures .0) ∙ c .before .fields .given .1)
+
+read-term-same-length-2 : (t : ℕ) → read-term-lts.Need-same-length-2 (read-term-claims t) (read-term-at t) read-term.Post
+read-term-same-length-2 t c = c .before .before .read-block .kept .1 .1 .1 .1 .1 .1 .0 ∙ c .before .before .before .before .before .before .before .before .before .before .before .before .read-operands .kept .1 .1 .1 .1 .0
+
+read-term-returns-3 : (t : ℕ) → read-term-lts.Need-returns-3 (read-term-claims t) (read-term-at t) read-term.Post
+read-term-returns-3 t c =
+    let k = opening-clear _ _ _ (c .before .before .before .before .before .before .before .before .before .before .before .before .before .before .before .before .before .before .before .args .at) _ _ (c .before .before .before .before .before .before .before .before .before .before .before .before .before .before .before .before .before .before .before .pre .1 .few) (sym (c .before .before .before .before .before .before .before .before .before .before .before .before .before .before .before .before .opening-number .ensures) ∙ c .before .before .before .before .before .before .before .before .before .before .before .before .before .before .before .if1 .left) in
+    let h = head-of _ _ _ (c .before .before .before .before .before .before .before .before .before .before .before .before .before .before .before .before .before .before .before .args .at) _ _ k _ (sym (c .before .before .before .before .before .before .before .before .before .before .before .before .read-operands .ensures .0) ∙ c .before .before .before .before .before .before .before .before .fields2 .given .1) in
+    block-returns _ _ _ _ _ _ _ h _ _ (filled-row _ _ _ _ _ _ _ (c .before .before .before .before .before .before .before .before .before .before .before .before .read-operands .ensures) (c .before .before .before .before .before .before .before .before .fields2 .given .1)) (block-kind _ (h .byte ∙ c .before .before .before .before .before .before .match2 .keys1)) _ _ (c .before .before .read-block .ensures)
+
+read-term-same-length-3 : (t : ℕ) → read-term-lts.Need-same-length-3 (read-term-claims t) (read-term-at t) read-term.Post
+read-term-same-length-3 t c = c .before .before .read-term .kept .1 .1 .1 .1 .1 .1 .0 ∙ c .before .before .before .before .before .before .before .before .before .before .before .before .before .before .read-operands .kept .1 .1 .1 .1 .0
+
+read-term-returns-4 : (t : ℕ) → read-term-lts.Need-returns-4 (read-term-claims t) (read-term-at t) read-term.Post
+read-term-returns-4 t c =
+    let k = opening-clear _ _ _ (c .before .before .before .before .before .before .before .before .before .before .before .before .before .before .before .before .before .before .before .before .before .args .at) _ _ (c .before .before .before .before .before .before .before .before .before .before .before .before .before .before .before .before .before .before .before .before .before .pre .1 .few) (sym (c .before .before .before .before .before .before .before .before .before .before .before .before .before .before .before .before .before .before .opening-number .ensures) ∙ c .before .before .before .before .before .before .before .before .before .before .before .before .before .before .before .before .before .if1 .left) in
+    let h = head-of _ _ _ (c .before .before .before .before .before .before .before .before .before .before .before .before .before .before .before .before .before .before .before .before .before .args .at) _ _ k _ (sym (c .before .before .before .before .before .before .before .before .before .before .before .before .before .before .read-operands .ensures .0) ∙ c .before .before .before .before .before .before .before .before .before .before .fields2 .given .1) in
+    around-returns _ _ _ _ _ _ _ h _ _ (filled-row _ _ _ _ _ _ _ (c .before .before .before .before .before .before .before .before .before .before .before .before .before .before .read-operands .ensures) (c .before .before .before .before .before .before .before .before .before .before .fields2 .given .1)) (around-kind _ (omega (arith, h .byte, c .before .before .before .before .before .before .before .if2 .left)) (omega (arith, h .byte, c .before .before .before .before .before .before .if3 .taken))) _ _ (rw (c .before .before .before .before .before .boxes-with .ensures) at (c .before .before .read-term .ensures))
+
+read-term-same-length-4 : (t : ℕ) → read-term-lts.Need-same-length-4 (read-term-claims t) (read-term-at t) read-term.Post
+read-term-same-length-4 t c = c .before .before .before .before .before .before .before .read-operands .kept .1 .1 .1 .1 .0
+
+read-term-returns-5 : (t : ℕ) → read-term-lts.Need-returns-5 (read-term-claims t) (read-term-at t) read-term.Post
+read-term-returns-5 t c =
+    let k = opening-clear _ _ _ (c .before .before .before .before .before .before .before .before .before .before .before .before .before .before .args .at) _ _ (c .before .before .before .before .before .before .before .before .before .before .before .before .before .before .pre .1 .few) (sym (c .before .before .before .before .before .before .before .before .before .before .before .opening-number .ensures) ∙ c .before .before .before .before .before .before .before .before .before .before .if1 .left) in
+    let h = head-of _ _ _ (c .before .before .before .before .before .before .before .before .before .before .before .before .before .before .args .at) _ _ k _ (sym (c .before .before .before .before .before .before .before .read-operands .ensures .0) ∙ c .before .before .before .fields2 .given .1) in
+    leaf-returns _ _ _ _ _ _ _ h _ _ (filled-row _ _ _ _ _ _ _ (c .before .before .before .before .before .before .before .read-operands .ensures) (c .before .before .before .fields2 .given .1)) (leaf-kind _ (λ z. absurd (omega (arith, z, h .byte, c .if2 .taken))) (λ z. omega (arith, z, h .byte, c .if2 .taken)))
+
+read-term-same-length-5 : (t : ℕ) → read-term-lts.Need-same-length-5 (read-term-claims t) (read-term-at t) read-term.Post
+read-term-same-length-5 t c = c .before .before .before .before .before .before .before .before .read-operands .kept .1 .1 .1 .1 .0
+
+read-term-returns-6 : (t : ℕ) → read-term-lts.Need-returns-6 (read-term-claims t) (read-term-at t) read-term.Post
+read-term-returns-6 t c =
+    let k = opening-clear _ _ _ (c .before .before .before .before .before .before .before .before .before .before .before .before .before .before .before .args .at) _ _ (c .before .before .before .before .before .before .before .before .before .before .before .before .before .before .before .pre .1 .few) (sym (c .before .before .before .before .before .before .before .before .before .before .before .before .opening-number .ensures) ∙ c .before .before .before .before .before .before .before .before .before .before .before .if1 .left) in
+    let h = head-of _ _ _ (c .before .before .before .before .before .before .before .before .before .before .before .before .before .before .before .args .at) _ _ k _ (sym (c .before .before .before .before .before .before .before .before .read-operands .ensures .0) ∙ c .before .before .before .before .fields2 .given .1) in
+    leaf-returns _ _ _ _ _ _ _ h _ _ (filled-row _ _ _ _ _ _ _ (c .before .before .before .before .before .before .before .before .read-operands .ensures) (c .before .before .before .before .fields2 .given .1)) (leaf-kind _ (λ z. omega (arith, h .byte, c .if3 .left)) (λ z. c .before .before .match2 .rest .1 (sym (h .byte) ∙ z)))
+
+pub +read-block+read-term-spec : {M : Type 1} → statement M
++read-block+read-term-spec = close μ-read-block μ-read-term (λ t. read-block-lts.spec (read-block-claims t) (read-block-at t)
+    read-block.Post
+    read-block-Inv-loop
+    read-block-μ-loop
+    (read-block-loop-holds t)
+    (read-block-sub-used t)
+    (read-block-sub-read-term t)
+    (read-block-part-read-term-start t)
+    (read-block-part-read-term-end t)
+    (read-block-read-term-requires t)
+    (read-block-enum-known-got t)
+    (read-block-enum-told t)
+    (read-block-same-length t)
+    (read-block-returns t)
+    (read-block-sub-left t)
+    (read-block-loop-less t)
+    (read-block-loop-again t)
+    (read-block-same-length-2 t)
+    (read-block-returns-2 t))
+    λ t. read-term-lts.spec (read-term-claims t) (read-term-at t)
+    read-term.Post
+    (read-term-opening-number-requires t)
+    (read-term-returns t)
+    (read-term-shared-slice-read-kind t)
+    (read-term-read-operands-requires t)
+    (read-term-enum-known-fields t)
+    (read-term-enum-known-fields-2 t)
+    (read-term-add-next t)
+    (read-term-sub-deeper t)
+    (read-term-add-met t)
+    (read-term-shared-slice-read-count t)
+    (read-term-cast-count t)
+    (read-term-sub-read-block t)
+    (read-term-part-read-block-start t)
+    (read-term-part-read-block-end t)
+    (read-term-read-block-requires t)
+    (read-term-boxes-with-requires t)
+    (read-term-sub-read-term t)
+    (read-term-part-read-term-start t)
+    (read-term-part-read-term-end t)
+    (read-term-read-term-requires t)
+    (read-term-same-length t)
+    (read-term-returns-2 t)
+    (read-term-same-length-2 t)
+    (read-term-returns-3 t)
+    (read-term-same-length-3 t)
+    (read-term-returns-4 t)
+    (read-term-same-length-4 t)
+    (read-term-returns-5 t)
+    (read-term-same-length-5 t)
+    (read-term-returns-6 t)

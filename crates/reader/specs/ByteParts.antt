@@ -1,0 +1,119 @@
+-- What the parts of the byte reader's code answer, and the rows that they fill.
+use Prim.Native.Nat.{ℕ, zero, suc, _+_, _*_, _-_, _≤_}
+use mathlib.Core.Path.{_≡_}
+use mathlib.Core.Bool.{Bool, false, not, _&&_}
+use mathlib.Core.List.{List, [], _∷_, _++_}
+use lib.ListN.{length, getD}
+use lib.Seq.{sets}
+use lib.Dec.{leb, ltb, eqb}
+use Rattle.reader.specs.Result.{Result, ok, err, Refusal, pick}
+use Rattle.reader.specs.Limits.{base}
+use Rattle.reader.specs.Script.{Term, Terms}
+use Rattle.reader.specs.Kinds.{Field, word, until}
+use Rattle.reader.specs.Layout.{inBytes, zeros}
+use Rattle.reader.specs.Reader.{Cursor, term, several, start, leading, script, _>>_}
+use Rattle.reader.specs.Within.{Under}
+use Rattle.reader.specs.Parts.{cursor}
+use Rattle.reader.specs.declared.operands.Fields.{Fields}
+use Rattle.reader.specs.declared.operands.Fields.the-variants as fields
+use Rattle.reader.specs.declared.terms.Got.{Got}
+use Rattle.reader.specs.declared.terms.Got.the-variants as got
+
+-- The number of the refusal at the kind byte that begins t; 0 where there is none.
+unfoldable pub openingNumber : ℕ → Bool → List ℕ → ℕ → ℕ → ℕ
+openingNumber levels outer t terms boxes =
+    pick (eqb (length t) 0) 12
+    (pick (eqb (getD t 0 0) 0) 13
+    (pick (ltb 11 (getD t 0 0)) 13
+    (pick (outer && not (eqb (getD t 0 0) 11)) 18
+    (pick (leb 512 terms) 16
+    (pick (eqb levels 0) 15
+    (pick (eqb (getD t 0 0) 7 && leb 64 boxes) 17
+    0))))))
+
+-- What is wrong with the byte at j as a number from low to below high; 0 where nothing is.
+unfoldable pub fieldNumber : List ℕ → ℕ → ℕ → ℕ → ℕ
+fieldNumber t j low high = pick (leb (length t) j) 12 (pick (leb low (getD t j 0) && ltb (getD t j 0) high) 0 14)
+
+abbrev pub wordAt : List ℕ → ℕ → ℕ
+wordAt t j = getD t j 0 * 16777216 + getD t (j + 1) 0 * 65536 + getD t (j + 2) 0 * 256 + getD t (j + 3) 0
+
+unfoldable pub onNumber : ℕ → ℕ → Fields → Fields
+onNumber zero p go = go
+onNumber (suc n) p go = fields.Refused (suc n) p
+
+-- Operands from j on, of the term whose kind byte stands at offset at and begins t: where they end, or the refusal.
+unfoldable pub judgedFields : List Field → List ℕ → ℕ → ℕ → Fields
+judgedFields [] t at j = fields.Fine j
+judgedFields (word ∷ fs) t at j = pick (ltb (length t) (j + 4)) (fields.Refused 12 (at + length t)) (judgedFields fs t at (j + 4))
+judgedFields (until a b ∷ fs) t at j = onNumber (fieldNumber t j a b) (at + j) (judgedFields fs t at (j + 1))
+
+unfoldable pub valuesAt : List Field → List ℕ → ℕ → List ℕ
+valuesAt [] t j = []
+valuesAt (word ∷ fs) t j = wordAt t j ∷ valuesAt fs t (j + 4)
+valuesAt (until a b ∷ fs) t j = getD t j 0 ∷ valuesAt fs t (j + 1)
+
+abbrev pub wordField : List Field
+wordField = word ∷ []
+
+abbrev pub oneField : ℕ → ℕ → List Field
+oneField low high = until low high ∷ []
+
+abbrev pub twoPlaceFields : List Field
+twoPlaceFields = until 0 64 ∷ until 0 9 ∷ until 0 64 ∷ until 0 9 ∷ []
+
+-- A term's row in place; of a refusal nothing is said.
+abbrev pub RowAfter : Fields → ℕ → List ℕ → List ℕ → List ℕ → Type 0
+RowAfter (fields.Fine used) n row before after = after ≡ sets before (n * 5) row
+RowAfter (fields.Refused m p) n row before after = Unit {0}
+
+abbrev pub rowWith : ℕ → List ℕ → List ℕ
+rowWith kind vs = kind ∷ vs ++ zeros (4 - length vs)
+
+abbrev pub Filled : List Field → ℕ → List ℕ → ℕ → ℕ → List ℕ → List ℕ → Fields → Type 0
+Filled fs kind t at n before after r = (r ≡ judgedFields fs t at 1) × RowAfter r n (rowWith kind (valuesAt fs t 1)) before after
+
+-- ---- terms and blocks in bytes
+
+-- What the term reader asks: the bytes from offset at on, the counts so far, and the lent rows.
+pub record Ready (tail : List ℕ) (at boxes : ℕ) (rows : List ℕ) : Type 0 where
+  pub bytes : Under 256 tail
+  pub room : at + length tail ≤ 4096
+  pub few : boxes ≤ 64
+  pub full : length rows ≡ 2560
+
+unfoldable pub gotOf : {A : Type 0} → Result Refusal (A × Cursor) → Got
+gotOf (ok o) = got.Fine (o .1 .at) (o .1 .terms) (o .1 .boxes)
+gotOf (err e) = got.Refused (e .0) (e .1)
+
+-- The rows of what was read, from term n on; of a refusal nothing is said.
+unfoldable pub RowsAfter : {A : Type 0} → (A → List ℕ) → Result Refusal (A × Cursor) → ℕ → List ℕ → List ℕ → Type 0
+RowsAfter laid (ok o) n before after = after ≡ sets before (n * 5) (laid (o .0))
+RowsAfter laid (err e) n before after = Unit {0}
+
+-- A reader's answer, and the rows that it leaves.
+abbrev pub Reading : {A : Type 0} → (A → List ℕ) → Result Refusal (A × Cursor) → ℕ → List ℕ → List ℕ → Got → Type 0
+Reading laid o n before after r = (r ≡ gotOf o) × RowsAfter laid o n before after
+
+abbrev pub readTerm : ℕ → Bool → List ℕ → ℕ → ℕ → ℕ → Result Refusal (Term × Cursor)
+readTerm levels outer tail at terms boxes = term base 1 inBytes levels outer (cursor tail at terms boxes)
+
+abbrev pub readBlock : ℕ → ℕ → List ℕ → ℕ → ℕ → ℕ → Result Refusal (Terms × Cursor)
+readBlock levels count tail at terms boxes = several (term base 1 inBytes levels false) (count - 1) (cursor tail at terms boxes)
+
+-- ---- a whole script
+
+-- What is wrong with the byte at j as the mark's; 0 where nothing is.
+unfoldable pub markNumber : List ℕ → ℕ → ℕ → ℕ
+markNumber t j byte = pick (leb (length t) j) 12 (pick (eqb (getD t j 0) byte) 0 10)
+
+unfoldable pub leadJudged : List ℕ → Fields
+leadJudged t =
+    onNumber (markNumber t 0 0x52) 0
+    (onNumber (markNumber t 1 0x43) 1
+    (onNumber (markNumber t 2 0x53) 2
+    (pick (ltb (length t) 5) (fields.Refused 12 (length t))
+    (pick (eqb (getD t 3 0 * 256 + getD t 4 0) 1) (fields.Fine 5) (fields.Refused 11 3)))))
+
+abbrev pub readScript : List ℕ → Result Refusal (Term × Cursor)
+readScript bytes = (leading >> script base 1 inBytes) (start bytes)

@@ -1,0 +1,14 @@
+-- The script form: trees, their bytes and rows, reading, and what the public functions answer.
+pub mod Result
+pub mod Limits
+pub mod Script
+pub mod Kinds
+pub mod Layout
+pub mod Reader
+pub mod Measures
+pub mod Within
+pub mod Answers
+pub mod Parts
+pub mod ByteParts
+pub mod RowParts
+pub mod OutputParts

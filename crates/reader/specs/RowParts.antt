@@ -1,0 +1,76 @@
+-- What the parts of the row judge's code answer. No rule of 01 is stated here.
+use Prim.Native.Nat.{ℕ, zero, suc, _+_, _*_, _-_, _≤_}
+use mathlib.Core.Path.{_≡_}
+use mathlib.Core.Bool.{Bool, true, false, not, _&&_}
+use mathlib.Core.List.{List, [], _∷_}
+use lib.ListN.{length, getD, drop}
+use lib.Dec.{leb, ltb, eqb}
+use Rattle.reader.specs.Result.{Result, ok, err, Refusal, pick}
+use Rattle.reader.specs.Limits.{base}
+use Rattle.reader.specs.Script.{Term, Terms}
+use Rattle.reader.specs.Kinds.{Field, word, until}
+use Rattle.reader.specs.Layout.{inRows}
+use Rattle.reader.specs.Reader.{Cursor, term, several}
+use Rattle.reader.specs.Parts.{cursor, fieldsOf}
+use Rattle.reader.specs.declared.rows.Span.{Span}
+use Rattle.reader.specs.declared.rows.Span.the-variants.{Fine, Refused}
+
+-- Field k of row i.
+abbrev pub fieldAt : List ℕ → ℕ → ℕ → ℕ
+fieldAt rows i k = getD rows (5 * i + k) 0
+
+-- The fields of row i after its kind.
+abbrev pub fieldsAt : List ℕ → ℕ → List ℕ
+fieldsAt rows i = fieldAt rows i 1 ∷ fieldAt rows i 2 ∷ fieldAt rows i 3 ∷ fieldAt rows i 4 ∷ []
+
+unfoldable pub fieldFits : Field → ℕ → Bool
+fieldFits word v = true
+fieldFits (until low high) v = leb low v && ltb v high
+
+-- A row's fields after the kind, against its operands: those left over are 0.
+unfoldable pub fieldsFit : List Field → List ℕ → Bool
+fieldsFit [] [] = true
+fieldsFit [] (v ∷ vs) = eqb v 0 && fieldsFit [] vs
+fieldsFit (f ∷ fs) [] = false
+fieldsFit (f ∷ fs) (v ∷ vs) = fieldFits f v && fieldsFit fs vs
+
+-- The number of the refusal at row i; 0 where there is none.
+unfoldable pub rowNumber : ℕ → Bool → List ℕ → ℕ → ℕ → ℕ
+rowNumber levels outer rows i boxes =
+    let kind = fieldAt rows i 0 in
+    pick (leb 512 i) 12
+    (pick (eqb kind 0) 12
+    (pick (ltb 11 kind) 13
+    (pick (outer && not (eqb kind 11)) 18
+    (pick (eqb levels 0) 15
+    (pick (eqb kind 7 && leb 64 boxes) 17
+    (pick (fieldsFit (fieldsOf kind) (fieldsAt rows i)) 0
+    14))))))
+
+-- What the row judge asks of the rows, and of the boxes met so far.
+pub record RowsReady (rows : List ℕ) (boxes : ℕ) : Type 0 where
+  pub full : length rows ≡ 2560
+  pub few : boxes ≤ 64
+
+-- The reader at row i.
+abbrev pub rowCursor : List ℕ → ℕ → ℕ → Cursor
+rowCursor rows i boxes = cursor (drop (5 * i) rows) (5 * i) i boxes
+
+abbrev pub termRows : ℕ → Bool → List ℕ → ℕ → ℕ → Result Refusal (Term × Cursor)
+termRows levels outer rows i boxes = term base 1 inRows levels outer (rowCursor rows i boxes)
+
+abbrev pub blockRows : ℕ → ℕ → List ℕ → ℕ → ℕ → Result Refusal (Terms × Cursor)
+blockRows levels count rows i boxes = several (term base 1 inRows levels false) (count - 1) (rowCursor rows i boxes)
+
+unfoldable pub spanOf : {A : Type 0} → Result Refusal (A × Cursor) → Span
+spanOf (ok o) = Fine (o .1 .terms) (o .1 .boxes)
+spanOf (err e) = Refused (e .0) (e .1)
+
+unfoldable pub sum : List ℕ → ℕ
+sum [] = 0
+sum (x ∷ xs) = x + sum xs
+
+-- Where the first number that is not 0 stands, counted from k.
+unfoldable pub firstUsed : ℕ → List ℕ → ℕ
+firstUsed k [] = k
+firstUsed k (x ∷ xs) = pick (eqb x 0) (firstUsed (suc k) xs) k

@@ -1,0 +1,52 @@
+-- Scripts within the limits.
+use Prim.Native.Nat.{ℕ, suc, _+_, _≤_, _<_}
+use mathlib.Core.Path.{_≡_}
+use mathlib.Core.List.{List, [], _∷_, _++_}
+use Rattle.reader.specs.Limits.{Limits}
+use Rattle.reader.specs.Script.{Term, Terms, number, reading, copy, move, borrowShared, borrowExclusive, box, declare, assign, below, block, last, more}
+use Rattle.reader.specs.Kinds.{kNumber, kReading, kCopy, kMove, kShared, kExclusive, kBox, kLet, kAssign, kBelow, kBlock, Field, word, until, fields}
+use Rattle.reader.specs.Layout.{placeOf, others}
+use Rattle.reader.specs.Measures.{size, boxesIn, depth, kindIn}
+
+-- What an operand may be.
+abbrev pub InRange : Field → ℕ → Type 0
+InRange word v = v < 4294967296
+InRange (until a b) v = (a ≤ v) × (v < b)
+
+abbrev pub Ranges : List Field → List ℕ → Type 0
+Ranges [] [] = Unit {0}
+Ranges [] (v ∷ vs) = ⊥
+Ranges (f ∷ fs) [] = ⊥
+Ranges (f ∷ fs) (v ∷ vs) = InRange f v × Ranges fs vs
+
+unfoldable mutual
+  -- Numbered from i on in byte order, every operand in its range.
+  pub Formed : Limits → ℕ → Term → Type 0
+  Formed l i (number j n) = (j ≡ i) × Ranges (fields l kNumber) (n ∷ [])
+  Formed l i (reading j n) = (j ≡ i) × Ranges (fields l kReading) (n ∷ [])
+  Formed l i (copy j p) = (j ≡ i) × Ranges (fields l kCopy) (placeOf p)
+  Formed l i (move j p) = (j ≡ i) × Ranges (fields l kMove) (placeOf p)
+  Formed l i (borrowShared j p) = (j ≡ i) × Ranges (fields l kShared) (placeOf p)
+  Formed l i (borrowExclusive j p) = (j ≡ i) × Ranges (fields l kExclusive) (placeOf p)
+  Formed l i (box j t) = (j ≡ i) × Ranges (fields l kBox) [] × Formed l (suc i) t
+  Formed l i (declare j x t) = (j ≡ i) × Ranges (fields l kLet) (x ∷ []) × Formed l (suc i) t
+  Formed l i (assign j p t) = (j ≡ i) × Ranges (fields l kAssign) (placeOf p) × Formed l (suc i) t
+  Formed l i (below j p q) = (j ≡ i) × Ranges (fields l kBelow) (placeOf p ++ placeOf q)
+  Formed l i (block j ts) = (j ≡ i) × Ranges (fields l kBlock) (suc (others ts) ∷ []) × FormedAll l (suc i) ts
+
+  pub FormedAll : Limits → ℕ → Terms → Type 0
+  FormedAll l i (last t) = Formed l i t
+  FormedAll l i (more t ts) = Formed l i t × FormedAll l (i + size t) ts
+
+-- A script that 01 allows. That its bytes are few enough follows: 512 terms take no more than 2,565.
+pub record Within (l : Limits) (t : Term) : Type 0 where
+  pub levels : depth t ≤ l .levels
+  pub terms : size t ≤ l .terms
+  pub boxes : boxesIn t ≤ l .boxes
+  pub formed : Formed l 0 t
+  pub outermost : kindIn t ≡ kBlock
+
+-- Every number is below n: what the type of a slice says of its elements.
+abbrev pub Under : ℕ → List ℕ → Type 0
+Under n [] = Unit {0}
+Under n (x ∷ xs) = (x < n) × Under n xs

@@ -1,0 +1,84 @@
+// The script form: reading bytes into term rows, judging term rows, and writing them as bytes again.
+ghost use mathlib.Core.Path.{_≡_};
+ghost use Rattle.reader.specs.Limits.{base};
+ghost use Rattle.reader.specs.Answers.{told, readOf, judgedOf, writtenOf};
+
+mod limits; // limits.rt: 01's limits and refusal numbers
+mod opening; // opening.rt: what stands at a kind byte, or at a row
+mod operands; // operands.rt: the operands after a kind byte, and the row that they fill
+mod terms; // terms.rt: terms and blocks in bytes
+mod script; // script.rt: a whole script in bytes
+mod rows; // rows.rt: terms and blocks in term rows, and what stands after them
+mod output; // output.rt: the bytes of a script, from its term rows
+
+use crate::rows::Span;
+use crate::rows::first_used;
+use crate::rows::judge_term;
+use crate::script::clear_from;
+use crate::script::read_script;
+use crate::terms::Got;
+
+// A count (the terms of a script, or the bytes written), or 01's number and place.
+pub enum Outcome {
+    Count(usize),
+    Refused(u32, usize),
+}
+
+// Reads a script into term rows: the number of terms. Every refusal but the caller's 1 and 2 leaves all rows 0.
+pub fn read(script: &[u8], rows: &mut [u32]) -> Outcome
+    ensures { λ r. ⌜ (told r, now (rows .exit)) ≡ readOf base (now (script .entry)) (now (rows .entry)) ⌝ }
+{
+    if limits::BYTES < script.len() {
+        return Outcome::Refused(limits::SCRIPT_TOO_LONG, 0);
+    }
+    if rows.len() != limits::ROW_NUMBERS {
+        return Outcome::Refused(limits::ROWS_LENGTH, 0);
+    }
+    let got = read_script(script, rows);
+    match got {
+        Got::Refused(number, place) => {
+            clear_from(rows, 0);
+            Outcome::Refused(number, place)
+        }
+        Got::Fine(next, terms, boxes) => {
+            clear_from(rows, terms * 5);
+            Outcome::Count(terms)
+        }
+    }
+}
+
+// Judges term rows that the caller made: the number of terms.
+pub fn judge_rows(rows: &[u32]) -> Outcome
+    ensures { λ r. ⌜ told r ≡ judgedOf base (now (rows .entry)) ⌝ }
+{
+    if rows.len() != limits::ROW_NUMBERS {
+        return Outcome::Refused(limits::ROWS_LENGTH, 0);
+    }
+    let span = judge_term(rows, 0, limits::LEVELS, true, 0);
+    match span {
+        Span::Refused(number, row) => Outcome::Refused(number, row),
+        Span::Fine(terms, boxes) => {
+            let used = first_used(rows, 5 * terms);
+            if used < rows.len() {
+                return Outcome::Refused(limits::LEFT_OVER, used / 5);
+            }
+            Outcome::Count(terms)
+        }
+    }
+}
+
+// The script of judged rows at the front of the output, and its length; or the refusal, with the output unchanged.
+pub fn write(rows: &[u32], output: &mut [u8]) -> Outcome
+    ensures { λ r. ⌜ (told r, now (output .exit)) ≡ writtenOf base (now (rows .entry)) (now (output .entry)) ⌝ }
+{
+    let judged = judge_rows(rows);
+    let Outcome::Count(terms) = judged else {
+        return judged;
+    };
+    let bytes = output::script_bytes(rows, terms);
+    if output.len() < bytes {
+        return Outcome::Refused(limits::OUTPUT_SHORT, 0);
+    }
+    output::put_script(rows, terms, output);
+    Outcome::Count(bytes)
+}

@@ -1,0 +1,38 @@
+// What stands at a kind byte.
+ghost use mathlib.Core.Path.{_≡_};
+ghost use Rattle.reader.specs.ByteParts.{openingNumber};
+use crate::limits;
+
+// The number of the refusal at a kind byte, in 01's order 12, 13, 18, 16, 15, 17; 0 where there is none.
+// `outer` says that the term must be a block.
+pub fn opening_number(tail: &[u8], levels: usize, outer: bool, terms: usize, boxes: usize) -> u32
+    ensures { λ r. ⌜ r ≡ openingNumber levels outer (now (tail .entry)) terms boxes ⌝ }
+{
+    if tail.len() == 0 {
+        return limits::ENDED;
+    }
+    let kind = tail[0];
+    if kind == 0 {
+        return limits::UNKNOWN_KIND;
+    }
+    if 11 < kind {
+        return limits::UNKNOWN_KIND;
+    }
+    if outer {
+        if kind != 11 {
+            return limits::NO_BLOCK;
+        }
+    }
+    if limits::TERMS <= terms {
+        return limits::TOO_MANY_TERMS;
+    }
+    if levels == 0 {
+        return limits::TOO_DEEP;
+    }
+    if kind == 7 {
+        if limits::BOXES <= boxes {
+            return limits::TOO_MANY_BOXES;
+        }
+    }
+    0
+}

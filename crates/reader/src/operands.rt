@@ -1,0 +1,173 @@
+// The operands after a kind byte, judged byte by byte, and the row that they fill.
+ghost use mathlib.Core.Path.{_≡_};
+ghost use mathlib.Core.List.{_∷_, []};
+ghost use Prim.Native.Nat.{_+_, _*_, _<_, _≤_};
+ghost use lib.ListN.{length};
+ghost use lib.Seq.{sets};
+ghost use Rattle.reader.specs.Parts.{fieldsOf, IsKind};
+ghost use Rattle.reader.specs.Parts.{placeFields};
+ghost use Rattle.reader.specs.ByteParts.{fieldNumber, wordAt, judgedFields, wordField, oneField, twoPlaceFields, Filled};
+use crate::limits;
+
+// The bytes up to the end of a term's operands, counted from its kind byte, or the refusal.
+pub enum Fields {
+    Fine(usize),
+    Refused(u32, usize),
+}
+
+pub fn wide(byte: u8) -> u32
+    ensures { λ r. ⌜ (r ≡ byte) × (r < 256) ⌝ }
+{
+    byte as u32
+}
+
+// The row of term n.
+pub fn put_row(rows: &mut [u32], n: usize, kind: u32, a: u32, b: u32, c: u32, d: u32)
+    requires { ⌜ n * 5 + 5 ≤ length (now rows) ⌝ }
+    ensures { λ _. ⌜ now (rows .exit) ≡ sets (now (rows .entry)) (n * 5) (kind ∷ a ∷ b ∷ c ∷ d ∷ []) ⌝ }
+{
+    let at = n * 5;
+    let at1 = at + 1;
+    let at2 = at + 2;
+    let at3 = at + 3;
+    let at4 = at + 4;
+    rows[at] = kind;
+    rows[at1] = a;
+    rows[at2] = b;
+    rows[at3] = c;
+    rows[at4] = d;
+}
+
+// 0 where the byte at j is from low to below high; else 12 where there is none, or 14.
+pub fn field_number(tail: &[u8], j: usize, low: u32, high: u32) -> u32
+    ensures { λ r. ⌜ r ≡ fieldNumber (now (tail .entry)) j low high ⌝ }
+{
+    if tail.len() <= j {
+        return limits::ENDED;
+    }
+    let value = wide(tail[j]);
+    if value < low {
+        return limits::OPERAND;
+    }
+    if high <= value {
+        return limits::OPERAND;
+    }
+    0
+}
+
+// A place: the bytes at j and j + 1.
+pub fn judge_place(tail: &[u8], at: usize, j: usize) -> Fields
+    requires { ⌜ (at + length (now tail) ≤ 4096) × (j ≤ 3) ⌝ }
+    ensures { λ r. ⌜ r ≡ judgedFields placeFields (now (tail .entry)) at j ⌝ }
+{
+    let root = field_number(tail, j, 0, limits::VARIABLES);
+    if root != 0 {
+        return Fields::Refused(root, at + j);
+    }
+    let j1 = j + 1;
+    let follows = field_number(tail, j1, 0, limits::FOLLOWS);
+    if follows != 0 {
+        return Fields::Refused(follows, at + j1);
+    }
+    Fields::Fine(j1 + 1)
+}
+
+// Four bytes after the kind byte, high byte first.
+pub fn word(tail: &[u8]) -> u32
+    requires { ⌜ 5 ≤ length (now tail) ⌝ }
+    ensures { λ r. ⌜ r ≡ wordAt (now (tail .entry)) 1 ⌝ }
+{
+    let a = wide(tail[1]);
+    let b = wide(tail[2]);
+    let c = wide(tail[3]);
+    let d = wide(tail[4]);
+    a * 16777216 + b * 65536 + c * 256 + d
+}
+
+pub fn read_word(tail: &[u8], at: usize, n: usize, rows: &mut [u32]) -> Fields
+    requires { ⌜ (at + length (now tail) ≤ 4096) × (n * 5 + 5 ≤ length (now rows)) ⌝ }
+    ensures { λ r. ⌜ Filled wordField 1 (now (tail .entry)) at n (now (rows .entry)) (now (rows .exit)) r ⌝ }
+{
+    if tail.len() < 5 {
+        return Fields::Refused(limits::ENDED, at + tail.len());
+    }
+    let bits = word(tail);
+    put_row(rows, n, 1, bits, 0, 0, 0);
+    Fields::Fine(5)
+}
+
+// One byte from low to below high.
+pub fn read_one(
+    tail: &[u8],
+    at: usize,
+    kind: u32,
+    low: u32,
+    high: u32,
+    n: usize,
+    rows: &mut [u32],
+) -> Fields
+    requires { ⌜ (at + length (now tail) ≤ 4096) × (n * 5 + 5 ≤ length (now rows)) ⌝ }
+    ensures { λ r. ⌜ Filled (oneField low high) kind (now (tail .entry)) at n (now (rows .entry)) (now (rows .exit)) r ⌝ }
+{
+    let number = field_number(tail, 1, low, high);
+    if number != 0 {
+        return Fields::Refused(number, at + 1);
+    }
+    put_row(rows, n, kind, wide(tail[1]), 0, 0, 0);
+    Fields::Fine(2)
+}
+
+pub fn read_place(tail: &[u8], at: usize, kind: u32, n: usize, rows: &mut [u32]) -> Fields
+    requires { ⌜ (at + length (now tail) ≤ 4096) × (n * 5 + 5 ≤ length (now rows)) ⌝ }
+    ensures { λ r. ⌜ Filled placeFields kind (now (tail .entry)) at n (now (rows .entry)) (now (rows .exit)) r ⌝ }
+{
+    let place = judge_place(tail, at, 1);
+    let Fields::Fine(used) = place else {
+        return place;
+    };
+    put_row(rows, n, kind, wide(tail[1]), wide(tail[2]), 0, 0);
+    place
+}
+
+pub fn read_two_places(tail: &[u8], at: usize, n: usize, rows: &mut [u32]) -> Fields
+    requires { ⌜ (at + length (now tail) ≤ 4096) × (n * 5 + 5 ≤ length (now rows)) ⌝ }
+    ensures { λ r. ⌜ Filled twoPlaceFields 10 (now (tail .entry)) at n (now (rows .entry)) (now (rows .exit)) r ⌝ }
+{
+    let first = judge_place(tail, at, 1);
+    let Fields::Fine(used) = first else {
+        return first;
+    };
+    let second = judge_place(tail, at, 3);
+    let Fields::Fine(end) = second else {
+        return second;
+    };
+    put_row(
+        rows,
+        n,
+        10,
+        wide(tail[1]),
+        wide(tail[2]),
+        wide(tail[3]),
+        wide(tail[4]),
+    );
+    second
+}
+
+// The operands of a known kind, and its row.
+pub fn read_operands(tail: &[u8], at: usize, kind: u8, n: usize, rows: &mut [u32]) -> Fields
+    requires { ⌜ (at + length (now tail) ≤ 4096) × (n * 5 + 5 ≤ length (now rows)) × IsKind kind ⌝ }
+    ensures { λ r. ⌜ Filled (fieldsOf kind) kind (now (tail .entry)) at n (now (rows .entry)) (now (rows .exit)) r ⌝ }
+{
+    match kind {
+        1 => read_word(tail, at, n, rows),
+        2 => read_one(tail, at, 2, 0, limits::READINGS, n, rows),
+        7 => {
+            put_row(rows, n, 7, 0, 0, 0, 0);
+            Fields::Fine(1)
+        }
+        8 => read_one(tail, at, 8, 0, limits::VARIABLES, n, rows),
+        10 => read_two_places(tail, at, n, rows),
+        11 => read_one(tail, at, 11, 1, limits::BLOCK, n, rows),
+        _ => read_place(tail, at, wide(kind), n, rows),
+    }
+}

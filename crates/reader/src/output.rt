@@ -1,0 +1,118 @@
+// The bytes of a script that is given as term rows. Bytes and rows list the terms in one order, so each row
+// gives its own bytes, straight after those of the row before it. The rows come judged: a kind that 01 does
+// not have is taken as one with a place, so that nothing here can refuse.
+ghost use mathlib.Core.Path.{_≡_};
+ghost use mathlib.Core.List.{_∷_, []};
+ghost use Prim.Native.Nat.{ℕ, _+_, _*_, _%_, _≤_};
+ghost use lib.ListN.{length};
+ghost use lib.Seq.{sets};
+ghost use Rattle.reader.specs.OutputParts.{rowBytes, bytesAt, scriptFrom};
+
+// The bytes that a row of this kind gives, whatever its fields hold.
+fn row_length(kind: u32) -> usize
+    ensures { λ r. ⌜ ((a b c d : ℕ) → length (rowBytes kind a b c d) ≡ r) × (r ≤ 5) ⌝ }
+{
+    match kind {
+        1 | 10 => 5,
+        2 | 8 | 11 => 2,
+        7 => 1,
+        _ => 3,
+    }
+}
+
+// The bytes of the whole script, mark and version included.
+pub fn script_bytes(rows: &[u32], terms: usize) -> usize
+    requires { ⌜ terms * 5 ≤ length (now rows) ⌝ }
+    ensures { λ r. ⌜ r ≡ length (scriptFrom terms (now (rows .entry))) ⌝ }
+{
+    let mut bytes: usize = 5;
+    let mut i = 0;
+    while i < terms {
+        bytes += row_length(rows[i * 5]);
+        i += 1;
+    }
+    bytes
+}
+
+// The next four write the lowest 8 bits of each number from offset `at` on, and answer the offset after them.
+
+fn put_one(output: &mut [u8], at: usize, a: u32) -> usize
+    requires { ⌜ at + 1 ≤ length (now output) ⌝ }
+    ensures { λ r. ⌜ (r ≡ at + 1) × (now (output .exit) ≡ sets (now (output .entry)) at (a % 256 ∷ [])) ⌝ }
+{
+    output[at] = (a % 256) as u8;
+    at + 1
+}
+
+fn put_two(output: &mut [u8], at: usize, a: u32, b: u32) -> usize
+    requires { ⌜ at + 2 ≤ length (now output) ⌝ }
+    ensures { λ r. ⌜ (r ≡ at + 2) × (now (output .exit) ≡ sets (now (output .entry)) at (a % 256 ∷ b % 256 ∷ [])) ⌝ }
+{
+    output[at] = (a % 256) as u8;
+    output[at + 1] = (b % 256) as u8;
+    at + 2
+}
+
+fn put_three(output: &mut [u8], at: usize, a: u32, b: u32, c: u32) -> usize
+    requires { ⌜ at + 3 ≤ length (now output) ⌝ }
+    ensures { λ r. ⌜ (r ≡ at + 3) × (now (output .exit) ≡ sets (now (output .entry)) at (a % 256 ∷ b % 256 ∷ c % 256 ∷ [])) ⌝ }
+{
+    output[at] = (a % 256) as u8;
+    output[at + 1] = (b % 256) as u8;
+    output[at + 2] = (c % 256) as u8;
+    at + 3
+}
+
+fn put_five(output: &mut [u8], at: usize, a: u32, b: u32, c: u32, d: u32, e: u32) -> usize
+    requires { ⌜ at + 5 ≤ length (now output) ⌝ }
+    ensures { λ r. ⌜ (r ≡ at + 5) × (now (output .exit) ≡ sets (now (output .entry)) at (a % 256 ∷ b % 256 ∷ c % 256 ∷ d % 256 ∷ e % 256 ∷ [])) ⌝ }
+{
+    output[at] = (a % 256) as u8;
+    output[at + 1] = (b % 256) as u8;
+    output[at + 2] = (c % 256) as u8;
+    output[at + 3] = (d % 256) as u8;
+    output[at + 4] = (e % 256) as u8;
+    at + 5
+}
+
+// The bytes of row i, from offset `at` on; the offset after them.
+fn put_row_bytes(rows: &[u32], i: usize, output: &mut [u8], at: usize) -> usize
+    requires { ⌜ (i * 5 + 5 ≤ length (now rows)) × (at + length (bytesAt (now rows) i) ≤ length (now output)) ⌝ }
+    ensures { λ r. ⌜ (r ≡ at + length (bytesAt (now (rows .entry)) i)) × (now (output .exit) ≡ sets (now (output .entry)) at (bytesAt (now (rows .entry)) i)) ⌝ }
+{
+    let row = i * 5;
+    let kind = rows[row];
+    match kind {
+        1 => {
+            let n = rows[row + 1];
+            put_five(output, at, kind, n / 16777216, n / 65536, n / 256, n)
+        }
+        2 | 8 | 11 => put_two(output, at, kind, rows[row + 1]),
+        7 => put_one(output, at, kind),
+        10 => put_five(
+            output,
+            at,
+            kind,
+            rows[row + 1],
+            rows[row + 2],
+            rows[row + 3],
+            rows[row + 4],
+        ),
+        _ => put_three(output, at, kind, rows[row + 1], rows[row + 2]),
+    }
+}
+
+// The script at the front of the output: the mark `RCS`, version 1, and each row's bytes.
+pub fn put_script(rows: &[u32], terms: usize, output: &mut [u8])
+    requires { ⌜ (terms * 5 ≤ length (now rows)) × (length (scriptFrom terms (now rows)) ≤ length (now output)) ⌝ }
+    ensures { λ _. ⌜ now (output .exit) ≡ sets (now (output .entry)) 0 (scriptFrom terms (now (rows .entry))) ⌝ }
+{
+    let mut at = put_five(output, 0, 0x52, 0x43, 0x53, 0, 1);
+    let mut i = 0;
+    let mut left = terms;
+    while 0 < left {
+        at = put_row_bytes(rows, i, output, at);
+        i += 1;
+        left -= 1;
+    }
+}

@@ -1,0 +1,200 @@
+// Terms and blocks in term rows, and what stands after them: what check, machine and writer rely on.
+ghost use mathlib.Core.Path.{_≡_};
+ghost use mathlib.Core.List.{_∷_, []};
+ghost use Prim.Native.Nat.{_+_, _*_, _<_, _≤_};
+ghost use lib.ListN.{length, drop};
+ghost use Rattle.reader.specs.Kinds.{until};
+ghost use Rattle.reader.specs.Parts.{IsKind, boxesWith, fieldsOf};
+ghost use Rattle.reader.specs.Parts.{placeFields};
+ghost use Rattle.reader.specs.RowParts.{fieldAt, fieldsFit, rowNumber, RowsReady, termRows, blockRows, spanOf, sum, firstUsed};
+use crate::limits;
+
+// The row past what was judged, with the boxes met so far; or the refusal and its row.
+pub enum Span {
+    Fine(usize, usize),
+    Refused(u32, usize),
+}
+
+// Field k of row i: the kind is field 0.
+fn field_at(rows: &[u32], i: usize, k: usize) -> u32
+    requires { ⌜ (length (now rows) ≡ 2560) × (i < 512) × (k < 5) ⌝ }
+    ensures { λ r. ⌜ r ≡ fieldAt (now (rows .entry)) i k ⌝ }
+{
+    let at = 5 * i + k;
+    rows[at]
+}
+
+fn place_fits(root: u32, follows: u32) -> bool
+    ensures { λ r. ⌜ r ≡ fieldsFit placeFields (root ∷ follows ∷ []) ⌝ }
+{
+    root < limits::VARIABLES && follows < limits::FOLLOWS
+}
+
+// Fields that no operand uses.
+fn all_zero(a: u32, b: u32, c: u32, d: u32) -> bool
+    ensures { λ r. ⌜ r ≡ fieldsFit [] (a ∷ b ∷ c ∷ d ∷ []) ⌝ }
+{
+    if a != 0 {
+        return false;
+    }
+    if b != 0 {
+        return false;
+    }
+    c == 0 && d == 0
+}
+
+// One operand, from low to below high.
+fn one_fits(low: u32, high: u32, a: u32, b: u32, c: u32, d: u32) -> bool
+    ensures { λ r. ⌜ r ≡ fieldsFit (until low high ∷ []) (a ∷ b ∷ c ∷ d ∷ []) ⌝ }
+{
+    if a < low {
+        return false;
+    }
+    a < high && all_zero(0, b, c, d)
+}
+
+// The operands of a kind are in their ranges, and the fields after them 0.
+fn fields_fit(kind: u32, a: u32, b: u32, c: u32, d: u32) -> bool
+    requires { ⌜ IsKind kind ⌝ }
+    ensures { λ r. ⌜ r ≡ fieldsFit (fieldsOf kind) (a ∷ b ∷ c ∷ d ∷ []) ⌝ }
+{
+    match kind {
+        1 => all_zero(0, b, c, d),
+        2 => one_fits(0, limits::READINGS, a, b, c, d),
+        7 => all_zero(a, b, c, d),
+        8 => one_fits(0, limits::VARIABLES, a, b, c, d),
+        10 => place_fits(a, b) && place_fits(c, d),
+        11 => one_fits(1, limits::BLOCK, a, b, c, d),
+        _ => place_fits(a, b) && all_zero(0, 0, c, d),
+    }
+}
+
+// The number of the refusal at row i, in 01's order 12, 13, 18, 15, 17, 14; 0 where there is none.
+// 16 cannot be met: 512 rows hold no term more. `outer` says that the term must be a block.
+fn row_number(rows: &[u32], i: usize, levels: usize, outer: bool, boxes: usize) -> u32
+    requires { ⌜ length (now rows) ≡ 2560 ⌝ }
+    ensures { λ r. ⌜ r ≡ rowNumber levels outer (now (rows .entry)) i boxes ⌝ }
+{
+    if limits::TERMS <= i {
+        return limits::ENDED;
+    }
+    let kind = field_at(rows, i, 0);
+    if kind == 0 {
+        return limits::ENDED;
+    }
+    if 11 < kind {
+        return limits::UNKNOWN_KIND;
+    }
+    if outer {
+        if kind != 11 {
+            return limits::NO_BLOCK;
+        }
+    }
+    if levels == 0 {
+        return limits::TOO_DEEP;
+    }
+    if kind == 7 {
+        if limits::BOXES <= boxes {
+            return limits::TOO_MANY_BOXES;
+        }
+    }
+    let a = field_at(rows, i, 1);
+    let b = field_at(rows, i, 2);
+    let c = field_at(rows, i, 3);
+    let d = field_at(rows, i, 4);
+    if fields_fit(kind, a, b, c, d) {
+        return 0;
+    }
+    limits::OPERAND
+}
+
+fn boxes_with(kind: u32, boxes: usize) -> usize
+    requires { ⌜ boxes ≤ 64 ⌝ }
+    ensures { λ r. ⌜ r ≡ boxesWith kind boxes ⌝ }
+{
+    if kind == 7 { boxes + 1 } else { boxes }
+}
+
+fn wide(x: u32) -> usize
+    ensures { λ r. ⌜ r ≡ x ⌝ }
+{
+    x as usize
+}
+
+// The term at row i, nested at most as deep as levels says, after so many boxes.
+pub fn judge_term(rows: &[u32], i: usize, levels: usize, outer: bool, boxes: usize) -> Span
+    requires { ⌜ RowsReady (now rows) boxes ⌝ }
+    ensures { λ r. ⌜ r ≡ spanOf (termRows levels outer (now (rows .entry)) i boxes) ⌝ }
+{
+    let number = row_number(rows, i, levels, outer, boxes);
+    if number != 0 {
+        return Span::Refused(number, i);
+    }
+    let kind = field_at(rows, i, 0);
+    let next = i + 1;
+    let deeper = levels - 1;
+    match kind {
+        7 | 8 | 9 => {
+            let boxed = boxes_with(kind, boxes);
+            judge_term(rows, next, deeper, false, boxed)
+        }
+        11 => {
+            let count = wide(field_at(rows, i, 1));
+            judge_block(rows, next, count, deeper, boxes)
+        }
+        _ => Span::Fine(next, boxes),
+    }
+}
+
+// count terms one after the other from row i on, one at least.
+pub fn judge_block(rows: &[u32], i: usize, count: usize, levels: usize, boxes: usize) -> Span
+    requires { ⌜ RowsReady (now rows) boxes × (0 < count) ⌝ }
+    ensures { λ r. ⌜ r ≡ spanOf (blockRows levels count (now (rows .entry)) i boxes) ⌝ }
+{
+    let mut next = i;
+    let mut boxed = boxes;
+    let mut left = count;
+    while 0 < left {
+        let span = judge_term(rows, next, levels, false, boxed);
+        let Span::Fine(end, met) = span else {
+            return span;
+        };
+        next = end;
+        boxed = met;
+        left -= 1;
+    }
+    Span::Fine(next, boxed)
+}
+
+// All numbers from `from` on together. Nothing leaves the loop early, so it becomes vector code.
+fn sum_from(rows: &[u32], from: usize) -> u64
+    requires { ⌜ (length (now rows) ≡ 2560) × (from ≤ 2560) ⌝ }
+    ensures { λ r. ⌜ r ≡ sum (drop from (now (rows .entry))) ⌝ }
+{
+    let mut total: u64 = 0;
+    let mut i = from;
+    while i < rows.len() {
+        total += rows[i] as u64;
+        i += 1;
+    }
+    total
+}
+
+// Where the first number from `from` on that is not 0 stands; the length where there is none.
+// In almost all rows there is none, so that is found out first, by the faster loop.
+pub fn first_used(rows: &[u32], from: usize) -> usize
+    requires { ⌜ (length (now rows) ≡ 2560) × (from ≤ 2560) ⌝ }
+    ensures { λ r. ⌜ r ≡ firstUsed from (drop from (now (rows .entry))) ⌝ }
+{
+    if sum_from(rows, from) == 0 {
+        return rows.len();
+    }
+    let mut i = from;
+    while i < rows.len() {
+        if rows[i] != 0 {
+            return i;
+        }
+        i += 1;
+    }
+    i
+}

@@ -1,0 +1,75 @@
+//! The outline of a script while its terms are met one after the other: how
+//! many there are so far, how many of them are boxes, and which terms around
+//! the next one still wait for inner terms. Reader and row judge share it.
+
+use super::{kind, MAX_BOXES, MAX_LEVELS, MAX_TERMS};
+use crate::refusal::{NO_BLOCK, TOO_DEEP, TOO_MANY_BOXES, TOO_MANY_TERMS, UNKNOWN_KIND};
+
+pub(super) struct Outline {
+    pub(super) terms: usize,
+    boxes: usize,
+    /// How many terms are open around the next one.
+    depth: usize,
+    /// For each open term, the inner terms it still waits for.
+    left: [u8; MAX_LEVELS],
+}
+
+impl Outline {
+    pub(super) fn new() -> Self {
+        Outline {
+            terms: 0,
+            boxes: 0,
+            depth: 0,
+            left: [0; MAX_LEVELS],
+        }
+    }
+
+    /// Judges a kind that is there, in the order 13, 18, 16, 15, 17, and
+    /// counts its term. The error is the refusal number; the caller knows the
+    /// place.
+    #[inline(always)]
+    pub(super) fn begin(&mut self, kind: u32) -> Result<(), u32> {
+        if !(kind::NUMBER..=kind::BLOCK).contains(&kind) {
+            return Err(UNKNOWN_KIND);
+        }
+        if self.terms == 0 && kind != kind::BLOCK {
+            return Err(NO_BLOCK);
+        }
+        if self.terms == MAX_TERMS {
+            return Err(TOO_MANY_TERMS);
+        }
+        if self.depth == MAX_LEVELS {
+            return Err(TOO_DEEP);
+        }
+        if kind == kind::BOX {
+            if self.boxes == MAX_BOXES {
+                return Err(TOO_MANY_BOXES);
+            }
+            self.boxes += 1;
+        }
+        self.terms += 1;
+        Ok(())
+    }
+
+    /// The operands of the last term are through; `inner` terms follow inside
+    /// it. Answers whether the whole script is complete.
+    #[inline(always)]
+    pub(super) fn end(&mut self, inner: u8) -> bool {
+        if inner > 0 {
+            self.left[self.depth] = inner;
+            self.depth += 1;
+            return false;
+        }
+        // A term without inner terms completes every term that waited for
+        // nothing but it.
+        while self.depth > 0 {
+            let left = &mut self.left[self.depth - 1];
+            *left -= 1;
+            if *left > 0 {
+                return false;
+            }
+            self.depth -= 1;
+        }
+        true
+    }
+}

@@ -1,0 +1,140 @@
+//! From script bytes to term rows.
+
+use super::kind::{is_in_range, DEMANDS};
+use super::outline::Outline;
+use super::*;
+use crate::refusal::*;
+
+/// Reads a script into term rows and answers the number of terms. A refusal
+/// by the bytes (10 to 19) leaves all rows 0, one by the caller (1, 2) leaves
+/// them as they were.
+pub fn read(script: &[u8], rows: &mut [u32]) -> Result<u32, Refusal> {
+    if script.len() > MAX_BYTES {
+        return Err(Refusal::by_caller(SCRIPT_TOO_LONG));
+    }
+    if rows.len() != ROWS_LEN {
+        return Err(Refusal::by_caller(ROWS_LENGTH));
+    }
+    let (rows, _) = rows.as_chunks_mut();
+    let answer = header(script).and_then(|()| terms(script, rows));
+    // Rows of terms that were read are written whole, so after success only
+    // the unused ones need clearing.
+    let kept = answer.map_or(0, |terms| terms as usize);
+    rows[kept..].as_flattened_mut().fill(0);
+    answer
+}
+
+/// The mark byte by byte, then the version once both its bytes are there.
+fn header(script: &[u8]) -> Result<(), Refusal> {
+    if script.starts_with(&HEADER) {
+        return Ok(());
+    }
+    for (offset, expected) in HEADER[..3].iter().enumerate() {
+        if byte(script, offset)? != *expected {
+            return Err(Refusal::new(MARK, offset));
+        }
+    }
+    byte(script, 3)?;
+    byte(script, 4)?;
+    Err(Refusal::new(VERSION, 3))
+}
+
+/// The terms from the outermost block on, and nothing after it.
+fn terms(script: &[u8], rows: &mut [Row]) -> Result<u32, Refusal> {
+    let mut outline = Outline::new();
+    let mut offset = HEADER.len();
+    loop {
+        let kind = byte(script, offset)? as u32;
+        outline
+            .begin(kind)
+            .map_err(|number| Refusal::new(number, offset))?;
+        let row = match script[offset..].first_chunk().and_then(whole_term) {
+            Some(row) => row,
+            None => term(script, offset, kind)?,
+        };
+        rows[outline.terms - 1] = row;
+        offset += DEMANDS[kind as usize].bytes as usize;
+        if outline.end(inner_terms(&row)) {
+            break;
+        }
+    }
+    if offset < script.len() {
+        return Err(Refusal::new(LEFT_OVER, offset));
+    }
+    Ok(outline.terms as u32)
+}
+
+/// The row of a term from the five bytes that begin at its known kind. They
+/// hold the operands of every kind; those that this kind does not have belong
+/// to the next term and are left out. Nothing if an operand is out of range.
+/// The reader decides without jumps here: kinds follow each other in no order
+/// that could be predicted.
+#[inline(always)]
+fn whole_term(window: &[u8; FIELDS]) -> Option<Row> {
+    let [kind, a, b, c, d] = window.map(u32::from);
+    let most = &DEMANDS[kind as usize].most;
+    let kept = |operand, most| if most == 0 { 0 } else { operand };
+    let number = u32::from_be_bytes([window[1], window[2], window[3], window[4]]);
+    let a = if kind == NUMBER {
+        number
+    } else {
+        kept(a, most[0])
+    };
+    let row = [
+        kind,
+        a,
+        kept(b, most[1]),
+        kept(c, most[2]),
+        kept(d, most[3]),
+    ];
+    is_in_range(&row).then_some(row)
+}
+
+/// The row of the term whose kind byte is at `offset`, operand by operand, so
+/// that the first one missing or out of range is the one that is refused.
+#[cold]
+fn term(script: &[u8], offset: usize, kind: u32) -> Result<Row, Refusal> {
+    let operand =
+        |index: usize, least: u32, most: u32| operand(script, offset + index, least, most);
+    let variable = |index| operand(index, 0, MAX_VARIABLE);
+    let follows = |index| operand(index, 0, MAX_FOLLOWS);
+    Ok(match kind {
+        NUMBER => [kind, number(script, offset + 1)?, 0, 0, 0],
+        READING => [kind, operand(1, 0, MAX_READING)?, 0, 0, 0],
+        BOX => [kind, 0, 0, 0, 0],
+        LET => [kind, variable(1)?, 0, 0, 0],
+        BELOW => [kind, variable(1)?, follows(2)?, variable(3)?, follows(4)?],
+        BLOCK => [kind, operand(1, 1, MAX_COUNT)?, 0, 0, 0],
+        // Copy, move, both borrows and assign: one place.
+        _ => [kind, variable(1)?, follows(2)?, 0, 0],
+    })
+}
+
+/// The byte at an offset; a script that ended before it is refused at its
+/// length.
+#[inline(always)]
+fn byte(script: &[u8], offset: usize) -> Result<u8, Refusal> {
+    match script.get(offset) {
+        Some(byte) => Ok(*byte),
+        None => Err(Refusal::new(ENDED, script.len())),
+    }
+}
+
+#[inline(always)]
+fn operand(script: &[u8], offset: usize, least: u32, most: u32) -> Result<u32, Refusal> {
+    let value = byte(script, offset)? as u32;
+    if value < least || value > most {
+        return Err(Refusal::new(OPERAND, offset));
+    }
+    Ok(value)
+}
+
+/// Four bytes, high byte first. Every value is allowed, so only the end of
+/// the script can be in the way.
+#[inline(always)]
+fn number(script: &[u8], offset: usize) -> Result<u32, Refusal> {
+    match script.get(offset..).and_then(|tail| tail.first_chunk()) {
+        Some(bytes) => Ok(u32::from_be_bytes(*bytes)),
+        None => Err(Refusal::new(ENDED, script.len())),
+    }
+}

@@ -1,0 +1,229 @@
+//! An author of scripts that the ownership check accepts. It keeps the
+//! environment of the check along with the terms and writes a term only where
+//! the rules allow it. A careless author writes some terms all the same.
+
+use super::operands;
+use crate::form::*;
+use crate::ownership::chain::{Chain, Link};
+use crate::ownership::environment::{Environment, Place, Value};
+use crate::random::Random;
+
+pub(super) struct Author<'a> {
+    pub(super) random: &'a mut Random,
+    pub(super) terms: &'a mut Vec<Row>,
+    pub(super) environment: Environment,
+    /// Box terms that may still be written.
+    pub(super) boxes: u32,
+    /// Beyond so many terms only short ones are written.
+    pub(super) room: usize,
+    /// How often, in a hundred, a term is written that the rules refuse.
+    pub(super) careless: u32,
+    /// How often, in a hundred, a term of any type is a box.
+    pub(super) boxing: u32,
+}
+
+/// What a term gives, or nothing if the author gives the term up. What was
+/// written of it then still stands; the statement around takes it back.
+pub(super) type Written = Option<Value>;
+
+fn row_at(kind: u32, place: Place) -> Row {
+    [kind, place.root as u32, place.follows as u32, 0, 0]
+}
+
+impl Author<'_> {
+    /// Whether a refused term is written nevertheless.
+    pub(super) fn careless(&mut self) -> bool {
+        self.careless > 0 && self.random.percent(self.careless)
+    }
+
+    pub(super) fn crowded(&self) -> bool {
+        self.terms.len() >= self.room
+    }
+
+    /// A variable in scope, a recent one more often than the others.
+    fn variable(&mut self) -> Option<u8> {
+        let variables = self.environment.variables_in_scope();
+        let recent = variables.len().saturating_sub(4);
+        let from = if self.random.percent(50) { recent } else { 0 };
+        let count = variables.len() - from;
+        (count > 0).then(|| variables[from + self.random.index(count)])
+    }
+
+    /// A place whose chain is long enough, of a careless author not always.
+    pub(super) fn place(&mut self) -> Option<Place> {
+        let root = self.variable()?;
+        let mut links = self.environment.chain(root).links();
+        if self.careless() && self.random.percent(20) {
+            links = MAX_FOLLOWS.min(links + 1);
+        }
+        let follows = match self.random.below(3) {
+            0 => links,
+            _ => self.random.below(links + 1),
+        } as u8;
+        Some(Place { root, follows })
+    }
+
+    /// A place of a given type, each one equally likely.
+    fn place_like(&mut self, chain: Chain) -> Option<Place> {
+        let mut found = None;
+        let mut count = 0;
+        for &root in self.environment.variables_in_scope() {
+            let whole = self.environment.chain(root);
+            let Some(follows) = whole.links().checked_sub(chain.links()) else {
+                continue;
+            };
+            let follows = follows as u8;
+            if whole.after(follows) == chain {
+                count += 1;
+                if self.random.below(count) == 0 {
+                    found = Some(Place { root, follows });
+                }
+            }
+        }
+        found
+    }
+
+    /// A copy, move or borrow of a place.
+    pub(super) fn at_place(&mut self, kind: u32, place: Place) -> Written {
+        let environment = &mut self.environment;
+        let judged = match kind {
+            COPY => environment.copy(place),
+            MOVE => environment.move_out(place),
+            SHARED => environment.borrow_shared(place),
+            _ => environment.borrow_exclusive(place),
+        };
+        let value = match judged {
+            Ok(value) => value,
+            Err(_) if self.careless() => self.value_all_the_same(kind, place),
+            Err(_) => return None,
+        };
+        self.terms.push(row_at(kind, place));
+        Some(value)
+    }
+
+    /// What a refused term would give, as far as its type makes sense.
+    fn value_all_the_same(&self, kind: u32, place: Place) -> Value {
+        let chain = self.environment.chain(place.root).after(place.follows);
+        let borrow = |link| {
+            let borrowed = |chain| Value {
+                chain,
+                borrowed: place,
+            };
+            chain.behind(link).map(borrowed)
+        };
+        let value = match kind {
+            SHARED => borrow(Link::Shared),
+            EXCLUSIVE => borrow(Link::Exclusive),
+            _ => self.environment.locate(place).map(|located| Value {
+                chain,
+                borrowed: self.environment.borrowed(located.root),
+            }),
+        };
+        value.unwrap_or(Value::NUMBER)
+    }
+
+    fn number(&mut self) -> Written {
+        let row = match self.random.below(2) {
+            0 => [NUMBER, operands::number(self.random), 0, 0, 0],
+            _ => [READING, self.random.below(MAX_READING + 1), 0, 0, 0],
+        };
+        self.terms.push(row);
+        Some(Value::NUMBER)
+    }
+
+    fn below(&mut self) -> Written {
+        let first = self.place_like(Chain::NUMBER)?;
+        let second = self.place_like(Chain::NUMBER)?;
+        for place in [first, second] {
+            if self.environment.compared(place).is_err() && !self.careless() {
+                return None;
+            }
+        }
+        let mut row = row_at(BELOW, first);
+        row[3..].copy_from_slice(&[second.root as u32, second.follows as u32]);
+        self.terms.push(row);
+        Some(Value::NUMBER)
+    }
+
+    /// A term of any type.
+    pub(super) fn any_value(&mut self, levels: u32) -> Written {
+        let inner = levels > 1 && !self.crowded();
+        if inner && self.random.percent(self.boxing) {
+            return self.boxed(levels, None);
+        }
+        let choice = self.random.below(100);
+        if inner && choice < 10 {
+            return self.block(levels, None);
+        }
+        let kind = match choice {
+            0..=22 => return self.number(),
+            23..=26 => return self.below(),
+            27..=42 => COPY,
+            43..=58 => MOVE,
+            59..=80 => SHARED,
+            _ => EXCLUSIVE,
+        };
+        match self.place() {
+            Some(place) => self.at_place(kind, place),
+            None => self.number(),
+        }
+    }
+
+    /// A term of a given type.
+    pub(super) fn value_like(&mut self, chain: Chain, levels: u32) -> Written {
+        let inner = levels > 1 && !self.crowded();
+        if inner && self.random.percent(15) {
+            return self.block(levels, Some(chain));
+        }
+        if chain.is_number() {
+            return match self.random.below(8) {
+                0 | 1 => self.below(),
+                2..=5 => self.moved_or_copied(chain),
+                _ => self.number(),
+            };
+        }
+        if self.random.percent(35) {
+            return self.moved_or_copied(chain);
+        }
+        let rest = chain.after(1);
+        if chain == rest.behind(Link::Box)? {
+            return if levels > 1 {
+                self.boxed(levels, Some(rest))
+            } else {
+                None
+            };
+        }
+        let place = self.place_like(rest)?;
+        let kind = if chain.starts_shared() {
+            SHARED
+        } else {
+            EXCLUSIVE
+        };
+        self.at_place(kind, place)
+    }
+
+    fn moved_or_copied(&mut self, chain: Chain) -> Written {
+        let place = self.place_like(chain)?;
+        let copied = chain.is_number() || chain.starts_shared() || self.careless();
+        let kind = if copied && self.random.percent(60) {
+            COPY
+        } else {
+            MOVE
+        };
+        self.at_place(kind, place)
+    }
+
+    /// A box round a term of a given type, or of any.
+    fn boxed(&mut self, levels: u32, inner: Option<Chain>) -> Written {
+        self.boxes = self.boxes.checked_sub(1)?;
+        self.terms.push([BOX, 0, 0, 0, 0]);
+        let value = match inner {
+            Some(chain) => self.value_like(chain, levels - 1)?,
+            None => self.any_value(levels - 1)?,
+        };
+        match value.chain.behind(Link::Box) {
+            Some(chain) => Some(Value { chain, ..value }),
+            None => self.careless().then_some(Value::NUMBER),
+        }
+    }
+}

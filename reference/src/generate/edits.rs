@@ -1,0 +1,131 @@
+//! Edits of a script's terms after which they are still of the right form.
+
+use super::operands;
+use crate::form::*;
+use crate::random::Random;
+
+/// Makes one edit. Where the chosen edit is not possible nothing changes.
+pub(super) fn edit(random: &mut Random, terms: &mut Vec<Row>) {
+    let at = random.index(terms.len());
+    match random.below(16) {
+        0..=5 => change_operand(random, terms, at),
+        6..=11 => change_kind(random, &mut terms[at..]),
+        12 => replace_leaf(random, &mut terms[at]),
+        13 => remove_statement(random, terms),
+        14 => repeat_statement(random, terms),
+        _ => swap_statements(random, terms),
+    }
+}
+
+fn has_place(kind: u32) -> bool {
+    matches!(kind, COPY..=EXCLUSIVE | ASSIGN | BELOW)
+}
+
+/// Another variable, mostly one that the script uses, or another number of
+/// follows.
+fn change_operand(random: &mut Random, terms: &mut [Row], at: usize) {
+    // A term not far before, so that its variable is likely in scope.
+    let other = terms[at - random.index(at.min(12) + 1)];
+    let used = matches!(other[0], LET) || has_place(other[0]);
+    let variable = if used && random.percent(90) {
+        other[1]
+    } else {
+        operands::variable(random)
+    };
+    let row = &mut terms[at];
+    let first = if row[0] == BELOW {
+        random.pick(&[1, 3])
+    } else {
+        1
+    };
+    match row[0] {
+        LET => row[1] = variable,
+        NUMBER => row[1] = operands::number(random),
+        READING => row[1] = random.below(MAX_READING + 1),
+        kind if !has_place(kind) => (),
+        _ if random.percent(50) => row[first] = variable,
+        _ => {
+            let follows = &mut row[first + 1];
+            let change = random.pick(&[1, 1, u32::MAX, 2]);
+            *follows = follows.wrapping_add(change).min(MAX_FOLLOWS);
+        }
+    }
+}
+
+/// Another use of the same place, for the first term that uses one.
+fn change_kind(random: &mut Random, terms: &mut [Row]) {
+    let uses_place = |row: &&mut Row| (COPY..=EXCLUSIVE).contains(&row[0]);
+    if let Some(row) = terms.iter_mut().find(uses_place) {
+        row[0] = random.between(COPY, EXCLUSIVE);
+    }
+}
+
+fn replace_leaf(random: &mut Random, row: &mut Row) {
+    if inner_terms(row) == 0 {
+        *row = operands::leaf(random);
+    }
+}
+
+/// Where the term at `at` ends with everything inside it.
+fn end_of(terms: &[Row], at: usize) -> usize {
+    let mut end = at;
+    let mut waiting = 1;
+    while waiting > 0 {
+        waiting += inner_terms(&terms[end]) as usize;
+        waiting -= 1;
+        end += 1;
+    }
+    end
+}
+
+/// A block, and one of the terms directly in it.
+fn statement(random: &mut Random, terms: &[Row]) -> Option<(usize, usize)> {
+    let near = random.index(terms.len());
+    let block = (0..=near).rev().find(|at| terms[*at][0] == BLOCK)?;
+    let mut at = block + 1;
+    for _ in 0..random.below(terms[block][1]) {
+        at = end_of(terms, at);
+    }
+    Some((block, at))
+}
+
+fn remove_statement(random: &mut Random, terms: &mut Vec<Row>) {
+    let Some((block, at)) = statement(random, terms) else {
+        return;
+    };
+    if terms[block][1] > 1 {
+        terms[block][1] -= 1;
+        terms.drain(at..end_of(terms, at));
+    }
+}
+
+/// Writes a statement a second time, directly after itself.
+fn repeat_statement(random: &mut Random, terms: &mut Vec<Row>) {
+    let Some((block, at)) = statement(random, terms) else {
+        return;
+    };
+    let end = end_of(terms, at);
+    let boxes = terms
+        .iter()
+        .chain(&terms[at..end])
+        .filter(|row| row[0] == BOX);
+    let fits = terms.len() + (end - at) <= MAX_TERMS && boxes.count() <= MAX_BOXES;
+    if fits && terms[block][1] < MAX_COUNT {
+        terms[block][1] += 1;
+        terms.extend_from_within(at..end);
+        let length = end - at;
+        terms[end..].rotate_right(length);
+    }
+}
+
+/// Exchanges a statement with the one after it.
+fn swap_statements(random: &mut Random, terms: &mut [Row]) {
+    let Some((block, at)) = statement(random, terms) else {
+        return;
+    };
+    let end = end_of(terms, at);
+    if end < end_of(terms, block) {
+        let next = end_of(terms, end);
+        terms[at..next].rotate_left(end - at);
+    }
+}

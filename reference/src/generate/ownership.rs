@@ -1,0 +1,109 @@
+//! Rows and scripts for the check and for the machine.
+
+use super::author::Author;
+use super::bytes::write_unjudged;
+use super::edits;
+use super::rows::flatten;
+use super::Generator;
+use crate::form::*;
+use crate::ownership::environment::Environment;
+
+impl Generator {
+    /// Writes terms by an author who is careless so often in a hundred times.
+    fn author(&mut self, careless: u32) {
+        let statements = match self.random.below(40) {
+            0 => self.random.between(30, 90),
+            1..=9 => self.random.between(8, 20),
+            _ => self.random.between(2, 9),
+        };
+        let boxing = self.random.pick(&[5, 20, 20, 35, 65]);
+        Author {
+            random: &mut self.random,
+            terms: &mut self.terms,
+            environment: Environment::new(),
+            boxes: MAX_BOXES as u32,
+            room: 300,
+            careless,
+            boxing,
+        }
+        .script(statements);
+    }
+
+    fn accepted(&mut self) {
+        self.author(0);
+    }
+
+    fn near_miss(&mut self) {
+        self.author(0);
+        for _ in 0..self.random.between(1, 2) {
+            edits::edit(&mut self.random, &mut self.terms);
+        }
+    }
+
+    fn wild(&mut self) {
+        let careless = self.random.pick(&[3, 15, 50, 100]);
+        self.author(careless);
+        for _ in 0..self.random.below(3) {
+            edits::edit(&mut self.random, &mut self.terms);
+        }
+    }
+
+    /// Rows of a script that the check accepts.
+    pub fn accepted_rows(&mut self, out: &mut Vec<u32>) {
+        self.accepted();
+        flatten(&self.terms, out);
+    }
+
+    /// Rows of an accepted script after one or two edits.
+    pub fn near_miss_rows(&mut self, out: &mut Vec<u32>) {
+        self.near_miss();
+        flatten(&self.terms, out);
+    }
+
+    /// Rows for unchecked runs: every fault occurs.
+    pub fn wild_rows(&mut self, out: &mut Vec<u32>) {
+        self.wild();
+        flatten(&self.terms, out);
+    }
+
+    /// Rows for check and machine: every answer of both occurs.
+    pub fn mixed_rows(&mut self, out: &mut Vec<u32>) {
+        match self.random.below(100) {
+            0..=29 => self.accepted_rows(out),
+            30..=59 => self.near_miss_rows(out),
+            60..=89 => self.wild_rows(out),
+            90..=94 => self.valid_rows(out),
+            _ => self.rows(out),
+        }
+    }
+
+    /// Eight readings, ordinary or at the ends of their range.
+    pub fn readings(&mut self) -> [i32; 8] {
+        let random = &mut self.random;
+        [(); 8].map(|()| match random.below(6) {
+            0 => random.bits() as i32,
+            1 => random.pick(&[0, 1, -1, i32::MIN, i32::MAX]),
+            _ => random.below(400) as i32,
+        })
+    }
+
+    /// A standard input of the program: readings, then a script.
+    pub fn input(&mut self, out: &mut Vec<u8>) {
+        match self.random.below(100) {
+            0..=39 => self.accepted(),
+            40..=69 => self.near_miss(),
+            70..=84 => self.wild(),
+            _ => self.terms.clear(),
+        }
+        if self.terms.is_empty() {
+            self.script(out);
+        } else {
+            write_unjudged(&self.terms, out);
+        }
+        let readings = self.readings().map(i32::to_be_bytes);
+        out.splice(0..0, readings.into_iter().flatten());
+        if self.random.percent(2) {
+            out.truncate(self.random.index(40));
+        }
+    }
+}

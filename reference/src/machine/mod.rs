@@ -1,0 +1,133 @@
+//! The store machine. It runs any rows of the right form, accepted by the
+//! check or not, and reports a fault where the run rules have no next step.
+
+mod store;
+
+use crate::form::*;
+use crate::refusal::*;
+use store::{Store, Value};
+
+pub use store::STORE_LEN;
+
+/// How many readings are lent.
+pub const READINGS: usize = 8;
+
+/// What a run without a fault gives.
+#[derive(Clone, Copy, Debug, PartialEq, Eq)]
+pub struct Ran {
+    pub answer: i32,
+    /// Cells taken.
+    pub cells: u32,
+}
+
+/// Judges by 2, 3, 4, then 12 to 19 with the store unchanged, then runs. A
+/// fault leaves the store as it was at that moment.
+pub fn run(rows: &[u32], readings: &[i32], store: &mut [u32]) -> Result<Ran, Refusal> {
+    if rows.len() != ROWS_LEN {
+        return Err(Refusal::by_caller(ROWS_LENGTH));
+    }
+    if store.len() != STORE_LEN {
+        return Err(Refusal::by_caller(STORE_LENGTH));
+    }
+    if readings.len() != READINGS {
+        return Err(Refusal::by_caller(READINGS_LENGTH));
+    }
+    let rows = as_rows(rows);
+    let judged = judge_all(rows)?;
+    let mut machine = Machine {
+        rows: &rows[..judged.terms],
+        readings,
+        next: 0,
+        store: Store::cleared(store),
+        opened: [0; 64],
+        count: 0,
+    };
+    let value = machine.term()?;
+    match value.as_number() {
+        Some(answer) => Ok(Ran {
+            answer,
+            cells: machine.store.cells,
+        }),
+        None => Err(Refusal::new(WRONG_KIND, 0)),
+    }
+}
+
+struct Machine<'a> {
+    rows: &'a [Row],
+    readings: &'a [i32],
+    /// The term that runs next.
+    next: usize,
+    store: Store<'a>,
+    /// The open variables in the order of their opening. No row is opened
+    /// twice without being closed between, so 64 are enough.
+    opened: [u8; 64],
+    count: usize,
+}
+
+impl Machine<'_> {
+    /// Runs the next term with everything inside it.
+    fn term(&mut self) -> Result<Value, Refusal> {
+        let term = self.next;
+        self.next += 1;
+        let [kind, a, b, c, d] = self.rows[term];
+        let store = &mut self.store;
+        let ran = match kind {
+            NUMBER => Ok(Value::number(a)),
+            READING => Ok(Value::number(self.readings[a as usize] as u32)),
+            COPY => store.copy(a, b),
+            MOVE => store.move_out(a, b),
+            SHARED | EXCLUSIVE => store.locate(a, b).map(Value::reference),
+            BELOW => below(store, (a, b), (c, d)),
+            BOX => {
+                let value = self.term()?;
+                Ok(self.store.open_cell(value))
+            }
+            LET => {
+                let value = self.term()?;
+                self.open(a, value)
+            }
+            ASSIGN => {
+                let value = self.term()?;
+                self.assign(a, b, value)
+            }
+            _ => return self.block(term, a),
+        };
+        ran.map_err(|number| Refusal::new(number, term))
+    }
+
+    fn open(&mut self, variable: u32, value: Value) -> Result<Value, u32> {
+        self.store.open(variable, value)?;
+        self.opened[self.count] = variable as u8;
+        self.count += 1;
+        Ok(Value::NONE)
+    }
+
+    fn assign(&mut self, variable: u32, follows: u32, value: Value) -> Result<Value, u32> {
+        let row = self.store.locate(variable, follows)?;
+        self.store.overwrite(row, value)?;
+        Ok(Value::NONE)
+    }
+
+    /// Runs a block. Its drops and closings are the block's own acts.
+    fn block(&mut self, term: usize, count: u32) -> Result<Value, Refusal> {
+        let acting = |number| Refusal::new(number, term);
+        let before = self.count;
+        for _ in 1..count {
+            let value = self.term()?;
+            self.store.drop_value(value).map_err(acting)?;
+        }
+        let last = self.term()?;
+        while self.count > before {
+            self.count -= 1;
+            self.store.close(self.opened[self.count]).map_err(acting)?;
+        }
+        Ok(last)
+    }
+}
+
+/// Reads the first place, then the second, each of which must be a number.
+fn below(store: &Store, first: (u32, u32), second: (u32, u32)) -> Result<Value, u32> {
+    let first = store.read_number(first.0, first.1)?;
+    let second = store.read_number(second.0, second.1)?;
+    Ok(Value::number((first < second) as u32))
+}

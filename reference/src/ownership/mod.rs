@@ -1,0 +1,119 @@
+//! The ownership check: terms judged in order against an environment.
+
+pub(crate) mod chain;
+pub(crate) mod environment;
+mod places;
+
+use crate::form::*;
+use crate::refusal::*;
+use chain::Link;
+use environment::{Environment, Place, Value};
+
+/// Judges term rows by 2, then 12 to 19, then the ownership rules, and
+/// answers the number of terms of an accepted script.
+pub fn check(rows: &[u32]) -> Result<u32, Refusal> {
+    if rows.len() != ROWS_LEN {
+        return Err(Refusal::by_caller(ROWS_LENGTH));
+    }
+    let rows = as_rows(rows);
+    let judged = judge_all(rows)?;
+    let mut judge = Judge {
+        rows: &rows[..judged.terms],
+        next: 0,
+        environment: Environment::new(),
+    };
+    match judge.term()? {
+        Some(answer) if answer.chain.is_number() => Ok(judged.terms as u32),
+        _ => Err(Refusal::new(ANSWER_NO_NUMBER, 0)),
+    }
+}
+
+struct Judge<'a> {
+    rows: &'a [Row],
+    /// The term that is judged next.
+    next: usize,
+    environment: Environment,
+}
+
+/// The place in a row's operands from `field` on.
+#[inline]
+fn place(row: &Row, field: usize) -> Place {
+    Place {
+        root: row[field] as u8,
+        follows: row[field + 1] as u8,
+    }
+}
+
+impl Judge<'_> {
+    /// Judges the next term with everything inside it. Let, assign and blocks
+    /// that end with them have no value.
+    fn term(&mut self) -> Result<Option<Value>, Refusal> {
+        let term = self.next;
+        self.next += 1;
+        let row = &self.rows[term];
+        let environment = &mut self.environment;
+        let judged = match row[0] {
+            NUMBER | READING => Ok(Value::NUMBER),
+            COPY => environment.copy(place(row, 1)),
+            MOVE => environment.move_out(place(row, 1)),
+            SHARED => environment.borrow_shared(place(row, 1)),
+            EXCLUSIVE => environment.borrow_exclusive(place(row, 1)),
+            BOX => return self.boxed(term).map(Some),
+            LET => return self.declared(term, row[1] as u8).map(|()| None),
+            ASSIGN => return self.assigned(term, place(row, 1)).map(|()| None),
+            BELOW => environment
+                .compared(place(row, 1))
+                .and_then(|()| environment.compared(place(row, 3)))
+                .map(|()| Value::NUMBER),
+            _ => return self.block(term, row[1]),
+        };
+        judged
+            .map(Some)
+            .map_err(|number| Refusal::new(number, term))
+    }
+
+    /// Judges the term inside another one, which needs a value of it.
+    fn inner(&mut self, outer: usize) -> Result<Value, Refusal> {
+        self.term()?.ok_or(Refusal::new(NO_VALUE, outer))
+    }
+
+    fn boxed(&mut self, term: usize) -> Result<Value, Refusal> {
+        let value = self.inner(term)?;
+        match value.chain.behind(Link::Box) {
+            Some(chain) => Ok(Value { chain, ..value }),
+            None => Err(Refusal::new(TOO_MANY_LINKS, term)),
+        }
+    }
+
+    fn declared(&mut self, term: usize, variable: u8) -> Result<(), Refusal> {
+        // The number is taken before the inner term, which must not declare
+        // it again.
+        if !self.environment.take(variable) {
+            return Err(Refusal::new(NUMBER_TAKEN, term));
+        }
+        let value = self.inner(term)?;
+        self.environment.declare(variable, value);
+        Ok(())
+    }
+
+    fn assigned(&mut self, term: usize, place: Place) -> Result<(), Refusal> {
+        // The right side goes first: it may move away what the place passes.
+        let value = self.inner(term)?;
+        self.environment
+            .assign(place, value)
+            .map_err(|number| Refusal::new(number, term))
+    }
+
+    fn block(&mut self, term: usize, count: u32) -> Result<Option<Value>, Refusal> {
+        let entered = self.environment.enter();
+        let mut last = None;
+        for _ in 0..count {
+            last = self.term()?;
+        }
+        if last.is_some_and(|value| self.environment.borrows_innermost(value)) {
+            return Err(Refusal::new(LIVES_TOO_SHORT, term));
+        }
+        self.environment.leave(entered);
+        Ok(last)
+    }
+}

@@ -1,0 +1,124 @@
+//! Terms as bytes, so that tests can be written close to the notation of the
+//! scope document, and the layers put together.
+
+#![allow(dead_code)]
+
+use reference::form::{HEADER, ROWS_LEN};
+use reference::machine::STORE_LEN;
+use reference::{check, read, run, Ran, Refusal};
+
+pub type Term = Vec<u8>;
+
+/// Variable and follows.
+pub type Place = (u8, u8);
+
+pub fn number(value: i32) -> Term {
+    let mut term = vec![0x01];
+    term.extend(value.to_be_bytes());
+    term
+}
+
+pub fn reading(index: u8) -> Term {
+    vec![0x02, index]
+}
+
+pub fn copy(place: Place) -> Term {
+    vec![0x03, place.0, place.1]
+}
+
+pub fn mov(place: Place) -> Term {
+    vec![0x04, place.0, place.1]
+}
+
+pub fn shared(place: Place) -> Term {
+    vec![0x05, place.0, place.1]
+}
+
+pub fn exclusive(place: Place) -> Term {
+    vec![0x06, place.0, place.1]
+}
+
+pub fn boxed(inner: Term) -> Term {
+    [vec![0x07], inner].concat()
+}
+
+/// So many boxes round a term.
+pub fn boxes(count: usize, inner: Term) -> Term {
+    [vec![0x07; count], inner].concat()
+}
+
+pub fn let_(variable: u8, inner: Term) -> Term {
+    [vec![0x08, variable], inner].concat()
+}
+
+pub fn assign(place: Place, right: Term) -> Term {
+    [vec![0x09, place.0, place.1], right].concat()
+}
+
+pub fn below(first: Place, second: Place) -> Term {
+    vec![0x0A, first.0, first.1, second.0, second.1]
+}
+
+pub fn block(terms: &[Term]) -> Term {
+    [vec![0x0B, terms.len() as u8], terms.concat()].concat()
+}
+
+/// A whole script with these terms in its outermost block.
+pub fn script(terms: &[Term]) -> Vec<u8> {
+    [HEADER.to_vec(), block(terms)].concat()
+}
+
+pub fn rows_of(script: &[u8]) -> Vec<u32> {
+    let mut rows = vec![7; ROWS_LEN];
+    read(script, &mut rows).expect("a script that can be read");
+    rows
+}
+
+pub fn refused<T>(number: u32, place: u32) -> Result<T, Refusal> {
+    Err(Refusal { number, place })
+}
+
+pub fn check_terms(terms: &[Term]) -> Result<u32, Refusal> {
+    check(&rows_of(&script(terms)))
+}
+
+/// Whether the check accepts, without the number of terms.
+pub fn judge(terms: &[Term]) -> Result<(), Refusal> {
+    check_terms(terms).map(|_| ())
+}
+
+pub const READINGS: [i32; 8] = [185, 200, 0, -1, i32::MIN, i32::MAX, 7, 1];
+
+/// Runs unchecked over a store that held something before.
+pub fn run_terms(terms: &[Term]) -> (Result<Ran, Refusal>, Vec<u32>) {
+    let mut store = vec![9; STORE_LEN];
+    let answer = run(&rows_of(&script(terms)), &READINGS, &mut store);
+    (answer, store)
+}
+
+pub fn fault(terms: &[Term]) -> Result<Ran, Refusal> {
+    run_terms(terms).0
+}
+
+pub fn ran<E>(answer: i32, cells: u32) -> Result<Ran, E> {
+    Ok(Ran { answer, cells })
+}
+
+/// The store row of a variable.
+pub fn variable_row(store: &[u32], variable: usize) -> [u32; 3] {
+    store[3 * variable..][..3].try_into().unwrap()
+}
+
+/// The store row of a cell.
+pub fn cell_row(store: &[u32], cell: usize) -> [u32; 3] {
+    variable_row(store, 64 + cell)
+}
+
+/// The store after a run of an accepted script with so many cells.
+pub fn tidy(cells: u32) -> Vec<u32> {
+    let mut store = vec![0; STORE_LEN];
+    for cell in 0..cells as usize {
+        store[3 * (64 + cell)] = 2;
+    }
+    store
+}

@@ -1,0 +1,168 @@
+//! The generators reach every answer, keep their promises, and depend on
+//! nothing but their seed.
+
+use reference::form::{MAX_BYTES, ROWS_LEN};
+use reference::{judge_rows, read, write, Generator};
+
+const SAMPLE: usize = 20_000;
+
+/// A simple checksum (FNV-1a) over what a generator made.
+fn mix(sum: u64, value: u64) -> u64 {
+    (sum ^ value).wrapping_mul(0x0000_0100_0000_01B3)
+}
+
+/// Sums over 500 rounds of scripts, rows, rows for the check, and inputs.
+fn sums(seed: u64) -> [u64; 4] {
+    let mut generator = Generator::new(seed);
+    let (mut bytes, mut rows) = (Vec::new(), Vec::new());
+    let mut sums = [0; 4];
+    let of_bytes = |sum, bytes: &[u8]| bytes.iter().fold(sum, |sum, byte| mix(sum, *byte as u64));
+    let of_rows = |sum, rows: &[u32]| rows.iter().fold(sum, |sum, field| mix(sum, *field as u64));
+    for _ in 0..500 {
+        generator.script(&mut bytes);
+        sums[0] = of_bytes(sums[0], &bytes);
+        generator.rows(&mut rows);
+        sums[1] = of_rows(sums[1], &rows);
+        generator.mixed_rows(&mut rows);
+        sums[2] = of_rows(sums[2], &rows);
+        generator.input(&mut bytes);
+        sums[3] = of_bytes(sums[3], &bytes);
+    }
+    sums
+}
+
+/// The sums are written down, so that another machine that made something
+/// else from the same seed would be noticed. They change with the generators.
+#[test]
+fn one_seed_gives_one_sequence() {
+    let expected = [
+        0x9914_27D0_A1ED_6531,
+        0x3BE9_5E76_0E26_DB40,
+        0xF70B_53CC_FBCA_2C5A,
+        0x6030_334B_909F_2B39,
+    ];
+    assert_eq!(sums(1), expected);
+    assert_ne!(sums(2), expected);
+}
+
+#[test]
+fn valid_scripts_are_read_and_written_back() {
+    let mut generator = Generator::new(3);
+    let mut script = Vec::new();
+    let mut rows = vec![7; ROWS_LEN];
+    let mut output = vec![0; MAX_BYTES];
+    for _ in 0..SAMPLE {
+        generator.valid_script(&mut script);
+        let terms = read(&script, &mut rows).expect("valid");
+        assert_eq!(judge_rows(&rows), Ok(terms));
+        assert_eq!(write(&rows, &mut output), Ok(script.len() as u32));
+        assert_eq!(output[..script.len()], script);
+    }
+}
+
+#[test]
+fn valid_rows_are_written_and_read_back() {
+    let mut generator = Generator::new(4);
+    let mut rows = Vec::new();
+    let mut output = vec![0; MAX_BYTES];
+    let mut again = vec![7; ROWS_LEN];
+    for _ in 0..SAMPLE {
+        generator.valid_rows(&mut rows);
+        let length = write(&rows, &mut output).expect("valid") as usize;
+        assert_eq!(read(&output[..length], &mut again), judge_rows(&rows));
+        assert_eq!(again, rows);
+    }
+}
+
+#[test]
+fn accepted_scripts_and_rows_correspond() {
+    let mut generator = Generator::new(5);
+    let (mut script, mut rows) = (Vec::new(), vec![7; ROWS_LEN]);
+    let mut output = vec![0; MAX_BYTES];
+    let mut again = vec![7; ROWS_LEN];
+    for _ in 0..SAMPLE {
+        generator.script(&mut script);
+        match read(&script, &mut rows) {
+            Ok(_) => {
+                assert_eq!(write(&rows, &mut output), Ok(script.len() as u32));
+                assert_eq!(output[..script.len()], script);
+            }
+            Err(refusal) if refusal.number >= 10 => assert!(rows.iter().all(|field| *field == 0)),
+            Err(refusal) => assert_eq!((refusal.number, refusal.place), (1, 0)),
+        }
+        generator.rows(&mut rows);
+        assert_eq!(rows.len(), ROWS_LEN);
+        if let Ok(length) = write(&rows, &mut output) {
+            assert_eq!(
+                read(&output[..length as usize], &mut again),
+                judge_rows(&rows)
+            );
+            assert_eq!(again, rows);
+        }
+    }
+}
+
+#[test]
+fn every_number_of_the_form_occurs() {
+    let mut generator = Generator::new(6);
+    let (mut script, mut rows) = (Vec::new(), vec![0; ROWS_LEN]);
+    let (mut reading, mut judging) = ([0; 20], [0; 20]);
+    for _ in 0..SAMPLE {
+        generator.script(&mut script);
+        let answer = read(&script, &mut rows);
+        reading[answer.map_or_else(|refusal| refusal.number as usize, |_| 0)] += 1;
+        generator.rows_any_length(&mut rows);
+        let answer = judge_rows(&rows);
+        judging[answer.map_or_else(|refusal| refusal.number as usize, |_| 0)] += 1;
+        rows.resize(ROWS_LEN, 0);
+    }
+    for number in [0, 1].into_iter().chain(10..=19) {
+        assert!(reading[number] > 20, "reading {number}: {reading:?}");
+    }
+    for number in [0, 2, 12, 13, 14, 15, 17, 18, 19] {
+        assert!(judging[number] > 20, "rows {number}: {judging:?}");
+    }
+    // 512 rows cannot hold a 513th term.
+    assert_eq!(judging[16], 0);
+}
+
+#[test]
+fn shapes_reach_the_limits() {
+    let mut generator = Generator::new(7);
+    let mut rows = Vec::new();
+    let (mut deepest, mut widest, mut most_terms, mut most_boxes) = (0, 0, 0, 0);
+    let mut kinds = [0; 12];
+    for _ in 0..SAMPLE {
+        generator.valid_rows(&mut rows);
+        let terms = judge_rows(&rows).expect("valid") as usize;
+        let used: Vec<&[u32]> = rows.chunks(5).take(terms).collect();
+        used.iter().for_each(|row| kinds[row[0] as usize] += 1);
+        most_terms = most_terms.max(terms);
+        most_boxes = most_boxes.max(used.iter().filter(|row| row[0] == 7).count());
+        widest = widest.max(
+            used.iter()
+                .filter(|row| row[0] == 11)
+                .map(|row| row[1])
+                .max()
+                .unwrap(),
+        );
+        deepest = deepest.max(levels(&used, &mut 0));
+    }
+    assert_eq!(
+        (deepest, widest, most_terms, most_boxes),
+        (16, 255, 512, 64)
+    );
+    assert!(kinds[1..].iter().all(|count| *count > 10_000), "{kinds:?}");
+}
+
+/// The levels of the term at `at`, which is moved past it.
+fn levels(rows: &[&[u32]], at: &mut usize) -> usize {
+    let row = rows[*at];
+    *at += 1;
+    let inner = match row[0] {
+        11 => row[1],
+        7..=9 => 1,
+        _ => 0,
+    };
+    1 + (0..inner).map(|_| levels(rows, at)).max().unwrap_or(0)
+}

@@ -1,0 +1,51 @@
+//! The line of the program.
+
+mod common;
+
+use common::*;
+use reference::roomcheck;
+
+fn line(readings: [i32; 8], script: &[u8]) -> String {
+    let readings = readings.map(i32::to_be_bytes).concat();
+    roomcheck(&[&readings[..], script].concat())
+}
+
+#[test]
+fn lines_of_the_scope_document() {
+    let e1 = script(&[
+        let_(0, reading(0)),
+        let_(1, reading(1)),
+        let_(2, shared((0, 0))),
+        below((2, 1), (1, 0)),
+    ]);
+    assert_eq!(
+        line([185, 200, 0, 0, 0, 0, 0, 0], &e1),
+        "accepted 8 call 1 cells 0"
+    );
+    assert_eq!(
+        line([200, 200, 0, 0, 0, 0, 0, 0], &e1),
+        "accepted 8 call 0 cells 0"
+    );
+    let e2 = script(&[let_(0, number(5)), let_(1, exclusive((0, 0))), copy((0, 0))]);
+    assert_eq!(line([0; 8], &e2), "refused 34 at 5");
+}
+
+#[test]
+fn short_readings() {
+    for length in 0..32 {
+        assert_eq!(roomcheck(&vec![0; length]), "readings short");
+    }
+    assert_eq!(roomcheck(&[0; 32]), "refused 12 at 0");
+    assert_eq!(roomcheck(&[0; 32 + 4096]), "refused 10 at 0");
+    assert_eq!(roomcheck(&[0; 32 + 4097]), "refused 1 at 0");
+}
+
+#[test]
+fn answers_are_signed_and_cells_are_counted() {
+    let negative = script(&[boxed(number(1)), boxed(number(2)), reading(7)]);
+    let readings = [0, 0, 0, 0, 0, 0, 0, i32::MIN];
+    assert_eq!(
+        line(readings, &negative),
+        "accepted 6 call -2147483648 cells 2"
+    );
+}
