@@ -1,19 +1,18 @@
 -- The fields of a row after its kind, as the reader reads them and as the code tests them: each fault is 14 at the row.
-use Prim.Native.Nat.{ℕ, zero, suc, _+_, _*_, _-_, _/_, _≤_, _<_}
+use Prim.Native.Nat.{ℕ, zero, suc, _+_, _*_, _/_, _≤_}
 use native.Mathlib.Omega.{arith}
 use mathlib.Core.Path.{_≡_, refl, sym, ap, _∙_}
 use mathlib.Core.Bool.{Bool, true, false, _&&_}
 use mathlib.Core.List.{List, [], _∷_, _++_}
 use lib.ListN.{length, take, drop}
 use lib.Dec.{leb, ltb, eqb, leb·zero}
-use borrow.Author.Tests.{lt-ltb, le-ltb, eq-eqb, ne-eqb}
-use Rattle.reader.specs.Result.{Result, ok, err, Refusal, pick}
+use borrow.Author.Tests.{le-ltb, ne-eqb}
+use Rattle.reader.specs.Result.{ok, err, pick}
 use Rattle.reader.specs.Limits.{base}
 use Rattle.reader.specs.Kinds.{Kind, byteOf, kindOf, Field, word, until, fields}
 use Rattle.reader.specs.Layout.{inRows}
-use Rattle.reader.specs.Reader.{Cursor, Reads, _>>=_, done, placeIn, expect, peek, skip, next, ranged, field, operands, zeroFields}
-use Rattle.reader.specs.Parts.{cursor, fieldsOf}
-use Rattle.reader.specs.Parts.{placeFields}
+use Rattle.reader.specs.Reader.{Cursor, _>>=_, done, placeIn, expect, peek, skip, next, ranged, field, operands, zeroFields}
+use Rattle.reader.specs.Parts.{cursor, placeFields, fieldsOf}
 use Rattle.reader.specs.RowParts.{fieldFits, fieldsFit}
 use Rattle.reader.proofs.Answers.{go-on, stops}
 use Rattle.reader.proofs.KindBytes.{has}

@@ -4,15 +4,15 @@ use native.Mathlib.Omega.{arith}
 use native.Mathlib.Numerals.{sub-one}
 use mathlib.Core.Path.{_≡_, refl, sym, ap, _∙_}
 use mathlib.Core.Bool.{Bool, true, false, false≢true, _&&_}
-use mathlib.Core.Option.{Option, some}
-use mathlib.Core.List.{List, [], _∷_, _++_}
+use mathlib.Core.Option.{some}
+use mathlib.Core.List.{List, [], _∷_}
 use lib.ListN.{length, take, drop, getD}
 use lib.Seq.{getD-drop, drop-drop, drop-at}
 use lib.Dec.{leb, ltb, eqb}
 use borrow.Author.Tests.{leb-true, ne-eqb}
 use Rattle.reader.specs.Result.{Result, ok, err, Refusal, pick}
 use Rattle.reader.specs.Limits.{base}
-use Rattle.reader.specs.Script.{Term, Terms, number, last, more}
+use Rattle.reader.specs.Script.{Term, Terms, number}
 use Rattle.reader.specs.Kinds.{Kind, kNumber, kReading, kCopy, kMove, kShared, kExclusive, kBox, kLet, kAssign, kBelow, kBlock, byteOf, kindOf, fields}
 use Rattle.reader.specs.Layout.{inRows, lay}
 use Rattle.reader.specs.Reader.{Cursor, Reads, done, boxesOf, several, built, term}
@@ -26,7 +26,7 @@ use Rattle.reader.proofs.Answers.{go-on, stops}
 use Rattle.reader.proofs.KindBytes.{has, found}
 use Rattle.reader.proofs.TermSteps.{Leaf, leafNumber, leafReading, leafCopy, leafMove, leafShared, leafExclusive, leafBelow, Around, aroundBox, aroundLet, aroundAssign, leaf-ok, around-err, around-ok, block-err, block-ok}
 use Rattle.reader.proofs.Lengths.{laid-rows}
-use Rattle.reader.proofs.Sound.{Read, sound}
+use Rattle.reader.proofs.Sound.{sound}
 use Rattle.reader.proofs.RowTerms.{boxes-of, Enters, Judges, row-judged}
 
 -- What a span says of the answer that it is of.

@@ -1,9 +1,9 @@
 -- The term at a row, by the number that the code finds there: the refusal at the row, or what the row's kind builds from the next row on.
-use Prim.Native.Nat.{ℕ, zero, suc, _+_, _*_, _-_, _≤_, _<_}
+use Prim.Native.Nat.{ℕ, suc, _+_, _*_, _-_, _≤_, _<_}
 use native.Mathlib.Omega.{arith}
-use mathlib.Core.Path.{_≡_, refl, sym, ap, _∙_}
+use mathlib.Core.Path.{_≡_, refl, ap, _∙_}
 use mathlib.Core.Bool.{Bool, true, false, true≢false, false≢true, not, _&&_, _||_}
-use mathlib.Core.Option.{Option, none, some}
+use mathlib.Core.Option.{some}
 use mathlib.Core.List.{List, [], _∷_, _++_}
 use lib.ListN.{length, take, drop, getD, length-drop, drop-of-length-le}
 use lib.Seq.{drop-cons, length-take-le}
@@ -12,12 +12,12 @@ use borrow.Author.Tests.{leb-true, leb-false, ltb-true, ltb-false, eqb-true, eqb
 use Rattle.reader.specs.Result.{Result, ok, err, Refusal, pick}
 use Rattle.reader.specs.Limits.{base}
 use Rattle.reader.specs.Script.{Term}
-use Rattle.reader.specs.Kinds.{Kind, kNumber, kReading, kCopy, kMove, kShared, kExclusive, kBox, kLet, kAssign, kBelow, kBlock, byteOf, kindOf, Field, fields}
+use Rattle.reader.specs.Kinds.{Kind, kNumber, kReading, kCopy, kMove, kShared, kExclusive, kBox, kLet, kAssign, kBelow, kBlock, byteOf, kindOf, fields}
 use Rattle.reader.specs.Layout.{inRows}
 use Rattle.reader.specs.Reader.{Cursor, placeIn, operands, zeroFields, restOfRow, is, boxesOf, ended, opening, built, term}
-use Rattle.reader.specs.Parts.{IsKind, cursor, fieldsOf}
+use Rattle.reader.specs.Parts.{cursor}
 use Rattle.reader.specs.RowParts.{fieldAt, fieldsAt, fieldsFit, rowNumber, rowCursor, termRows}
-use Rattle.reader.proofs.KindBytes.{found, not-ended}
+use Rattle.reader.proofs.KindBytes.{found}
 use Rattle.reader.proofs.KnownKinds.{kind-some, kind-none, fields-of}
 use Rattle.reader.proofs.TermSteps.{past, opening-12, opening-12-row, opening-13, opening-18, opening-ok, term-refused, term-deep, term-boxes, term-operands-refused, term-row-refused, term-built}
 use Rattle.reader.proofs.RowFields.{operandsFit, fit-parts, operands-read, zeros-read}
@@ -36,7 +36,7 @@ fields-few kAssign = omega arith
 fields-few kBelow = omega arith
 fields-few kBlock = omega arith
 
-pub row-place : (i : ℕ) → placeIn inRows (5 * i) ≡ i
+row-place : (i : ℕ) → placeIn inRows (5 * i) ≡ i
 unfolding placeIn
 row-place i = omega arith
 

@@ -1,23 +1,21 @@
 -- What `judge_rows` answers, from the span of the outermost term and the first number after it that is not 0.
-use Prim.Native.Nat.{ℕ, suc, _+_, _*_, _/_, _≤_, _<_}
+use Prim.Native.Nat.{ℕ, _+_, _*_, _/_, _≤_, _<_}
 use native.Mathlib.Omega.{arith}
 use mathlib.Core.Path.{_≡_, refl, sym, ap, _∙_}
-use mathlib.Core.Bool.{Bool, true, false}
+use mathlib.Core.Bool.{true}
 use mathlib.Core.List.{List}
 use lib.ListN.{length, drop, length-drop}
 use lib.Dec.{ltb, eqb}
 use borrow.Author.Tests.{lt-ltb, le-ltb, eq-eqb, ne-eqb}
-use Rattle.reader.specs.Result.{Result, ok, err, need, Refusal, pick, _>>=_ as _&_}
+use Rattle.reader.specs.Result.{Result, ok, err, need, Refusal, pick}
 use Rattle.reader.specs.Limits.{base, rowNumbers}
 use Rattle.reader.specs.Script.{Term}
 use Rattle.reader.specs.Layout.{inRows}
-use Rattle.reader.specs.Reader.{Cursor, _>>=_, done, nothingLeft, over, script, term, answer, start, decode}
+use Rattle.reader.specs.Reader.{Cursor, done, nothingLeft, over, script, term, answer, start, decode}
 use Rattle.reader.specs.Measures.{size}
 use Rattle.reader.specs.Answers.{told, rowsTree, judgedOf}
-use Rattle.reader.specs.RowParts.{rowCursor, termRows, spanOf, firstUsed}
-use Rattle.reader.specs.declared.Outcome.{Outcome}
+use Rattle.reader.specs.RowParts.{termRows, spanOf, firstUsed}
 use Rattle.reader.specs.declared.Outcome.the-variants as outcome
-use Rattle.reader.specs.declared.rows.Span.{Span}
 use Rattle.reader.specs.declared.rows.Span.the-variants as span
 use Rattle.reader.proofs.Answers.{after, stop, need-ok, need-err, go-on, stops}
 use Rattle.reader.proofs.LeftOver.{left-judged}

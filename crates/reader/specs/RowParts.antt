@@ -1,10 +1,11 @@
 -- What the parts of the row judge's code answer. No rule of 01 is stated here.
-use Prim.Native.Nat.{ℕ, zero, suc, _+_, _*_, _-_, _≤_}
+use Prim.Native.Nat.{ℕ, suc, _+_, _*_, _-_, _≤_}
 use mathlib.Core.Path.{_≡_}
 use mathlib.Core.Bool.{Bool, true, false, not, _&&_}
 use mathlib.Core.List.{List, [], _∷_}
 use lib.ListN.{length, getD, drop}
 use lib.Dec.{leb, ltb, eqb}
+use lib.Bits.{bitOr}
 use Rattle.reader.specs.Result.{Result, ok, err, Refusal, pick}
 use Rattle.reader.specs.Limits.{base}
 use Rattle.reader.specs.Script.{Term, Terms}
@@ -66,9 +67,10 @@ unfoldable pub spanOf : {A : Type 0} → Result Refusal (A × Cursor) → Span
 spanOf (ok o) = Fine (o .1 .terms) (o .1 .boxes)
 spanOf (err e) = Refused (e .0) (e .1)
 
-unfoldable pub sum : List ℕ → ℕ
-sum [] = 0
-sum (x ∷ xs) = x + sum xs
+-- The bits of b and of every number of the list.
+unfoldable pub bitsOf : ℕ → List ℕ → ℕ
+bitsOf b [] = b
+bitsOf b (x ∷ xs) = bitsOf (bitOr b x) xs
 
 -- Where the first number that is not 0 stands, counted from k.
 unfoldable pub firstUsed : ℕ → List ℕ → ℕ

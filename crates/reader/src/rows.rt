@@ -4,9 +4,8 @@ ghost use mathlib.Core.List.{_∷_, []};
 ghost use Prim.Native.Nat.{_+_, _*_, _<_, _≤_};
 ghost use lib.ListN.{length, drop};
 ghost use Rattle.reader.specs.Kinds.{until};
-ghost use Rattle.reader.specs.Parts.{IsKind, boxesWith, fieldsOf};
-ghost use Rattle.reader.specs.Parts.{placeFields};
-ghost use Rattle.reader.specs.RowParts.{fieldAt, fieldsFit, rowNumber, RowsReady, termRows, blockRows, spanOf, sum, firstUsed};
+ghost use Rattle.reader.specs.Parts.{IsKind, placeFields, boxesWith, fieldsOf};
+ghost use Rattle.reader.specs.RowParts.{fieldAt, fieldsFit, rowNumber, RowsReady, termRows, blockRows, spanOf, bitsOf, firstUsed};
 use crate::limits;
 
 // The row past what was judged, with the boxes met so far; or the refusal and its row.
@@ -70,7 +69,7 @@ fn fields_fit(kind: u32, a: u32, b: u32, c: u32, d: u32) -> bool
 }
 
 // The number of the refusal at row i, in 01's order 12, 13, 18, 15, 17, 14; 0 where there is none.
-// 16 cannot be met: 512 rows hold no term more. `outer` says that the term must be a block.
+// 16 cannot be met, since 512 rows hold no more than 512 terms. `outer` says that the term must be a block.
 fn row_number(rows: &[u32], i: usize, levels: usize, outer: bool, boxes: usize) -> u32
     requires { ⌜ length (now rows) ≡ 2560 ⌝ }
     ensures { λ r. ⌜ r ≡ rowNumber levels outer (now (rows .entry)) i boxes ⌝ }
@@ -115,12 +114,6 @@ fn boxes_with(kind: u32, boxes: usize) -> usize
     if kind == 7 { boxes + 1 } else { boxes }
 }
 
-fn wide(x: u32) -> usize
-    ensures { λ r. ⌜ r ≡ x ⌝ }
-{
-    x as usize
-}
-
 // The term at row i, nested at most as deep as levels says, after so many boxes.
 pub fn judge_term(rows: &[u32], i: usize, levels: usize, outer: bool, boxes: usize) -> Span
     requires { ⌜ RowsReady (now rows) boxes ⌝ }
@@ -139,7 +132,7 @@ pub fn judge_term(rows: &[u32], i: usize, levels: usize, outer: bool, boxes: usi
             judge_term(rows, next, deeper, false, boxed)
         }
         11 => {
-            let count = wide(field_at(rows, i, 1));
+            let count = field_at(rows, i, 1) as usize;
             judge_block(rows, next, count, deeper, boxes)
         }
         _ => Span::Fine(next, boxes),
@@ -147,7 +140,7 @@ pub fn judge_term(rows: &[u32], i: usize, levels: usize, outer: bool, boxes: usi
 }
 
 // count terms one after the other from row i on, one at least.
-pub fn judge_block(rows: &[u32], i: usize, count: usize, levels: usize, boxes: usize) -> Span
+fn judge_block(rows: &[u32], i: usize, count: usize, levels: usize, boxes: usize) -> Span
     requires { ⌜ RowsReady (now rows) boxes × (0 < count) ⌝ }
     ensures { λ r. ⌜ r ≡ spanOf (blockRows levels count (now (rows .entry)) i boxes) ⌝ }
 {
@@ -166,27 +159,26 @@ pub fn judge_block(rows: &[u32], i: usize, count: usize, levels: usize, boxes: u
     Span::Fine(next, boxed)
 }
 
-// All numbers from `from` on together. Nothing leaves the loop early, so it becomes vector code.
-fn sum_from(rows: &[u32], from: usize) -> u64
-    requires { ⌜ (length (now rows) ≡ 2560) × (from ≤ 2560) ⌝ }
-    ensures { λ r. ⌜ r ≡ sum (drop from (now (rows .entry))) ⌝ }
+// The bits that any number from `from` on has. Nothing leaves the loop early, so it becomes vector code.
+fn bits_from(rows: &[u32], from: usize) -> u32
+    ensures { λ r. ⌜ r ≡ bitsOf 0 (drop from (now (rows .entry))) ⌝ }
 {
-    let mut total: u64 = 0;
+    let mut bits: u32 = 0;
     let mut i = from;
     while i < rows.len() {
-        total += rows[i] as u64;
+        bits |= rows[i];
         i += 1;
     }
-    total
+    bits
 }
 
 // Where the first number from `from` on that is not 0 stands; the length where there is none.
-// In almost all rows there is none, so that is found out first, by the faster loop.
+// Rows that were read from bytes have none, so that is found out first, by the faster loop.
 pub fn first_used(rows: &[u32], from: usize) -> usize
-    requires { ⌜ (length (now rows) ≡ 2560) × (from ≤ 2560) ⌝ }
+    requires { ⌜ from ≤ length (now rows) ⌝ }
     ensures { λ r. ⌜ r ≡ firstUsed from (drop from (now (rows .entry))) ⌝ }
 {
-    if sum_from(rows, from) == 0 {
+    if bits_from(rows, from) == 0 {
         return rows.len();
     }
     let mut i = from;

@@ -1,12 +1,10 @@
--- `reader::rows/all_zero` meets its contract. Assumes nothing.
+-- `reader::rows::all_zero` meets its contract: each field is tested in turn, as `fieldsFit` does where no operand is left. Assumes nothing.
+use mathlib.Core.Path.{sym}
+use borrow.Author.Tests.{eq-eqb, ne-eqb}
 use Rattle.reader.specs.RowParts.{fieldsFit}
 use Rattle.reader.proofs.RowFields.{and-true}
-use borrow.Author.Tests.{eq-eqb, ne-eqb}
-use mathlib.Core.Path.{sym}
 use Rattle.reader.proofs.rows.all_zero.Statement.{statement}
 use Rattle.reader.proofs.rows.all_zero.Tie as tie
-use Rattle.reader.proofs.rows.all_zero.Reads as reads
-use Rattle.reader.proofs.rows.all_zero.Lts as lts
 
 returns : tie.Need-returns
 unfolding fieldsFit

@@ -1,20 +1,15 @@
--- `reader::rows/fields_fit` meets its contract. Assumes nothing.
+-- `reader::rows::fields_fit` meets its contract: each arm tests the operands of its kinds, and the last arm those of the kinds with one place. Assumes nothing.
+use mathlib.Core.Path.{sym, _∙_}
+use mathlib.Core.List.{[], _∷_}
+use borrow.Author.Needs.{needs}
 use Rattle.reader.specs.Kinds.{byteOf, fields, kNumber, kReading, kBox, kLet, kBelow, kBlock}
 use Rattle.reader.specs.Limits.{base}
 use Rattle.reader.specs.Parts.{placeFields}
 use Rattle.reader.specs.RowParts.{fieldFits, fieldsFit}
 use Rattle.reader.proofs.KnownKinds.{fields-place}
 use Rattle.reader.proofs.RowFields.{place-then, place-else, fields-by}
-use borrow.Author.Needs.{needs}
-use mathlib.Core.Path.{sym, _∙_}
-use mathlib.Core.List.{[], _∷_}
 use Rattle.reader.proofs.rows.fields_fit.Statement.{statement}
 use Rattle.reader.proofs.rows.fields_fit.Tie as tie
-use Rattle.reader.proofs.rows.fields_fit.Reads as reads
-use Rattle.reader.proofs.rows.fields_fit.Lts as lts
-use Rattle.reader.proofs.rows.all_zero.Reads as all-zero-reads
-use Rattle.reader.proofs.rows.one_fits.Reads as one-fits-reads
-use Rattle.reader.proofs.rows.place_fits.Reads as place-fits-reads
 
 all-zero-requires : tie.Need-all-zero-requires
 all-zero-requires c κs = search needs
@@ -74,13 +69,18 @@ returns-7 c = rw (fields-by kBlock _ (c .before .match .keys6)) (c .one-fits3 .e
 returns-8 : tie.Need-returns-8
 unfolding fieldsFit
 returns-8 c =
-    let n = c .before .before .before .match .rest in
-    rw (fields-place _ (n .0 .0 .0 .0 .0 .1) (n .0 .0 .0 .0 .1) (n .0 .0 .0 .1) (n .0 .0 .1) (n .0 .1) (n .1) (c .before .before .before .before .pre)) (c .all-zero3 .ensures ∙ sym (place-then _ _ [] (c .before .before .before .before .args .c ∷ c .before .before .before .before .args .d ∷ []) (sym (c .before .before .place-fits3 .ensures) ∙ c .before .if2 .taken)))
+    let m = c .before .before .before in
+    let s = m .before in
+    let n = m .match .rest in
+    rw (fields-place _ (n .0 .0 .0 .0 .0 .1) (n .0 .0 .0 .0 .1) (n .0 .0 .0 .1) (n .0 .0 .1) (n .0 .1) (n .1) (s .pre))
+    (c .all-zero3 .ensures ∙ sym (place-then _ _ [] (s .args .c ∷ s .args .d ∷ []) (sym (c .before .before .place-fits3 .ensures) ∙ c .before .if2 .taken)))
 
 returns-9 : tie.Need-returns-9
 returns-9 c =
-    let n = c .before .before .match .rest in
-    rw (fields-place _ (n .0 .0 .0 .0 .0 .1) (n .0 .0 .0 .0 .1) (n .0 .0 .0 .1) (n .0 .0 .1) (n .0 .1) (n .1) (c .before .before .before .pre)) (c .if2 .left ∙ sym (place-else _ _ [] _ (sym (c .before .place-fits3 .ensures) ∙ c .if2 .left)))
+    let m = c .before .before in
+    let n = m .match .rest in
+    rw (fields-place _ (n .0 .0 .0 .0 .0 .1) (n .0 .0 .0 .0 .1) (n .0 .0 .0 .1) (n .0 .0 .1) (n .0 .1) (n .1) (m .before .pre))
+    (c .if2 .left ∙ sym (place-else _ _ [] _ (sym (c .before .place-fits3 .ensures) ∙ c .if2 .left)))
 
 pub fields-fit-spec : {M : Type 1} → statement M
 fields-fit-spec =

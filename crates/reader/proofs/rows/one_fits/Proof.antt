@@ -1,12 +1,9 @@
--- `reader::rows/one_fits` meets its contract. Assumes nothing.
-use Rattle.reader.specs.RowParts.{fieldFits, fieldsFit}
+-- `reader::rows::one_fits` meets its contract. Assumes nothing.
 use borrow.Author.Needs.{needs}
 use borrow.Author.Tests.{lt-ltb, le-ltb, le-leb, lt-leb}
+use Rattle.reader.specs.RowParts.{fieldFits, fieldsFit}
 use Rattle.reader.proofs.rows.one_fits.Statement.{statement}
 use Rattle.reader.proofs.rows.one_fits.Tie as tie
-use Rattle.reader.proofs.rows.one_fits.Reads as reads
-use Rattle.reader.proofs.rows.one_fits.Lts as lts
-use Rattle.reader.proofs.rows.all_zero.Reads as all-zero-reads
 
 returns : tie.Need-returns
 unfolding fieldsFit fieldFits

@@ -1,13 +1,11 @@
--- `reader::rows/place_fits` meets its contract. Assumes nothing.
-use Rattle.reader.specs.RowParts.{fieldFits, fieldsFit}
-use Rattle.reader.proofs.RowFields.{and-true}
-use borrow.Author.Tests.{lt-ltb, le-ltb}
+-- `reader::rows::place_fits` meets its contract. Assumes nothing.
 use mathlib.Core.Path.{sym}
 use lib.Dec.{leb·zero}
+use borrow.Author.Tests.{lt-ltb, le-ltb}
+use Rattle.reader.specs.RowParts.{fieldFits, fieldsFit}
+use Rattle.reader.proofs.RowFields.{and-true}
 use Rattle.reader.proofs.rows.place_fits.Statement.{statement}
 use Rattle.reader.proofs.rows.place_fits.Tie as tie
-use Rattle.reader.proofs.rows.place_fits.Reads as reads
-use Rattle.reader.proofs.rows.place_fits.Lts as lts
 
 returns : tie.Need-returns
 unfolding fieldsFit fieldFits

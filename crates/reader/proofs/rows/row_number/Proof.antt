@@ -1,20 +1,16 @@
 -- `reader::rows::row_number` meets its contract: the code's tests, in order, are those of `rowNumber`. Assumes nothing.
-use borrow.Author.Needs.{needs}
-use borrow.Author.Tests.{eq-eqb, ne-eqb, lt-ltb, le-ltb, le-leb, lt-leb}
 use Prim.Native.Nat.{ℕ, _<_}
 use mathlib.Core.Path.{_≡_, refl, ap}
 use mathlib.Core.Logic.{⊎-elim}
 use mathlib.Core.Bool.{Bool, true, false, not, _&&_}
 use lib.Dec.{leb, eqb}
+use borrow.Author.Needs.{needs}
+use borrow.Author.Tests.{eq-eqb, ne-eqb, lt-ltb, le-ltb, le-leb, lt-leb}
 use Rattle.reader.specs.RowParts.{rowNumber}
 use Rattle.reader.proofs.rows.row_number.Statement.{statement}
 use Rattle.reader.proofs.rows.row_number.Tie as tie
-use Rattle.reader.proofs.rows.row_number.Reads as reads
-use Rattle.reader.proofs.rows.row_number.Lts as lts
-use Rattle.reader.proofs.rows.field_at.Reads as field-at-reads
-use Rattle.reader.proofs.rows.fields_fit.Reads as fields-fit-reads
 
--- The two tests that look at the kind and at something else: where they do not refuse.
+-- The tests that look at the kind and at something else: where they do not refuse.
 block-stands : (outer : Bool) (kind : ℕ) → kind ≡ 11 → (outer && not (eqb kind 11)) ≡ false
 block-stands true kind e = ap not (eq-eqb kind 11 e)
 block-stands false kind e = refl
@@ -54,18 +50,23 @@ returns-4 c = rw (lt-leb _ _ (c .before .before .before .before .before .if1 .le
 returns-5 : tie.Need-returns-5
 unfolding rowNumber
 returns-5 c =
-    let kind = c .before .before .before .before .field-at .result in
-    let outer = c .before .before .before .before .before .before .before .args .outer in
-    let o : (outer && not (eqb kind 11)) ≡ false = ⊎-elim (λ w. block-stands outer kind (w .1 .left)) (λ w. inner-stands outer kind (w .left)) (c .before .if4 .came) in
-    rw (lt-leb _ _ (c .before .before .before .before .before .if1 .left), ← c .before .before .before .before .field-at .ensures, ne-eqb _ _ (c .before .before .before .if2 .left), le-ltb _ _ (c .before .before .if3 .left), o, eq-eqb _ _ (c .if6 .taken))
+    let known = c .before .before in
+    let read = known .before .before in
+    let kind = read .field-at .result in
+    let outer = read .before .before .before .args .outer in
+    let stands : (outer && not (eqb kind 11)) ≡ false = ⊎-elim (λ w. block-stands outer kind (w .1 .left)) (λ w. inner-stands outer kind (w .left)) (c .before .if4 .came) in
+    rw (lt-leb _ _ (read .before .if1 .left), ← read .field-at .ensures, ne-eqb _ _ (known .before .if2 .left), le-ltb _ _ (known .if3 .left), stands, eq-eqb _ _ (c .if6 .taken))
 
 returns-6 : tie.Need-returns-6
 unfolding rowNumber
 returns-6 c =
-    let kind = c .before .before .before .before .before .before .field-at .result in
-    let outer = c .before .before .before .before .before .before .before .before .before .args .outer in
-    let o : (outer && not (eqb kind 11)) ≡ false = ⊎-elim (λ w. block-stands outer kind (w .1 .left)) (λ w. inner-stands outer kind (w .left)) (c .before .before .before .if4 .came) in
-    rw (lt-leb _ _ (c .before .before .before .before .before .before .before .if1 .left), ← c .before .before .before .before .before .before .field-at .ensures, ne-eqb _ _ (c .before .before .before .before .before .if2 .left), le-ltb _ _ (c .before .before .before .before .if3 .left), o, ne-eqb _ _ (c .before .before .if6 .left), eq-eqb _ _ (c .before .if7 .taken), le-leb _ _ (c .if8 .taken))
+    let level = c .before .before in
+    let known = level .before .before in
+    let read = known .before .before in
+    let kind = read .field-at .result in
+    let outer = read .before .before .before .args .outer in
+    let stands : (outer && not (eqb kind 11)) ≡ false = ⊎-elim (λ w. block-stands outer kind (w .1 .left)) (λ w. inner-stands outer kind (w .left)) (level .before .if4 .came) in
+    rw (lt-leb _ _ (read .before .if1 .left), ← read .field-at .ensures, ne-eqb _ _ (known .before .if2 .left), le-ltb _ _ (known .if3 .left), stands, ne-eqb _ _ (level .if6 .left), eq-eqb _ _ (c .before .if7 .taken), le-leb _ _ (c .if8 .taken))
 
 field-at-requires-2 : tie.Need-field-at-requires-2
 field-at-requires-2 c κs = search needs
@@ -85,22 +86,30 @@ fields-fit-requires c κs = search needs
 returns-7 : tie.Need-returns-7
 unfolding rowNumber
 returns-7 c =
-    let kind = c .before .before .before .before .before .before .before .before .before .before .before .field-at .result in
-    let outer = c .before .before .before .before .before .before .before .before .before .before .before .before .before .before .args .outer in
-    let o : (outer && not (eqb kind 11)) ≡ false = ⊎-elim (λ w. block-stands outer kind (w .1 .left)) (λ w. inner-stands outer kind (w .left)) (c .before .before .before .before .before .before .before .before .if4 .came) in
-    let boxes = c .before .before .before .before .before .before .before .before .before .before .before .before .before .before .args .boxes in
-    let m : (eqb kind 7 && leb 64 boxes) ≡ false = ⊎-elim (λ w. room-left kind boxes (w .1 .left)) (λ w. no-box kind boxes (w .left)) (c .before .before .before .before .before .before .if7 .came) in
-    rw (lt-leb _ _ (c .before .before .before .before .before .before .before .before .before .before .before .before .if1 .left), ← c .before .before .before .before .before .before .before .before .before .before .before .field-at .ensures, ne-eqb _ _ (c .before .before .before .before .before .before .before .before .before .before .if2 .left), le-ltb _ _ (c .before .before .before .before .before .before .before .before .before .if3 .left), o, ne-eqb _ _ (c .before .before .before .before .before .before .before .if6 .left), m, ← c .before .before .before .before .before .field-at2 .ensures, ← c .before .before .before .before .field-at3 .ensures, ← c .before .before .before .field-at4 .ensures, ← c .before .before .field-at5 .ensures, ← c .before .fields-fit .ensures, c .if9 .taken)
+    let fields = c .before .before in
+    let level = fields .before .before .before .before .before in
+    let known = level .before .before in
+    let read = known .before .before in
+    let kind = read .field-at .result in
+    let outer = read .before .before .before .args .outer in
+    let boxes = read .before .before .before .args .boxes in
+    let stands : (outer && not (eqb kind 11)) ≡ false = ⊎-elim (λ w. block-stands outer kind (w .1 .left)) (λ w. inner-stands outer kind (w .left)) (level .before .if4 .came) in
+    let room : (eqb kind 7 && leb 64 boxes) ≡ false = ⊎-elim (λ w. room-left kind boxes (w .1 .left)) (λ w. no-box kind boxes (w .left)) (fields .before .before .before .before .if7 .came) in
+    rw (lt-leb _ _ (read .before .if1 .left), ← read .field-at .ensures, ne-eqb _ _ (known .before .if2 .left), le-ltb _ _ (known .if3 .left), stands, ne-eqb _ _ (level .if6 .left), room, ← fields .before .before .before .field-at2 .ensures, ← fields .before .before .field-at3 .ensures, ← fields .before .field-at4 .ensures, ← fields .field-at5 .ensures, ← c .before .fields-fit .ensures, c .if9 .taken)
 
 returns-8 : tie.Need-returns-8
 unfolding rowNumber
 returns-8 c =
-    let kind = c .before .before .before .before .before .before .before .before .before .before .before .field-at .result in
-    let outer = c .before .before .before .before .before .before .before .before .before .before .before .before .before .before .args .outer in
-    let o : (outer && not (eqb kind 11)) ≡ false = ⊎-elim (λ w. block-stands outer kind (w .1 .left)) (λ w. inner-stands outer kind (w .left)) (c .before .before .before .before .before .before .before .before .if4 .came) in
-    let boxes = c .before .before .before .before .before .before .before .before .before .before .before .before .before .before .args .boxes in
-    let m : (eqb kind 7 && leb 64 boxes) ≡ false = ⊎-elim (λ w. room-left kind boxes (w .1 .left)) (λ w. no-box kind boxes (w .left)) (c .before .before .before .before .before .before .if7 .came) in
-    rw (lt-leb _ _ (c .before .before .before .before .before .before .before .before .before .before .before .before .if1 .left), ← c .before .before .before .before .before .before .before .before .before .before .before .field-at .ensures, ne-eqb _ _ (c .before .before .before .before .before .before .before .before .before .before .if2 .left), le-ltb _ _ (c .before .before .before .before .before .before .before .before .before .if3 .left), o, ne-eqb _ _ (c .before .before .before .before .before .before .before .if6 .left), m, ← c .before .before .before .before .before .field-at2 .ensures, ← c .before .before .before .before .field-at3 .ensures, ← c .before .before .before .field-at4 .ensures, ← c .before .before .field-at5 .ensures, ← c .before .fields-fit .ensures, c .if9 .left)
+    let fields = c .before .before in
+    let level = fields .before .before .before .before .before in
+    let known = level .before .before in
+    let read = known .before .before in
+    let kind = read .field-at .result in
+    let outer = read .before .before .before .args .outer in
+    let boxes = read .before .before .before .args .boxes in
+    let stands : (outer && not (eqb kind 11)) ≡ false = ⊎-elim (λ w. block-stands outer kind (w .1 .left)) (λ w. inner-stands outer kind (w .left)) (level .before .if4 .came) in
+    let room : (eqb kind 7 && leb 64 boxes) ≡ false = ⊎-elim (λ w. room-left kind boxes (w .1 .left)) (λ w. no-box kind boxes (w .left)) (fields .before .before .before .before .if7 .came) in
+    rw (lt-leb _ _ (read .before .if1 .left), ← read .field-at .ensures, ne-eqb _ _ (known .before .if2 .left), le-ltb _ _ (known .if3 .left), stands, ne-eqb _ _ (level .if6 .left), room, ← fields .before .before .before .field-at2 .ensures, ← fields .before .before .field-at3 .ensures, ← fields .before .field-at4 .ensures, ← fields .field-at5 .ensures, ← c .before .fields-fit .ensures, c .if9 .left)
 
 pub row-number-spec : {M : Type 1} → statement M
 row-number-spec =
