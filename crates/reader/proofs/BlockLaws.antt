@@ -9,9 +9,8 @@ use Rattle.reader.specs.Result.{Result, ok, err, Refusal}
 use Rattle.reader.specs.Script.{Term, Terms, last, more}
 use Rattle.reader.specs.Layout.{inRows, lay, lays}
 use Rattle.reader.specs.Reader.{Cursor, Reads, done, several}
-use Rattle.reader.specs.ByteParts.{gotOf, RowsAfter, Reading}
-use Rattle.reader.specs.declared.terms.Got.{Got}
-use Rattle.reader.specs.declared.terms.Got.the-variants as got
+use Rattle.reader.specs.ByteParts.{Got, gotOf, RowsAfter, Reading}
+use Rattle.reader.specs.ByteParts as got
 use Rattle.reader.proofs.Answers.{go-on, stops}
 use Rattle.reader.proofs.Lists.{sets-append}
 

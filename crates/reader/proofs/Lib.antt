@@ -9,6 +9,8 @@ pub mod Sound
 pub mod HeadBack
 pub mod Back
 pub mod Lists
+pub mod PackedLaws
+pub mod Refusals
 pub mod BlockLaws
 pub mod OperandLaws
 pub mod TermLaws
@@ -33,5 +35,6 @@ pub mod Undo
 pub mod RowFields
 pub mod RowTerms
 pub mod RowSpans
+pub mod Outermost
 pub mod LeftOver
 pub mod RowsJudged

@@ -13,9 +13,8 @@ use Rattle.reader.specs.Layout.{inBytes, inRows, lay, lays}
 use Rattle.reader.specs.Reader.{Cursor, Reads, term}
 use Rattle.reader.specs.Within.{Under}
 use Rattle.reader.specs.Parts.{cursor}
-use Rattle.reader.specs.ByteParts.{Ready, gotOf, RowsAfter, Reading, readTerm, readBlock}
-use Rattle.reader.specs.declared.terms.Got.{Got}
-use Rattle.reader.specs.declared.terms.Got.the-variants as got
+use Rattle.reader.specs.ByteParts.{Ready, Got, gotOf, RowsAfter, Reading, readTerm, readBlock}
+use Rattle.reader.specs.ByteParts as got
 use Rattle.reader.proofs.Lists.{part-all, under-drop}
 use Rattle.reader.proofs.Sound.{sound}
 use Rattle.reader.proofs.Lengths.{laid-rows}

@@ -13,11 +13,10 @@ use Rattle.reader.specs.Layout.{inRows, lay, rowsOf, zeros}
 use Rattle.reader.specs.Reader.{Cursor}
 use Rattle.reader.specs.Measures.{size}
 use Rattle.reader.specs.Within.{Under}
-use Rattle.reader.specs.ByteParts.{RowsAfter, Reading, readScript}
+use Rattle.reader.specs.ByteParts.{Got, RowsAfter, Reading, readScript}
 use Rattle.reader.specs.Answers.{told, lengthsFit, parsedInto, onFit, readOf}
 use Rattle.reader.specs.declared.Outcome.the-variants.{Count, Refused}
-use Rattle.reader.specs.declared.terms.Got.{Got}
-use Rattle.reader.specs.declared.terms.Got.the-variants as got
+use Rattle.reader.specs.ByteParts as got
 use Rattle.reader.proofs.BlockLaws.{fine-says, refused-says}
 use Rattle.reader.proofs.ScriptLaws.{parse-is, parse-refused}
 use Rattle.reader.proofs.Lengths.{laid-rows}

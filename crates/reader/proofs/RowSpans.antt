@@ -19,9 +19,7 @@ use Rattle.reader.specs.Reader.{Cursor, Reads, done, boxesOf, several, b
 use Rattle.reader.specs.Measures.{size}
 use Rattle.reader.specs.Within.{Under}
 use Rattle.reader.specs.Parts.{cursor, boxesWith}
-use Rattle.reader.specs.RowParts.{fieldAt, fieldsAt, fieldFits, fieldsFit, rowNumber, RowsReady, rowCursor, termRows, blockRows, spanOf}
-use Rattle.reader.specs.declared.rows.Span.{Span}
-use Rattle.reader.specs.declared.rows.Span.the-variants.{Fine, Refused}
+use Rattle.reader.specs.RowParts.{fieldAt, fieldsAt, fieldFits, fieldsFit, rowNumber, RowsReady, rowCursor, termRows, blockRows, Span, Fine, Refused, spanOf}
 use Rattle.reader.proofs.Answers.{go-on, stops}
 use Rattle.reader.proofs.KindBytes.{has, found}
 use Rattle.reader.proofs.TermSteps.{Leaf, leafNumber, leafReading, leafCopy, leafMove, leafShared, leafExclusive, leafBelow, Around, aroundBox, aroundLet, aroundAssign, leaf-ok, around-err, around-ok, block-err, block-ok}
@@ -65,19 +63,19 @@ leaf-of kAssign a b c d = absurd (c refl)
 leaf-of kBelow a b c d = leafBelow
 leaf-of kBlock a b c d = absurd (d refl)
 
-around-of : (k : Kind) → 7 ≤ byteOf k → byteOf k ≤ 9 → Around k
+around-of : (k : Kind) → 7 ≤ byteOf k → (byteOf k ≡ 10 → ⊥) → (byteOf k ≡ 11 → ⊥) → Around k
 unfolding byteOf
-around-of kNumber a b = absurd (omega arith)
-around-of kReading a b = absurd (omega arith)
-around-of kCopy a b = absurd (omega arith)
-around-of kMove a b = absurd (omega arith)
-around-of kShared a b = absurd (omega arith)
-around-of kExclusive a b = absurd (omega arith)
-around-of kBox a b = aroundBox
-around-of kLet a b = aroundLet
-around-of kAssign a b = aroundAssign
-around-of kBelow a b = absurd (omega arith)
-around-of kBlock a b = absurd (omega arith)
+around-of kNumber a b c = absurd (omega arith)
+around-of kReading a b c = absurd (omega arith)
+around-of kCopy a b c = absurd (omega arith)
+around-of kMove a b c = absurd (omega arith)
+around-of kShared a b c = absurd (omega arith)
+around-of kExclusive a b c = absurd (omega arith)
+around-of kBox a b c = aroundBox
+around-of kLet a b c = aroundLet
+around-of kAssign a b c = aroundAssign
+around-of kBelow a b c = absurd (b refl)
+around-of kBlock a b c = absurd (c refl)
 
 -- A term around another has its span.
 around-span : (i : ℕ) (vs : List ℕ) (inner : Bool → Reads Term) (s : Cursor) {k : Kind} → Around k → spanOf (built k i vs inner s) ≡ spanOf (inner false s)
@@ -98,7 +96,7 @@ block-span i vs inner s = go (several (inner false) (getD vs 0 0 - 1) s) refl
     go (err e) h = ap spanOf (block-err i vs inner s e h)
 
 -- The number n that the code finds at row i.
-module _ (levels : ℕ) (outer : Bool) (rows : List ℕ) (i boxes : ℕ) (ready : RowsReady rows boxes) (n : ℕ) (is : n ≡ rowNumber levels outer rows i boxes) where
+module _ (levels : ℕ) (outer : Bool) (rows : List ℕ) (i boxes : ℕ) (ready : RowsReady rows i boxes) (n : ℕ) (is : n ≡ rowNumber levels outer rows i boxes) where
   judges : Judges levels outer rows i boxes n
   judges = rw is (row-judged levels outer rows i boxes (ready .full) (ready .few))
 
@@ -138,9 +136,9 @@ module _ (levels : ℕ) (outer : Bool) (rows : List ℕ) (i boxes : ℕ) (e : En
       let k = leaf-of (e .kind) (λ z. n7 (sym its-byte ∙ z)) (λ z. n8 (sym its-byte ∙ z)) (λ z. n9 (sym its-byte ∙ z)) (λ z. n11 (sym its-byte ∙ z)) in
       ap (λ (x : ℕ). Fine (i + 1) x) (sym (unboxed n7)) ∙ sym (ap spanOf (e .builds ∙ leaf-ok i _ _ _ k (number i 0)))
 
-  pub around-spans : 7 ≤ b → b ≤ 9 → (n : ℕ) → n ≡ boxesWith b boxes → (r : Span) → r ≡ spanOf (termRows (levels - 1) false rows (i + 1) n) → r ≡ spanOf (termRows levels outer rows i boxes)
-  around-spans low high n q r h =
-      let k = around-of (e .kind) (omega (arith, its-byte)) (omega (arith, its-byte)) in
+  pub around-spans : 7 ≤ b → (b ≡ 10 → ⊥) → (b ≡ 11 → ⊥) → (n : ℕ) → n ≡ boxesWith b boxes → (r : Span) → r ≡ spanOf (termRows (levels - 1) false rows (i + 1) n) → r ≡ spanOf (termRows levels outer rows i boxes)
+  around-spans low n10 n11 n q r h =
+      let k = around-of (e .kind) (omega (arith, its-byte)) (λ z. n10 (sym its-byte ∙ z)) (λ z. n11 (sym its-byte ∙ z)) in
       h ∙ ap (λ (x : ℕ). spanOf (termRows (levels - 1) false rows (i + 1) x)) (q ∙ sym boxed) ∙ sym (ap spanOf (e .builds) ∙ around-span i _ (term base 1 inRows (levels - 1)) _ k)
 
   module _ (eleven : b ≡ 11) (count : ℕ) (counts : count ≡ fieldAt rows i 1) where

@@ -16,7 +16,7 @@ use Rattle.reader.specs.Measures.{size}
 use Rattle.reader.specs.Answers.{told, rowsTree, judgedOf}
 use Rattle.reader.specs.RowParts.{termRows, spanOf, firstUsed}
 use Rattle.reader.specs.declared.Outcome.the-variants as outcome
-use Rattle.reader.specs.declared.rows.Span.the-variants as span
+use Rattle.reader.specs.RowParts as span
 use Rattle.reader.proofs.Answers.{after, stop, need-ok, need-err, go-on, stops}
 use Rattle.reader.proofs.LeftOver.{left-judged}
 use Rattle.reader.proofs.RowSpans.{refused-of, FineOf, fine-of, Words, Ends, ends}

@@ -15,11 +15,10 @@ use Rattle.reader.specs.Kinds.{Kind, kNumber, kReading, kCopy, kMove, kS
 use Rattle.reader.specs.Layout.{inBytes, inRows, zeros, wordOf, unused, head, others, lay, lays}
 use Rattle.reader.specs.Reader.{Cursor, Reads, is, boxesOf, several, built, term}
 use Rattle.reader.specs.Parts.{cursor, fieldsOf, boxesWith}
-use Rattle.reader.specs.ByteParts.{openingNumber, judgedFields, oneField, valuesAt, rowWith, RowAfter, Filled, Ready, gotOf, RowsAfter, Reading, readTerm, readBlock}
+use Rattle.reader.specs.ByteParts.{openingNumber, judgedFields, oneField, valuesAt, rowWith, RowAfter, Filled, Ready, Got, gotOf, RowsAfter, Reading, readTerm, readBlock}
 use Rattle.reader.specs.declared.operands.Fields.{Fields}
 use Rattle.reader.specs.declared.operands.Fields.the-variants as fieldsFound
-use Rattle.reader.specs.declared.terms.Got.{Got}
-use Rattle.reader.specs.declared.terms.Got.the-variants as got
+use Rattle.reader.specs.ByteParts as got
 use Rattle.reader.proofs.TermSteps.{Leaf, leafNumber, leafReading, leafCopy, leafMove, leafShared, leafExclusive, leafBelow, Around, aroundBox, aroundLet, aroundAssign, wrapped, leaf-ok, around-err, around-ok, block-err, block-ok}
 use Rattle.reader.proofs.Answers.{ran, is-done}
 use Rattle.reader.proofs.Lists.{part-all, under-drop}
@@ -29,19 +28,19 @@ use Rattle.reader.proofs.ByteLaws.{Clear, fields-within, one-range, ope
 
 -- ---- kinds by their bytes
 
-pub around-kind : (k : Kind) → 7 ≤ byteOf k → byteOf k ≤ 9 → Around k
+pub around-kind : (k : Kind) → 7 ≤ byteOf k → (byteOf k ≡ 10 → ⊥) → (byteOf k ≡ 11 → ⊥) → Around k
 unfolding byteOf
-around-kind kNumber a b = absurd (omega arith)
-around-kind kReading a b = absurd (omega arith)
-around-kind kCopy a b = absurd (omega arith)
-around-kind kMove a b = absurd (omega arith)
-around-kind kShared a b = absurd (omega arith)
-around-kind kExclusive a b = absurd (omega arith)
-around-kind kBox a b = aroundBox
-around-kind kLet a b = aroundLet
-around-kind kAssign a b = aroundAssign
-around-kind kBelow a b = absurd (omega arith)
-around-kind kBlock a b = absurd (omega arith)
+around-kind kNumber a b c = absurd (omega arith)
+around-kind kReading a b c = absurd (omega arith)
+around-kind kCopy a b c = absurd (omega arith)
+around-kind kMove a b c = absurd (omega arith)
+around-kind kShared a b c = absurd (omega arith)
+around-kind kExclusive a b c = absurd (omega arith)
+around-kind kBox a b c = aroundBox
+around-kind kLet a b c = aroundLet
+around-kind kAssign a b c = aroundAssign
+around-kind kBelow a b c = absurd (b refl)
+around-kind kBlock a b c = absurd (c refl)
 
 pub leaf-kind : (k : Kind) → (7 ≤ byteOf k → 9 < byteOf k) → (byteOf k ≡ 11 → ⊥) → Leaf k
 unfolding byteOf

@@ -13,10 +13,9 @@ use Rattle.reader.specs.Layout.{inBytes, inRows, lay}
 use Rattle.reader.specs.Reader.{Cursor, nothingLeft, over, script, term, start, leading}
 use Rattle.reader.specs.Measures.{size}
 use Rattle.reader.specs.Within.{Under}
-use Rattle.reader.specs.ByteParts.{Ready, gotOf, RowsAfter, Reading, leadJudged, readTerm, readScript}
+use Rattle.reader.specs.ByteParts.{Ready, Got, gotOf, RowsAfter, Reading, leadJudged, readTerm, readScript}
 use Rattle.reader.specs.declared.operands.Fields.the-variants as fields
-use Rattle.reader.specs.declared.terms.Got.{Got}
-use Rattle.reader.specs.declared.terms.Got.the-variants as got
+use Rattle.reader.specs.ByteParts as got
 use Rattle.reader.proofs.Answers.{then, ran, same, is-done}
 use Rattle.reader.proofs.Lists.{part-all, under-drop}
 use Rattle.reader.proofs.HeadSound.{under-got}

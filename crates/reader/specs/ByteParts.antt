@@ -1,5 +1,5 @@
 -- What the parts of the byte reader's code answer, and the rows that they fill.
-use Prim.Native.Nat.{ℕ, zero, suc, _+_, _*_, _-_, _≤_}
+use Prim.Native.Nat.{ℕ, zero, suc, _+_, _*_, _-_, _/_, _%_, _≤_}
 use mathlib.Core.Path.{_≡_}
 use mathlib.Core.Bool.{Bool, false, not, _&&_}
 use mathlib.Core.List.{List, [], _∷_, _++_}
@@ -16,8 +16,6 @@ use Rattle.reader.specs.Within.{Under}
 use Rattle.reader.specs.Parts.{cursor}
 use Rattle.reader.specs.declared.operands.Fields.{Fields}
 use Rattle.reader.specs.declared.operands.Fields.the-variants as fields
-use Rattle.reader.specs.declared.terms.Got.{Got}
-use Rattle.reader.specs.declared.terms.Got.the-variants as got
 
 -- The number of the refusal at the kind byte that begins t; 0 where there is none.
 unfoldable pub openingNumber : ℕ → Bool → List ℕ → ℕ → ℕ → ℕ
@@ -82,9 +80,18 @@ pub record Ready (tail : List ℕ) (at boxes : ℕ) (rows : List ℕ) : Type 0 w
   pub few : boxes ≤ 64
   pub full : length rows ≡ 2560
 
+-- The offset past what was read, with the terms and boxes met so far; or the refusal.
+pub data Got : Type 0 where
+  Fine : ℕ → ℕ → ℕ → Got
+  Refused : ℕ → ℕ → Got
+
+-- What a reader's number stands for.
+unfoldable pub found : ℕ → Got
+found r = pick (ltb r 1073741824) (Fine (r % 8192) (r / 8192 % 1024) (r / 8192 / 1024)) (Refused ((r - 1073741824) / 65536 % 4294967296) (r % 65536))
+
 unfoldable pub gotOf : {A : Type 0} → Result Refusal (A × Cursor) → Got
-gotOf (ok o) = got.Fine (o .1 .at) (o .1 .terms) (o .1 .boxes)
-gotOf (err e) = got.Refused (e .0) (e .1)
+gotOf (ok o) = Fine (o .1 .at) (o .1 .terms) (o .1 .boxes)
+gotOf (err e) = Refused (e .0) (e .1)
 
 -- The rows of what was read, from term n on; of a refusal nothing is said.
 unfoldable pub RowsAfter : {A : Type 0} → (A → List ℕ) → Result Refusal (A × Cursor) → ℕ → List ℕ → List ℕ → Type 0

@@ -1,5 +1,5 @@
 -- What the parts of the row judge's code answer. No rule of 01 is stated here.
-use Prim.Native.Nat.{ℕ, suc, _+_, _*_, _-_, _≤_}
+use Prim.Native.Nat.{ℕ, suc, _+_, _*_, _-_, _/_, _%_, _≤_, _<_}
 use mathlib.Core.Path.{_≡_}
 use mathlib.Core.Bool.{Bool, true, false, not, _&&_}
 use mathlib.Core.List.{List, [], _∷_}
@@ -13,8 +13,6 @@ use Rattle.reader.specs.Kinds.{Field, word, until}
 use Rattle.reader.specs.Layout.{inRows}
 use Rattle.reader.specs.Reader.{Cursor, term, several}
 use Rattle.reader.specs.Parts.{cursor, fieldsOf}
-use Rattle.reader.specs.declared.rows.Span.{Span}
-use Rattle.reader.specs.declared.rows.Span.the-variants.{Fine, Refused}
 
 -- Field k of row i.
 abbrev pub fieldAt : List ℕ → ℕ → ℕ → ℕ
@@ -35,6 +33,10 @@ fieldsFit [] (v ∷ vs) = eqb v 0 && fieldsFit [] vs
 fieldsFit (f ∷ fs) [] = false
 fieldsFit (f ∷ fs) (v ∷ vs) = fieldFits f v && fieldsFit fs vs
 
+-- The first row is a term's, and not a block's.
+unfoldable pub noBlock : List ℕ → Bool
+noBlock rows = ltb 0 (fieldAt rows 0 0) && ltb (fieldAt rows 0 0) 11
+
 -- The number of the refusal at row i; 0 where there is none.
 unfoldable pub rowNumber : ℕ → Bool → List ℕ → ℕ → ℕ → ℕ
 rowNumber levels outer rows i boxes =
@@ -48,9 +50,10 @@ rowNumber levels outer rows i boxes =
     (pick (fieldsFit (fieldsOf kind) (fieldsAt rows i)) 0
     14))))))
 
--- What the row judge asks of the rows, and of the boxes met so far.
-pub record RowsReady (rows : List ℕ) (boxes : ℕ) : Type 0 where
+-- What the row judge asks of the rows, of the row to judge, and of the boxes met so far.
+pub record RowsReady (rows : List ℕ) (i boxes : ℕ) : Type 0 where
   pub full : length rows ≡ 2560
+  pub near : i < 1024
   pub few : boxes ≤ 64
 
 -- The reader at row i.
@@ -62,6 +65,15 @@ termRows levels outer rows i boxes = term base 1 inRows levels outer (rowCursor 
 
 abbrev pub blockRows : ℕ → ℕ → List ℕ → ℕ → ℕ → Result Refusal (Terms × Cursor)
 blockRows levels count rows i boxes = several (term base 1 inRows levels false) (count - 1) (rowCursor rows i boxes)
+
+-- The row past what was judged, with the boxes met so far; or the refusal and its row.
+pub data Span : Type 0 where
+  Fine : ℕ → ℕ → Span
+  Refused : ℕ → ℕ → Span
+
+-- What the row judge's number stands for.
+unfoldable pub spanned : ℕ → Span
+spanned r = pick (ltb r 1073741824) (Fine (r % 1024) (r / 1024)) (Refused ((r - 1073741824) / 65536 % 4294967296) (r % 65536))
 
 unfoldable pub spanOf : {A : Type 0} → Result Refusal (A × Cursor) → Span
 spanOf (ok o) = Fine (o .1 .terms) (o .1 .boxes)

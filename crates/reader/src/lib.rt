@@ -4,6 +4,7 @@ ghost use Rattle.reader.specs.Limits.{base};
 ghost use Rattle.reader.specs.Answers.{told, readOf, judgedOf, writtenOf};
 
 mod limits; // limits.rt: 01's limits and refusal numbers
+mod packed; // packed.rt: the answers of the term and block functions, each in one number
 mod opening; // opening.rt: what stands at a kind byte, or at a row
 mod operands; // operands.rt: the operands after a kind byte, and the row that they fill
 mod terms; // terms.rt: terms and blocks in bytes
@@ -11,12 +12,11 @@ mod script; // script.rt: a whole script in bytes
 mod rows; // rows.rt: terms and blocks in term rows, and what stands after them
 mod output; // output.rt: the bytes of a script, from its term rows
 
-use crate::rows::Span;
 use crate::rows::first_used;
 use crate::rows::judge_term;
+use crate::rows::no_block;
 use crate::script::clear_from;
 use crate::script::read_script;
-use crate::terms::Got;
 
 // A count (the terms of a script, or the bytes written), or 01's number and place.
 pub enum Outcome {
@@ -35,16 +35,13 @@ pub fn read(script: &[u8], rows: &mut [u32]) -> Outcome
         return Outcome::Refused(limits::ROWS_LENGTH, 0);
     }
     let got = read_script(script, rows);
-    match got {
-        Got::Refused(number, place) => {
-            clear_from(rows, 0);
-            Outcome::Refused(number, place)
-        }
-        Got::Fine(next, terms, boxes) => {
-            clear_from(rows, terms * 5);
-            Outcome::Count(terms)
-        }
+    if packed::REFUSED <= got {
+        clear_from(rows, 0);
+        return Outcome::Refused(packed::number_of(got), got % packed::PLACES);
     }
+    let terms = got / packed::OFFSETS % packed::TERMS;
+    clear_from(rows, terms * 5);
+    Outcome::Count(terms)
 }
 
 // Judges term rows that the caller made: the number of terms.
@@ -54,17 +51,19 @@ pub fn judge_rows(rows: &[u32]) -> Outcome
     if rows.len() != limits::ROW_NUMBERS {
         return Outcome::Refused(limits::ROWS_LENGTH, 0);
     }
-    let span = judge_term(rows, 0, limits::LEVELS, true, 0);
-    match span {
-        Span::Refused(number, row) => Outcome::Refused(number, row),
-        Span::Fine(terms, boxes) => {
-            let used = first_used(rows, 5 * terms);
-            if used < rows.len() {
-                return Outcome::Refused(limits::LEFT_OVER, used / 5);
-            }
-            Outcome::Count(terms)
-        }
+    if no_block(rows) {
+        return Outcome::Refused(limits::NO_BLOCK, 0);
     }
+    let span = judge_term(rows, 0, limits::LEVELS, 0);
+    if packed::REFUSED <= span {
+        return Outcome::Refused(packed::number_of(span), span % packed::PLACES);
+    }
+    let terms = span % packed::TERMS;
+    let used = first_used(rows, 5 * terms);
+    if used < rows.len() {
+        return Outcome::Refused(limits::LEFT_OVER, used / 5);
+    }
+    Outcome::Count(terms)
 }
 
 // The script of judged rows at the front of the output, and its length; or the refusal, with the output unchanged.

@@ -1,18 +1,14 @@
 // Terms and blocks in term rows, and what stands after them: what check, machine and writer rely on.
 ghost use mathlib.Core.Path.{_≡_};
+ghost use mathlib.Core.Bool.{false};
 ghost use mathlib.Core.List.{_∷_, []};
 ghost use Prim.Native.Nat.{_+_, _*_, _<_, _≤_};
 ghost use lib.ListN.{length, drop};
 ghost use Rattle.reader.specs.Kinds.{until};
 ghost use Rattle.reader.specs.Parts.{IsKind, placeFields, boxesWith, fieldsOf};
-ghost use Rattle.reader.specs.RowParts.{fieldAt, fieldsFit, rowNumber, RowsReady, termRows, blockRows, spanOf, bitsOf, firstUsed};
+ghost use Rattle.reader.specs.RowParts.{fieldAt, fieldsFit, noBlock, rowNumber, RowsReady, termRows, blockRows, spanOf, spanned, bitsOf, firstUsed};
 use crate::limits;
-
-// The row past what was judged, with the boxes met so far; or the refusal and its row.
-pub enum Span {
-    Fine(usize, usize),
-    Refused(u32, usize),
-}
+use crate::packed;
 
 // Field k of row i: the kind is field 0.
 fn field_at(rows: &[u32], i: usize, k: usize) -> u32
@@ -68,11 +64,21 @@ fn fields_fit(kind: u32, a: u32, b: u32, c: u32, d: u32) -> bool
     }
 }
 
-// The number of the refusal at row i, in 01's order 12, 13, 18, 15, 17, 14; 0 where there is none.
-// 16 cannot be met, since 512 rows hold no more than 512 terms. `outer` says that the term must be a block.
-fn row_number(rows: &[u32], i: usize, levels: usize, outer: bool, boxes: usize) -> u32
+// The first row is a term's, and not a block's: 18. No other row can meet that, so it is asked once, before the rows
+// are judged one after the other.
+pub fn no_block(rows: &[u32]) -> bool
     requires { ⌜ length (now rows) ≡ 2560 ⌝ }
-    ensures { λ r. ⌜ r ≡ rowNumber levels outer (now (rows .entry)) i boxes ⌝ }
+    ensures { λ r. ⌜ r ≡ noBlock (now (rows .entry)) ⌝ }
+{
+    let kind = field_at(rows, 0, 0);
+    0 < kind && kind < 11
+}
+
+// The number of the refusal at row i, in 01's order 12, 13, 15, 17, 14; 0 where there is none.
+// 16 cannot be met, since 512 rows hold no more than 512 terms.
+fn row_number(rows: &[u32], i: usize, levels: usize, boxes: usize) -> u32
+    requires { ⌜ length (now rows) ≡ 2560 ⌝ }
+    ensures { λ r. ⌜ r ≡ rowNumber levels false (now (rows .entry)) i boxes ⌝ }
 {
     if limits::TERMS <= i {
         return limits::ENDED;
@@ -83,11 +89,6 @@ fn row_number(rows: &[u32], i: usize, levels: usize, outer: bool, boxes: usize) 
     }
     if 11 < kind {
         return limits::UNKNOWN_KIND;
-    }
-    if outer {
-        if kind != 11 {
-            return limits::NO_BLOCK;
-        }
     }
     if levels == 0 {
         return limits::TOO_DEEP;
@@ -115,48 +116,51 @@ fn boxes_with(kind: u32, boxes: usize) -> usize
 }
 
 // The term at row i, nested at most as deep as levels says, after so many boxes.
-pub fn judge_term(rows: &[u32], i: usize, levels: usize, outer: bool, boxes: usize) -> Span
-    requires { ⌜ RowsReady (now rows) boxes ⌝ }
-    ensures { λ r. ⌜ r ≡ spanOf (termRows levels outer (now (rows .entry)) i boxes) ⌝ }
+pub fn judge_term(rows: &[u32], i: usize, levels: usize, boxes: usize) -> usize
+    requires { ⌜ RowsReady (now rows) i boxes ⌝ }
+    ensures { λ r. ⌜ spanned r ≡ spanOf (termRows levels false (now (rows .entry)) i boxes) ⌝ }
 {
-    let number = row_number(rows, i, levels, outer, boxes);
+    let number = row_number(rows, i, levels, boxes);
     if number != 0 {
-        return Span::Refused(number, i);
+        return packed::refused(number, i);
     }
     let kind = field_at(rows, i, 0);
     let next = i + 1;
-    let deeper = levels - 1;
-    match kind {
-        7 | 8 | 9 => {
-            let boxed = boxes_with(kind, boxes);
-            judge_term(rows, next, deeper, false, boxed)
-        }
-        11 => {
-            let count = field_at(rows, i, 1) as usize;
-            judge_block(rows, next, count, deeper, boxes)
-        }
-        _ => Span::Fine(next, boxes),
+    let leaf = packed::counted(next, boxes);
+    // The kinds without inner terms come first, since most terms are of those.
+    if kind < 7 {
+        return leaf;
     }
+    if kind == 10 {
+        return leaf;
+    }
+    let deeper = levels - 1;
+    if kind == 11 {
+        let count = field_at(rows, i, 1) as usize;
+        return judge_block(rows, next, count, deeper, boxes);
+    }
+    let boxed = boxes_with(kind, boxes);
+    judge_term(rows, next, deeper, boxed)
 }
 
 // count terms one after the other from row i on, one at least.
-fn judge_block(rows: &[u32], i: usize, count: usize, levels: usize, boxes: usize) -> Span
-    requires { ⌜ RowsReady (now rows) boxes × (0 < count) ⌝ }
-    ensures { λ r. ⌜ r ≡ spanOf (blockRows levels count (now (rows .entry)) i boxes) ⌝ }
+fn judge_block(rows: &[u32], i: usize, count: usize, levels: usize, boxes: usize) -> usize
+    requires { ⌜ RowsReady (now rows) i boxes × (0 < count) ⌝ }
+    ensures { λ r. ⌜ spanned r ≡ spanOf (blockRows levels count (now (rows .entry)) i boxes) ⌝ }
 {
     let mut next = i;
     let mut boxed = boxes;
     let mut left = count;
     while 0 < left {
-        let span = judge_term(rows, next, levels, false, boxed);
-        let Span::Fine(end, met) = span else {
+        let span = judge_term(rows, next, levels, boxed);
+        if packed::REFUSED <= span {
             return span;
-        };
-        next = end;
-        boxed = met;
+        }
+        next = span % packed::TERMS;
+        boxed = span / packed::TERMS;
         left -= 1;
     }
-    Span::Fine(next, boxed)
+    packed::counted(next, boxed)
 }
 
 // The bits that any number from `from` on has. Nothing leaves the loop early, so it becomes vector code.

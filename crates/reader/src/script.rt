@@ -5,11 +5,11 @@ ghost use Prim.Native.Nat.{_-_, _≤_};
 ghost use lib.ListN.{length, take};
 ghost use Rattle.reader.specs.Layout.{lay, inRows, zeros};
 ghost use Rattle.reader.specs.Within.{Under};
-ghost use Rattle.reader.specs.ByteParts.{Reading, markNumber, leadJudged, readScript};
+ghost use Rattle.reader.specs.ByteParts.{found, Reading, markNumber, leadJudged, readScript};
 use crate::limits;
 use crate::operands::Fields;
 use crate::operands::wide;
-use crate::terms::Got;
+use crate::packed;
 use crate::terms::read_term;
 
 // 0 where the byte at j is the mark's; else 12 where there is none, or 10.
@@ -51,20 +51,21 @@ pub fn judge_lead(script: &[u8]) -> Fields
     Fields::Fine(5)
 }
 
-pub fn read_script(script: &[u8], rows: &mut [u32]) -> Got
+pub fn read_script(script: &[u8], rows: &mut [u32]) -> usize
     requires { ⌜ (length (now script) ≤ 4096) × (length (now rows) ≡ 2560) ⌝ }
-    ensures { λ r. ⌜ Reading (lay inRows) (readScript (now (script .entry))) 0 (now (rows .entry)) (now (rows .exit)) r ⌝ }
+    ensures { λ r. ⌜ Reading (lay inRows) (readScript (now (script .entry))) 0 (now (rows .entry)) (now (rows .exit)) (found r) ⌝ }
 {
     let lead = judge_lead(script);
     if let Fields::Refused(number, place) = lead {
-        return Got::Refused(number, place);
+        return packed::refused(number, place);
     }
     let got = read_term(&script[5..], 5, limits::LEVELS, true, 0, 0, rows);
-    let Got::Fine(next, terms, boxes) = got else {
+    if packed::REFUSED <= got {
         return got;
-    };
+    }
+    let next = got % packed::OFFSETS;
     if next < script.len() {
-        return Got::Refused(limits::LEFT_OVER, next);
+        return packed::refused(limits::LEFT_OVER, next);
     }
     got
 }

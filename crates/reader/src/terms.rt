@@ -3,16 +3,11 @@ ghost use mathlib.Core.Path.{_≡_};
 ghost use Prim.Native.Nat.{_<_, _≤_};
 ghost use Rattle.reader.specs.Layout.{lay, lays, inRows};
 ghost use Rattle.reader.specs.Parts.{boxesWith};
-ghost use Rattle.reader.specs.ByteParts.{Ready, Reading, readTerm, readBlock};
+ghost use Rattle.reader.specs.ByteParts.{Ready, found, Reading, readTerm, readBlock};
 use crate::opening::opening_number;
 use crate::operands::Fields;
 use crate::operands::read_operands;
-
-// The offset past what was read, with the terms and boxes met so far; or the refusal.
-pub enum Got {
-    Fine(usize, usize, usize),
-    Refused(u32, usize),
-}
+use crate::packed;
 
 fn boxes_with(kind: u8, boxes: usize) -> usize
     requires { ⌜ boxes ≤ 64 ⌝ }
@@ -30,33 +25,36 @@ pub fn read_term(
     terms: usize,
     boxes: usize,
     rows: &mut [u32],
-) -> Got
+) -> usize
     requires { ⌜ Ready (now tail) at boxes (now rows) ⌝ }
-    ensures { λ r. ⌜ Reading (lay inRows) (readTerm levels outer (now (tail .entry)) at terms boxes) terms (now (rows .entry)) (now (rows .exit)) r ⌝ }
+    ensures { λ r. ⌜ Reading (lay inRows) (readTerm levels outer (now (tail .entry)) at terms boxes) terms (now (rows .entry)) (now (rows .exit)) (found r) ⌝ }
 {
     let number = opening_number(tail, levels, outer, terms, boxes);
     if number != 0 {
-        return Got::Refused(number, at);
+        return packed::refused(number, at);
     }
     let kind = tail[0];
     let fields = read_operands(tail, at, kind, terms, rows);
     match fields {
-        Fields::Refused(number, place) => Got::Refused(number, place),
+        Fields::Refused(number, place) => packed::refused(number, place),
         Fields::Fine(used) => {
             let next = at + used;
-            let deeper = levels - 1;
             let met = terms + 1;
-            match kind {
-                7 | 8 | 9 => {
-                    let boxed = boxes_with(kind, boxes);
-                    read_term(&tail[used..], next, deeper, false, met, boxed, rows)
-                }
-                11 => {
-                    let count = tail[1] as usize;
-                    read_block(&tail[used..], next, count, deeper, met, boxes, rows)
-                }
-                _ => Got::Fine(next, met, boxes),
+            let leaf = packed::fine(next, met, boxes);
+            // The kinds without inner terms come first, since most terms are of those.
+            if kind < 7 {
+                return leaf;
             }
+            if kind == 10 {
+                return leaf;
+            }
+            let deeper = levels - 1;
+            if kind == 11 {
+                let count = tail[1] as usize;
+                return read_block(&tail[used..], next, count, deeper, met, boxes, rows);
+            }
+            let boxed = boxes_with(kind, boxes);
+            read_term(&tail[used..], next, deeper, false, met, boxed, rows)
         }
     }
 }
@@ -70,9 +68,9 @@ pub fn read_block(
     terms: usize,
     boxes: usize,
     rows: &mut [u32],
-) -> Got
-    requires { ⌜ Ready (now tail) at boxes (now rows) × (0 < count) ⌝ }
-    ensures { λ r. ⌜ Reading (lays inRows) (readBlock levels count (now (tail .entry)) at terms boxes) terms (now (rows .entry)) (now (rows .exit)) r ⌝ }
+) -> usize
+    requires { ⌜ Ready (now tail) at boxes (now rows) × (0 < count) × (terms < 1024) ⌝ }
+    ensures { λ r. ⌜ Reading (lays inRows) (readBlock levels count (now (tail .entry)) at terms boxes) terms (now (rows .entry)) (now (rows .exit)) (found r) ⌝ }
 {
     let mut next = at;
     let mut met = terms;
@@ -81,13 +79,13 @@ pub fn read_block(
     while 0 < left {
         let used = next - at;
         let got = read_term(&tail[used..], next, levels, false, met, boxed, rows);
-        let Got::Fine(end, terms_met, boxes_met) = got else {
+        if packed::REFUSED <= got {
             return got;
-        };
-        next = end;
-        met = terms_met;
-        boxed = boxes_met;
+        }
+        next = got % packed::OFFSETS;
+        met = got / packed::OFFSETS % packed::TERMS;
+        boxed = got / packed::OFFSETS / packed::TERMS;
         left -= 1;
     }
-    Got::Fine(next, met, boxed)
+    packed::fine(next, met, boxed)
 }

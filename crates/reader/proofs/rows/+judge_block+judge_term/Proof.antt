@@ -1,18 +1,22 @@
 -- `reader::rows::judge_term` and `reader::rows::judge_block`, which call each other, meet their contracts. Each term inside another has one level less left.
 -- The loop's invariant: the terms that are left, from where it stands, have the span of the whole block. Assumes nothing.
-use Prim.Native.Nat.{ℕ, _<_, _≤_, _+_, _*_}
+use Prim.Native.Nat.{ℕ, _<_, _+_, _*_}
 use native.Mathlib.Omega.{arith}
 use mathlib.Core.Path.{_≡_, refl, sym, _∙_}
 use borrow.Author.Needs.{needs}
+use Rattle.reader.specs.RowParts.{RowsReady}
+use Rattle.reader.proofs.PackedLaws.{spanned-refused, spanned-fine, refused-spanned, counted-spanned}
+use Rattle.reader.proofs.RowSpans.{refused-span, entered, boxed-few, leaf-spans, around-spans, block-spans, block-count, Words, restSpan, all-span, none-span, stop-span, rest-few, rest-span}
 use borrow.Fn.Kinds.{In}
 use borrow.Fn.PlainCycle.{Measures, is, falls, and}
-use Rattle.reader.proofs.RowSpans.{refused-span, entered, boxed-few, leaf-spans, around-spans, block-spans, block-count, Words, restSpan, all-span, none-span, stop-span, rest-few, rest-span}
 use Rattle.reader.proofs.rows.judge_block.Reads as judge-block
 use Rattle.reader.proofs.rows.judge_block.Kinds as judge-block-kinds
 use Rattle.reader.proofs.rows.+judge_block+judge_term.Lts-judge_block as judge-block-lts
 use Rattle.reader.proofs.rows.judge_term.Reads as judge-term
 use Rattle.reader.proofs.rows.judge_term.Kinds as judge-term-kinds
 use Rattle.reader.proofs.rows.+judge_block+judge_term.Lts-judge_term as judge-term-lts
+use Rattle.reader.proofs.packed.counted.Reads as counted-reads
+use Rattle.reader.proofs.packed.refused.Reads as refused-reads
 use Rattle.reader.proofs.rows.boxes_with.Reads as boxes-with-reads
 use Rattle.reader.proofs.rows.field_at.Reads as field-at-reads
 use Rattle.reader.proofs.rows.row_number.Reads as row-number-reads
@@ -43,37 +47,27 @@ judge-term-below t =
 
 abbrev judge-block-Inv-loop : judge-block-lts.InvT-loop
 judge-block-Inv-loop rows i count levels boxes next₀ boxed₀ left₀ next boxed left =
-    (boxed ≤ 64) × (restSpan levels rows left next boxed ≡ restSpan levels rows count i boxes)
+    RowsReady rows next boxed × (restSpan levels rows left next boxed ≡ restSpan levels rows count i boxes)
 
 abbrev judge-block-μ-loop : judge-block-lts.MeasureT-loop
 judge-block-μ-loop rows i count levels boxes next₀ boxed₀ left₀ next boxed left = left
 
 abbrev judge-block-claims : ℕ → judge-block-lts.Claims
-judge-block-claims t = (judge-term-below t, judge-term.Post)
+judge-block-claims t = (judge-term-below t, judge-term.Post, counted-reads.Asked, counted-reads.Learnt)
 
 abbrev judge-term-claims : ℕ → judge-term-lts.Claims
-judge-term-claims t = (row-number-reads.Asked, row-number-reads.Learnt, field-at-reads.Asked, field-at-reads.Learnt, judge-block-below t, judge-block.Post, boxes-with-reads.Asked, boxes-with-reads.Learnt, judge-term-below t, judge-term.Post)
+judge-term-claims t = (row-number-reads.Asked, row-number-reads.Learnt, refused-reads.Asked, refused-reads.Learnt, field-at-reads.Asked, field-at-reads.Learnt, counted-reads.Asked, counted-reads.Learnt, judge-block-below t, judge-block.Post, boxes-with-reads.Asked, boxes-with-reads.Learnt, judge-term-below t, judge-term.Post)
 
 judge-block-loop-holds : (t : ℕ) → judge-block-lts.Need-loop-holds (judge-block-claims t) (judge-block-at t) judge-block.Post judge-block-Inv-loop judge-block-μ-loop
-judge-block-loop-holds t c = (c .before .pre .1 .0 .few, refl)
+judge-block-loop-holds t c = (c .before .pre .1 .0, refl)
 
 judge-block-judge-term-requires : (t : ℕ) → judge-block-lts.Need-judge-term-requires (judge-block-claims t) (judge-block-at t) judge-block.Post judge-block-Inv-loop judge-block-μ-loop
-judge-block-judge-term-requires t c κs =
-    let s = c .before .before .before in
-    (omega (arith, s .pre .0), record { full = s .pre .1 .0 .full; few = c .before .loop .inv .0 })
-
-judge-block-enum-known-span : (t : ℕ) → judge-block-lts.Need-enum-known-span (judge-block-claims t) (judge-block-at t) judge-block.Post judge-block-Inv-loop judge-block-μ-loop
-judge-block-enum-known-span t c = search needs
-
-judge-block-enum-told : (t : ℕ) → judge-block-lts.Need-enum-told (judge-block-claims t) (judge-block-at t) judge-block.Post judge-block-Inv-loop judge-block-μ-loop
-judge-block-enum-told t c = search needs
+judge-block-judge-term-requires t c κs = (omega (arith, c .before .before .before .pre .0), c .before .loop .inv .0)
 
 judge-block-returns : (t : ℕ) → judge-block-lts.Need-returns (judge-block-claims t) (judge-block-at t) judge-block.Post judge-block-Inv-loop judge-block-μ-loop
 judge-block-returns t c =
-    let j = c .before .before in
-    let l = j .before .before in
-    let q = c .enum-told .given .1 in
-    q ∙ stop-span _ _ _ _ _ (j .before .loop-test .taken) _ _ (sym q ∙ j .judge-term .ensures) ∙ l .loop .inv .1 ∙ all-span _ _ _ _ _ (l .before .before .pre .1 .1)
+    let q = spanned-refused _ (c .if1 .taken) in
+    q ∙ stop-span _ _ _ _ _ (c .before .before .loop-test .taken) _ _ (sym q ∙ c .before .judge-term .ensures) ∙ c .before .before .before .loop .inv .1 ∙ all-span _ _ _ _ _ (c .before .before .before .before .before .pre .1 .1)
 
 judge-block-sub-left : (t : ℕ) → judge-block-lts.Need-sub-left (judge-block-claims t) (judge-block-at t) judge-block.Post judge-block-Inv-loop judge-block-μ-loop
 judge-block-sub-left t c = omega arith
@@ -83,101 +77,95 @@ judge-block-loop-less t c = omega arith
 
 judge-block-loop-again : (t : ℕ) → judge-block-lts.Need-loop-again (judge-block-claims t) (judge-block-at t) judge-block.Post judge-block-Inv-loop judge-block-μ-loop
 judge-block-loop-again t c =
-    let j = c .before .before .before in
-    let l = j .before .before in
-    let s = l .before .before in
-    let words : Words (s .args .rows .now) = λ k. omega (arith, l .before .shared-slice-known .given k) in
-    let q = sym (c .before .span .given .1) ∙ j .judge-term .ensures in
-    (rest-few (s .args .levels) _ (l .loop .next) (l .loop .boxed) words _ _ q, rest-span _ _ _ _ words _ _ q _ (j .before .loop-test .taken) ∙ l .loop .inv .1)
+    let s = c .before .before .before .before .before in
+    let l = c .before .before .before .loop in
+    let words : Words (s .args .rows .now) = λ k. omega (arith, c .before .before .before .before .shared-slice-known .given k) in
+    let q = sym (spanned-fine _ (c .if1 .left)) ∙ c .before .judge-term .ensures in
+    let few = rest-few (s .args .levels) _ (l .next) (l .boxed) words _ _ q in
+    (record { full = l .inv .0 .full; near = omega arith; few = few }, rest-span _ _ _ _ words _ _ q _ (c .before .before .loop-test .taken) ∙ l .inv .1)
+
+judge-block-counted-requires : (t : ℕ) → judge-block-lts.Need-counted-requires (judge-block-claims t) (judge-block-at t) judge-block.Post judge-block-Inv-loop judge-block-μ-loop
+judge-block-counted-requires t c κs = (c .before .loop .inv .0 .near, omega (arith, c .before .loop .inv .0 .few))
 
 judge-block-returns-2 : (t : ℕ) → judge-block-lts.Need-returns-2 (judge-block-claims t) (judge-block-at t) judge-block.Post judge-block-Inv-loop judge-block-μ-loop
 judge-block-returns-2 t c =
-    let l = c .before in
-    none-span _ _ _ _ _ (c .loop-test .left) ∙ l .loop .inv .1 ∙ all-span _ _ _ _ _ (l .before .before .pre .1 .1)
+    let l = c .before .before .loop in
+    counted-spanned _ _ _ (l .inv .0 .near) (omega (arith, l .inv .0 .few)) (c .counted .ensures) ∙ none-span _ _ _ _ _ (c .before .loop-test .left) ∙ l .inv .1 ∙ all-span _ _ _ _ _ (c .before .before .before .before .pre .1 .1)
 
 judge-term-row-number-requires : (t : ℕ) → judge-term-lts.Need-row-number-requires (judge-term-claims t) (judge-term-at t) judge-term.Post
 judge-term-row-number-requires t c κs = c .before .pre .1 .full
 
+judge-term-refused-requires : (t : ℕ) → judge-term-lts.Need-refused-requires (judge-term-claims t) (judge-term-at t) judge-term.Post
+judge-term-refused-requires t c κs = omega (arith, c .before .before .before .pre .1 .near)
+
 judge-term-returns : (t : ℕ) → judge-term-lts.Need-returns (judge-term-claims t) (judge-term-at t) judge-term.Post
 judge-term-returns t c =
-    let n = c .before in
-    refused-span _ _ _ _ _ (n .before .before .pre .1) _ (n .row-number .ensures) (c .if1 .taken)
+    let s = c .before .before .before .before in
+    let n = c .before .before .row-number in
+    refused-spanned _ (n .result) (s .args .i) (omega (arith, s .pre .1 .near)) (c .refused .ensures) ∙ refused-span _ _ _ _ _ (s .pre .1) _ (n .ensures) (c .before .if1 .taken)
 
 judge-term-field-at-requires : (t : ℕ) → judge-term-lts.Need-field-at-requires (judge-term-claims t) (judge-term-at t) judge-term.Post
 judge-term-field-at-requires t c κs =
-    let n = c .before in
-    let s = n .before .before in
-    (s .pre .1 .full, entered _ _ _ _ _ (s .pre .1) _ (n .row-number .ensures) (c .if1 .left) .room, omega arith)
+    let s = c .before .before .before in
+    (s .pre .1 .full, entered _ _ _ _ _ (s .pre .1) _ (c .before .row-number .ensures) (c .if1 .left) .room, omega arith)
 
 judge-term-add-next : (t : ℕ) → judge-term-lts.Need-add-next (judge-term-claims t) (judge-term-at t) judge-term.Post
 judge-term-add-next t c =
-    let n = c .before .before in
-    omega (arith, entered _ _ _ _ _ (n .before .before .pre .1) _ (n .row-number .ensures) (c .before .if1 .left) .room)
+    let e = entered _ _ _ _ _ (c .before .before .before .before .pre .1) _ (c .before .before .row-number .ensures) (c .before .if1 .left) in
+    omega (arith, e .room)
+
+judge-term-counted-requires : (t : ℕ) → judge-term-lts.Need-counted-requires (judge-term-claims t) (judge-term-at t) judge-term.Post
+judge-term-counted-requires t c κs =
+    let e = entered _ _ _ _ _ (c .before .before .before .before .pre .1) _ (c .before .before .row-number .ensures) (c .before .if1 .left) in
+    (omega (arith, e .room), omega (arith, c .before .before .before .before .pre .1 .few))
+
+judge-term-returns-2 : (t : ℕ) → judge-term-lts.Need-returns-2 (judge-term-claims t) (judge-term-at t) judge-term.Post
+judge-term-returns-2 t c =
+    let e = entered _ _ _ _ _ (c .before .before .before .before .before .before .pre .1) _ (c .before .before .before .before .row-number .ensures) (c .before .before .before .if1 .left) in
+    counted-spanned _ _ _ (omega (arith, e .room)) (omega (arith, c .before .before .before .before .before .before .pre .1 .few)) (c .before .counted .ensures) ∙ leaf-spans _ _ _ _ _ e (c .before .before .field-at .result) (c .before .before .field-at .ensures) (λ z. omega arith) (λ z. omega arith) (λ z. omega arith) (λ z. omega arith)
+
+judge-term-returns-3 : (t : ℕ) → judge-term-lts.Need-returns-3 (judge-term-claims t) (judge-term-at t) judge-term.Post
+judge-term-returns-3 t c =
+    let e = entered _ _ _ _ _ (c .before .before .before .before .before .before .before .pre .1) _ (c .before .before .before .before .before .row-number .ensures) (c .before .before .before .before .if1 .left) in
+    counted-spanned _ _ _ (omega (arith, e .room)) (omega (arith, c .before .before .before .before .before .before .before .pre .1 .few)) (c .before .before .counted .ensures) ∙ leaf-spans _ _ _ _ _ e (c .before .before .before .field-at .result) (c .before .before .before .field-at .ensures) (λ z. omega arith) (λ z. omega arith) (λ z. omega arith) (λ z. omega arith)
 
 judge-term-sub-deeper : (t : ℕ) → judge-term-lts.Need-sub-deeper (judge-term-claims t) (judge-term-at t) judge-term.Post
 judge-term-sub-deeper t c =
-    let n = c .before .before in
-    omega (arith, entered _ _ _ _ _ (n .before .before .pre .1) _ (n .row-number .ensures) (c .before .if1 .left) .deep)
+    let e = entered _ _ _ _ _ (c .before .before .before .before .before .before .before .pre .1) _ (c .before .before .before .before .before .row-number .ensures) (c .before .before .before .before .if1 .left) in
+    omega (arith, e .deep)
 
 judge-term-field-at-requires-2 : (t : ℕ) → judge-term-lts.Need-field-at-requires-2 (judge-term-claims t) (judge-term-at t) judge-term.Post
 judge-term-field-at-requires-2 t c κs =
-    let f = c .before in
-    let n = f .before .before in
-    let s = n .before .before in
-    (s .pre .1 .full, entered _ _ _ _ _ (s .pre .1) _ (n .row-number .ensures) (f .before .if1 .left) .room, omega arith)
+    let s = c .before .before .before .before .before .before .before .before in
+    (s .pre .1 .full, entered _ _ _ _ _ (s .pre .1) _ (c .before .before .before .before .before .before .row-number .ensures) (c .before .before .before .before .before .if1 .left) .room, omega arith)
 
 judge-term-cast-count : (t : ℕ) → judge-term-lts.Need-cast-count (judge-term-claims t) (judge-term-at t) judge-term.Post
 judge-term-cast-count t c = search needs
 
 judge-term-judge-block-requires : (t : ℕ) → judge-term-lts.Need-judge-block-requires (judge-term-claims t) (judge-term-at t) judge-term.Post
 judge-term-judge-block-requires t c κs =
-    let m = c .before in
-    let f = m .before in
-    let n = f .before .before in
-    let s = n .before .before in
-    let e = entered _ _ _ _ _ (s .pre .1) _ (n .row-number .ensures) (f .before .if1 .left) in
-    (omega (arith, s .pre .0, e .deep), (s .pre .1, block-count _ _ _ _ _ e _ (f .field-at .ensures) (m .match .keys1) _ (c .field-at2 .ensures)))
-
-judge-term-boxes-with-requires : (t : ℕ) → judge-term-lts.Need-boxes-with-requires (judge-term-claims t) (judge-term-at t) judge-term.Post
-judge-term-boxes-with-requires t c κs = c .before .before .before .before .before .before .before .pre .1 .few
-
-judge-term-judge-term-requires : (t : ℕ) → judge-term-lts.Need-judge-term-requires (judge-term-claims t) (judge-term-at t) judge-term.Post
-judge-term-judge-term-requires t c κs =
-    let f = c .before .before .before .before in
-    let n = f .before .before in
-    let s = n .before .before in
-    let e = entered _ _ _ _ _ (s .pre .1) _ (n .row-number .ensures) (f .before .if1 .left) in
-    (omega (arith, s .pre .0, e .deep), record { full = s .pre .1 .full; few = boxed-few _ _ _ _ _ e _ (f .field-at .ensures) _ (c .boxes-with .ensures) })
-
-judge-term-returns-2 : (t : ℕ) → judge-term-lts.Need-returns-2 (judge-term-claims t) (judge-term-at t) judge-term.Post
-judge-term-returns-2 t c =
-    let m = c .before .before in
-    let f = m .before in
-    let n = f .before .before in
-    let e = entered _ _ _ _ _ (n .before .before .pre .1) _ (n .row-number .ensures) (f .before .if1 .left) in
-    block-spans _ _ _ _ _ e _ (f .field-at .ensures) (m .match .keys1) _ (c .before .field-at2 .ensures) _ (c .judge-block .ensures)
-
-judge-term-returns-3 : (t : ℕ) → judge-term-lts.Need-returns-3 (judge-term-claims t) (judge-term-at t) judge-term.Post
-judge-term-returns-3 t c =
-    let f = c .before .before .before .before .before in
-    let n = f .before .before in
-    let e = entered _ _ _ _ _ (n .before .before .pre .1) _ (n .row-number .ensures) (f .before .if1 .left) in
-    around-spans _ _ _ _ _ e _ (f .field-at .ensures) (omega arith) (omega arith) _ (c .before .boxes-with .ensures) _ (c .judge-term .ensures)
+    let s = c .before .before .before .before .before .before .before .before .before in
+    let e = entered _ _ _ _ _ (c .before .before .before .before .before .before .before .before .before .pre .1) _ (c .before .before .before .before .before .before .before .row-number .ensures) (c .before .before .before .before .before .before .if1 .left) in
+    (omega (arith, s .pre .0, e .deep), (record { full = s .pre .1 .full; near = omega (arith, e .room); few = s .pre .1 .few }, block-count _ _ _ _ _ e _ (c .before .before .before .before .before .field-at .ensures) (c .before .if4 .taken) _ (c .field-at2 .ensures)))
 
 judge-term-returns-4 : (t : ℕ) → judge-term-lts.Need-returns-4 (judge-term-claims t) (judge-term-at t) judge-term.Post
 judge-term-returns-4 t c =
-    let f = c .before .before in
-    let n = f .before .before in
-    let e = entered _ _ _ _ _ (n .before .before .pre .1) _ (n .row-number .ensures) (f .before .if1 .left) in
-    leaf-spans _ _ _ _ _ e (f .field-at .result) (f .field-at .ensures) (λ z. omega arith) (λ z. omega arith) (λ z. omega arith) (λ z. omega arith)
+    let e = entered _ _ _ _ _ (c .before .before .before .before .before .before .before .before .before .before .pre .1) _ (c .before .before .before .before .before .before .before .before .row-number .ensures) (c .before .before .before .before .before .before .before .if1 .left) in
+    block-spans _ _ _ _ _ e _ (c .before .before .before .before .before .before .field-at .ensures) (c .before .before .if4 .taken) _ (c .before .field-at2 .ensures) _ (c .judge-block .ensures)
+
+judge-term-boxes-with-requires : (t : ℕ) → judge-term-lts.Need-boxes-with-requires (judge-term-claims t) (judge-term-at t) judge-term.Post
+judge-term-boxes-with-requires t c κs = c .before .before .before .before .before .before .before .before .pre .1 .few
+
+judge-term-judge-term-requires : (t : ℕ) → judge-term-lts.Need-judge-term-requires (judge-term-claims t) (judge-term-at t) judge-term.Post
+judge-term-judge-term-requires t c κs =
+    let s = c .before .before .before .before .before .before .before .before .before in
+    let e = entered _ _ _ _ _ (c .before .before .before .before .before .before .before .before .before .pre .1) _ (c .before .before .before .before .before .before .before .row-number .ensures) (c .before .before .before .before .before .before .if1 .left) in
+    (omega (arith, s .pre .0, e .deep), record { full = s .pre .1 .full; near = omega (arith, e .room); few = boxed-few _ _ _ _ _ e _ (c .before .before .before .before .before .field-at .ensures) _ (c .boxes-with .ensures) })
 
 judge-term-returns-5 : (t : ℕ) → judge-term-lts.Need-returns-5 (judge-term-claims t) (judge-term-at t) judge-term.Post
 judge-term-returns-5 t c =
-    let m = c .before .before in
-    let f = m .before in
-    let n = f .before .before in
-    let e = entered _ _ _ _ _ (n .before .before .pre .1) _ (n .row-number .ensures) (f .before .if1 .left) in
-    leaf-spans _ _ _ _ _ e (f .field-at .result) (f .field-at .ensures) (λ z. omega arith) (λ z. omega arith) (λ z. omega arith) (m .match .rest .1)
+    let e = entered _ _ _ _ _ (c .before .before .before .before .before .before .before .before .before .before .pre .1) _ (c .before .before .before .before .before .before .before .before .row-number .ensures) (c .before .before .before .before .before .before .before .if1 .left) in
+    around-spans _ _ _ _ _ e _ (c .before .before .before .before .before .before .field-at .ensures) (c .before .before .before .before .if2 .left) (c .before .before .before .if3 .left) (c .before .before .if4 .left) _ (c .before .boxes-with .ensures) _ (c .judge-term .ensures)
 
 pub +judge-block+judge-term-spec : {M : Type 1} → statement M
 +judge-block+judge-term-spec = close μ-judge-block μ-judge-term (λ t. judge-block-lts.spec (judge-block-claims t) (judge-block-at t)
@@ -186,26 +174,27 @@ pub +judge-block+judge-term-spec : {M : Type 1} → statement M
     judge-block-μ-loop
     (judge-block-loop-holds t)
     (judge-block-judge-term-requires t)
-    (judge-block-enum-known-span t)
-    (judge-block-enum-told t)
     (judge-block-returns t)
     (judge-block-sub-left t)
     (judge-block-loop-less t)
     (judge-block-loop-again t)
+    (judge-block-counted-requires t)
     (judge-block-returns-2 t))
     λ t. judge-term-lts.spec (judge-term-claims t) (judge-term-at t)
     judge-term.Post
     (judge-term-row-number-requires t)
+    (judge-term-refused-requires t)
     (judge-term-returns t)
     (judge-term-field-at-requires t)
     (judge-term-add-next t)
+    (judge-term-counted-requires t)
+    (judge-term-returns-2 t)
+    (judge-term-returns-3 t)
     (judge-term-sub-deeper t)
     (judge-term-field-at-requires-2 t)
     (judge-term-cast-count t)
     (judge-term-judge-block-requires t)
+    (judge-term-returns-4 t)
     (judge-term-boxes-with-requires t)
     (judge-term-judge-term-requires t)
-    (judge-term-returns-2 t)
-    (judge-term-returns-3 t)
-    (judge-term-returns-4 t)
     (judge-term-returns-5 t)

@@ -1,14 +1,16 @@
 -- The term reader and the block reader, which call each other, meet their contracts. The measure is twice the levels left, one more for
 -- the block; the loop's invariant is `Going`. Assumes nothing.
-use Rattle.reader.proofs.Lists.{within-list}
-use Rattle.reader.proofs.ByteLaws.{opening-clear}
-use Rattle.reader.proofs.TermLaws.{around-kind, leaf-kind, block-kind, head-of, filled-row, number-refused, operand-refused, leaf-returns, around-returns, block-returns, inner-ready, block-ready}
+use Prim.Native.Nat.{ℕ, _<_, _+_, _*_}
 use native.Mathlib.Omega.{arith}
 use mathlib.Core.Path.{_≡_, refl, sym, _∙_}
 use borrow.Author.Needs.{needs}
 use lib.ListN.{length}
+use Rattle.reader.proofs.Lists.{within-list}
+use Rattle.reader.proofs.ByteLaws.{opening-clear}
+use Rattle.reader.proofs.PackedLaws.{found-refused, found-fine, refused-found, fine-found}
+use Rattle.reader.proofs.Refusals.{operands-near}
+use Rattle.reader.proofs.TermLaws.{around-kind, leaf-kind, block-kind, head-of, filled-row, number-refused, operand-refused, leaf-returns, around-returns, block-returns, inner-ready, block-ready}
 use Rattle.reader.proofs.LoopLaws.{Going, going-start, going-ready, going-refused, going-on, going-end}
-use Prim.Native.Nat.{ℕ, _<_, _+_, _*_}
 use borrow.Fn.Kinds.{In}
 use borrow.Fn.PlainCycle.{Measures, is, falls, and}
 use Rattle.reader.proofs.terms.read_block.Reads as read-block
@@ -19,6 +21,8 @@ use Rattle.reader.proofs.terms.read_term.Kinds as read-term-kinds
 use Rattle.reader.proofs.terms.+read_block+read_term.Lts-read_term as read-term-lts
 use Rattle.reader.proofs.opening.opening_number.Reads as opening-number-reads
 use Rattle.reader.proofs.operands.read_operands.Reads as read-operands-reads
+use Rattle.reader.proofs.packed.fine.Reads as fine-reads
+use Rattle.reader.proofs.packed.refused.Reads as refused-reads
 use Rattle.reader.proofs.terms.boxes_with.Reads as boxes-with-reads
 use Rattle.reader.proofs.terms.+read_block+read_term.{statement}
 use Rattle.reader.proofs.terms.+read_block+read_term.Tie.{close}
@@ -45,28 +49,22 @@ read-term-below t =
     and 2 read-term-kinds.ps (falls 2 read-term-kinds.ps _<_ μ-read-term t) read-term.Pre
 
 abbrev read-block-Inv-loop : read-block-lts.InvT-loop
-read-block-Inv-loop tail at count levels terms boxes rows₀ next₀ met₀ boxed₀ left₀ rows next met boxed left = Going levels count tail at terms boxes rows₀ rows next met boxed left × (length rows ≡ length rows₀)
+read-block-Inv-loop tail at count levels terms boxes rows₀ next₀ met₀ boxed₀ left₀ rows next met boxed left =
+    Going levels count tail at terms boxes rows₀ rows next met boxed left × (met < 1024) × (length rows ≡ length rows₀)
 
 abbrev read-block-μ-loop : read-block-lts.MeasureT-loop
 read-block-μ-loop tail at count levels terms boxes rows₀ next₀ met₀ boxed₀ left₀ rows next met boxed left = left
 
 abbrev read-block-claims : ℕ → read-block-lts.Claims
-read-block-claims t = (read-term-below t, read-term.Post)
+read-block-claims t = (read-term-below t, read-term.Post, fine-reads.Asked, fine-reads.Learnt)
 
 abbrev read-term-claims : ℕ → read-term-lts.Claims
-read-term-claims t = (opening-number-reads.Asked, opening-number-reads.Learnt, read-operands-reads.Asked, read-operands-reads.Learnt, read-block-below t, read-block.Post, boxes-with-reads.Asked, boxes-with-reads.Learnt, read-term-below t, read-term.Post)
+read-term-claims t = (opening-number-reads.Asked, opening-number-reads.Learnt, refused-reads.Asked, refused-reads.Learnt, read-operands-reads.Asked, read-operands-reads.Learnt, fine-reads.Asked, fine-reads.Learnt, read-block-below t, read-block.Post, boxes-with-reads.Asked, boxes-with-reads.Learnt, read-term-below t, read-term.Post)
 
 read-block-loop-holds : (t : ℕ) → read-block-lts.Need-loop-holds (read-block-claims t) (read-block-at t) read-block.Post read-block-Inv-loop read-block-μ-loop
-read-block-loop-holds t c = (going-start _ _ _ _ _ _ _ (c .before .before .pre .1 .0) (c .before .before .pre .1 .1), refl)
+read-block-loop-holds t c = (going-start _ _ _ _ _ _ _ (c .before .before .pre .1 .0) (c .before .before .pre .1 .1), c .before .before .pre .1 .2, refl)
 
-read-block-sub-used :
-    (t : ℕ) →
-    read-block-lts.Need-sub-used
-    (read-term-below t, read-term.Post)
-    (read-block-at t)
-    read-block.Post
-    read-block-Inv-loop
-    read-block-μ-loop
+read-block-sub-used : (t : ℕ) → read-block-lts.Need-sub-used (read-block-claims t) (read-block-at t) read-block.Post read-block-Inv-loop read-block-μ-loop
 read-block-sub-used t c = c .before .loop .inv .0 .from
 
 read-block-sub-read-term : (t : ℕ) → read-block-lts.Need-sub-read-term (read-block-claims t) (read-block-at t) read-block.Post read-block-Inv-loop read-block-μ-loop
@@ -81,73 +79,48 @@ read-block-part-read-term-end t c = search needs
 read-block-read-term-requires : (t : ℕ) → read-block-lts.Need-read-term-requires (read-block-claims t) (read-block-at t) read-block.Post read-block-Inv-loop read-block-μ-loop
 read-block-read-term-requires t c κs = (omega (arith, c .before .before .before .before .before .before .pre .0), going-ready _ _ _ _ _ _ _ _ _ _ _ _ (c .before .before .before .loop .inv .0))
 
-read-block-enum-known-got : (t : ℕ) → read-block-lts.Need-enum-known-got (read-block-claims t) (read-block-at t) read-block.Post read-block-Inv-loop read-block-μ-loop
-read-block-enum-known-got t c = search needs
-
-read-block-enum-told :
-    (t : ℕ) →
-    read-block-lts.Need-enum-told
-    (read-term-below t, read-term.Post)
-    (read-block-at t)
-    read-block.Post
-    read-block-Inv-loop
-    read-block-μ-loop
-read-block-enum-told t c = search needs
-
 read-block-same-length : (t : ℕ) → read-block-lts.Need-same-length (read-block-claims t) (read-block-at t) read-block.Post read-block-Inv-loop read-block-μ-loop
-read-block-same-length t c = c .before .before .before .before .read-term .kept .1 .1 .1 .1 .1 .1 .0 ∙ c .before .before .before .before .before .before .before .before .loop .inv .1
+read-block-same-length t c = c .before .before .before .read-term .kept .1 .1 .1 .1 .1 .1 .0 ∙ c .before .before .before .before .before .before .before .loop .inv .2
 
-read-block-returns :
-    (t : ℕ) →
-    read-block-lts.Need-returns
-    (read-term-below t, read-term.Post)
-    (read-block-at t)
-    read-block.Post
-    read-block-Inv-loop
-    read-block-μ-loop
-read-block-returns t c = going-refused _ _ _ _ _ _ _ _ _ _ _ _ (c .before .before .before .before .before .before .before .before .loop .inv .0) (c .before .before .before .before .before .before .before .loop-test .taken) _ _ (c .before .before .before .before .read-term .ensures) _ _ (c .enum-told .given .1)
+read-block-returns : (t : ℕ) → read-block-lts.Need-returns (read-block-claims t) (read-block-at t) read-block.Post read-block-Inv-loop read-block-μ-loop
+read-block-returns t c = going-refused _ _ _ _ _ _ _ _ _ _ _ _ (c .before .before .before .before .before .before .before .loop .inv .0) (c .before .before .before .before .before .before .loop-test .taken) _ _ (c .before .before .before .read-term .ensures) _ _ (found-refused _ (c .if1 .taken))
 
-read-block-sub-left :
-    (t : ℕ) →
-    read-block-lts.Need-sub-left
-    (read-term-below t, read-term.Post)
-    (read-block-at t)
-    read-block.Post
-    read-block-Inv-loop
-    read-block-μ-loop
-read-block-sub-left t c = c .before .before .before .before .before .before .before .before .loop-test .taken
+read-block-sub-left : (t : ℕ) → read-block-lts.Need-sub-left (read-block-claims t) (read-block-at t) read-block.Post read-block-Inv-loop read-block-μ-loop
+read-block-sub-left t c = c .before .before .before .before .before .before .loop-test .taken
 
-read-block-loop-less :
-    (t : ℕ) →
-    read-block-lts.Need-loop-less
-    (read-term-below t, read-term.Post)
-    (read-block-at t)
-    read-block.Post
-    read-block-Inv-loop
-    read-block-μ-loop
-read-block-loop-less t c = omega (arith, c .before .before .before .before .before .before .before .before .loop-test .taken)
+read-block-loop-less : (t : ℕ) → read-block-lts.Need-loop-less (read-block-claims t) (read-block-at t) read-block.Post read-block-Inv-loop read-block-μ-loop
+read-block-loop-less t c = omega (arith, c .before .before .before .before .before .before .loop-test .taken)
 
 read-block-loop-again : (t : ℕ) → read-block-lts.Need-loop-again (read-block-claims t) (read-block-at t) read-block.Post read-block-Inv-loop read-block-μ-loop
-read-block-loop-again t c = (going-on _ _ _ _ _ _ _ _ _ _ _ _ (c .before .before .before .before .before .before .before .before .before .loop .inv .0) (c .before .before .before .before .before .before .before .before .loop-test .taken) _ _ (c .before .before .before .before .before .read-term .ensures) _ _ _ (c .before .got .given .1) (c .before .before .before .before .before .read-term .kept .1 .1 .1 .1 .1 .1 .0 ∙ c .before .before .before .before .before .before .before .before .before .loop .inv .0 .ready .full), c .before .before .before .before .before .read-term .kept .1 .1 .1 .1 .1 .1 .0 ∙ c .before .before .before .before .before .before .before .before .before .loop .inv .1)
+read-block-loop-again t c =
+    let kept = c .before .before .before .read-term .kept .1 .1 .1 .1 .1 .1 .0 in
+    let g = c .before .before .before .before .before .before .before .loop .inv .0 in
+    (going-on _ _ _ _ _ _ _ _ _ _ _ _ g (c .before .before .before .before .before .before .loop-test .taken) _ _ (c .before .before .before .read-term .ensures) _ _ _ (found-fine _ (c .if1 .left)) (kept ∙ g .ready .full), omega arith, kept ∙ c .before .before .before .before .before .before .before .loop .inv .2)
+
+read-block-fine-requires : (t : ℕ) → read-block-lts.Need-fine-requires (read-block-claims t) (read-block-at t) read-block.Post read-block-Inv-loop read-block-μ-loop
+read-block-fine-requires t c κs =
+    let g = c .before .loop .inv .0 in
+    (omega (arith, g .ready .room), c .before .loop .inv .1, omega (arith, g .ready .few))
 
 read-block-same-length-2 : (t : ℕ) → read-block-lts.Need-same-length-2 (read-block-claims t) (read-block-at t) read-block.Post read-block-Inv-loop read-block-μ-loop
-read-block-same-length-2 t c = c .before .loop .inv .1
+read-block-same-length-2 t c = c .before .before .loop .inv .2
 
-read-block-returns-2 :
-    (t : ℕ) →
-    read-block-lts.Need-returns-2
-    (read-term-below t, read-term.Post)
-    (read-block-at t)
-    read-block.Post
-    read-block-Inv-loop
-    read-block-μ-loop
-read-block-returns-2 t c = going-end _ _ _ _ _ _ _ _ _ _ _ _ (c .before .loop .inv .0) (c .loop-test .left)
+read-block-returns-2 : (t : ℕ) → read-block-lts.Need-returns-2 (read-block-claims t) (read-block-at t) read-block.Post read-block-Inv-loop read-block-μ-loop
+read-block-returns-2 t c =
+    let g = c .before .before .loop .inv .0 in
+    let q = going-end _ _ _ _ _ _ _ _ _ _ _ _ g (c .before .loop-test .left) in
+    (fine-found _ _ _ _ (omega (arith, g .ready .room)) (c .before .before .loop .inv .1) (omega (arith, g .ready .few)) (c .fine .ensures) ∙ q .0, q .1)
 
 read-term-opening-number-requires : (t : ℕ) → read-term-lts.Need-opening-number-requires (read-term-claims t) (read-term-at t) read-term.Post
 read-term-opening-number-requires t c κs = search needs
 
+read-term-refused-requires : (t : ℕ) → read-term-lts.Need-refused-requires (read-term-claims t) (read-term-at t) read-term.Post
+read-term-refused-requires t c κs = omega (arith, c .before .before .before .before .pre .1 .room)
+
 read-term-returns : (t : ℕ) → read-term-lts.Need-returns (read-term-claims t) (read-term-at t) read-term.Post
-read-term-returns t c = number-refused _ _ _ _ _ _ _ _ (c .before .before .before .before .pre .1 .few) (c .before .opening-number .ensures) (c .if1 .taken)
+read-term-returns t c =
+    let q = number-refused _ _ _ _ _ _ _ _ (c .before .before .before .before .before .pre .1 .few) (c .before .before .opening-number .ensures) (c .before .if1 .taken) in
+    (refused-found _ (c .before .before .opening-number .result) (c .before .before .before .before .before .args .at) (omega (arith, c .before .before .before .before .before .pre .1 .room)) (c .refused .ensures) ∙ q .0, q .1)
 
 read-term-shared-slice-read-kind : (t : ℕ) → read-term-lts.Need-shared-slice-read-kind (read-term-claims t) (read-term-at t) read-term.Post
 read-term-shared-slice-read-kind t c = opening-clear _ _ _ (c .before .before .before .before .before .args .at) _ _ (c .before .before .before .before .before .pre .1 .few) (sym (c .before .before .opening-number .ensures) ∙ c .before .if1 .left) .bytes
@@ -160,6 +133,9 @@ read-term-read-operands-requires t c κs =
 read-term-enum-known-fields : (t : ℕ) → read-term-lts.Need-enum-known-fields (read-term-claims t) (read-term-at t) read-term.Post
 read-term-enum-known-fields t c = search needs
 
+read-term-refused-requires-2 : (t : ℕ) → read-term-lts.Need-refused-requires-2 (read-term-claims t) (read-term-at t) read-term.Post
+read-term-refused-requires-2 t c κs = omega (arith, operands-near _ _ _ _ _ (sym (c .before .before .before .before .before .read-operands .ensures .0) ∙ c .before .fields .given .1) (c .before .before .before .before .before .before .before .before .before .before .before .before .pre .1 .room))
+
 read-term-enum-known-fields-2 : (t : ℕ) → read-term-lts.Need-enum-known-fields-2 (read-term-claims t) (read-term-at t) read-term.Post
 read-term-enum-known-fields-2 t c = search needs
 
@@ -169,105 +145,116 @@ read-term-add-next t c =
     let h = head-of _ _ _ (c .before .before .before .before .before .before .before .before .before .before .before .before .args .at) _ _ k _ (sym (c .before .before .before .before .before .read-operands .ensures .0) ∙ c .before .fields2 .given .1) in
     omega (arith, h .within, c .before .before .before .before .before .before .before .before .before .before .before .before .pre .1 .room)
 
-read-term-sub-deeper : (t : ℕ) → read-term-lts.Need-sub-deeper (read-term-claims t) (read-term-at t) read-term.Post
-read-term-sub-deeper t c = opening-clear _ _ _ (c .before .before .before .before .before .before .before .before .before .before .before .before .args .at) _ _ (c .before .before .before .before .before .before .before .before .before .before .before .before .pre .1 .few) (sym (c .before .before .before .before .before .before .before .before .before .opening-number .ensures) ∙ c .before .before .before .before .before .before .before .before .if1 .left) .deep
-
 read-term-add-met : (t : ℕ) → read-term-lts.Need-add-met (read-term-claims t) (read-term-at t) read-term.Post
 read-term-add-met t c = omega (arith, opening-clear _ _ _ (c .before .before .before .before .before .before .before .before .before .before .before .before .args .at) _ _ (c .before .before .before .before .before .before .before .before .before .before .before .before .pre .1 .few) (sym (c .before .before .before .before .before .before .before .before .before .opening-number .ensures) ∙ c .before .before .before .before .before .before .before .before .if1 .left) .room)
 
-read-term-shared-slice-read-count : (t : ℕ) → read-term-lts.Need-shared-slice-read-count (read-term-claims t) (read-term-at t) read-term.Post
-read-term-shared-slice-read-count t c =
+read-term-fine-requires : (t : ℕ) → read-term-lts.Need-fine-requires (read-term-claims t) (read-term-at t) read-term.Post
+read-term-fine-requires t c κs =
+    let k = opening-clear _ _ _ (c .before .before .before .before .before .before .before .before .before .before .before .before .args .at) _ _ (c .before .before .before .before .before .before .before .before .before .before .before .before .pre .1 .few) (sym (c .before .before .before .before .before .before .before .before .before .opening-number .ensures) ∙ c .before .before .before .before .before .before .before .before .if1 .left) in
+    let h = head-of _ _ _ (c .before .before .before .before .before .before .before .before .before .before .before .before .args .at) _ _ k _ (sym (c .before .before .before .before .before .read-operands .ensures .0) ∙ c .before .fields2 .given .1) in
+    (omega (arith, h .within, c .before .before .before .before .before .before .before .before .before .before .before .before .pre .1 .room), omega (arith, h .room), omega (arith, c .before .before .before .before .before .before .before .before .before .before .before .before .pre .1 .few))
+
+read-term-same-length : (t : ℕ) → read-term-lts.Need-same-length (read-term-claims t) (read-term-at t) read-term.Post
+read-term-same-length t c = c .before .before .before .before .before .before .before .read-operands .kept .1 .1 .1 .1 .0
+
+read-term-returns-2 : (t : ℕ) → read-term-lts.Need-returns-2 (read-term-claims t) (read-term-at t) read-term.Post
+read-term-returns-2 t c =
     let k = opening-clear _ _ _ (c .before .before .before .before .before .before .before .before .before .before .before .before .before .before .args .at) _ _ (c .before .before .before .before .before .before .before .before .before .before .before .before .before .before .pre .1 .few) (sym (c .before .before .before .before .before .before .before .before .before .before .before .opening-number .ensures) ∙ c .before .before .before .before .before .before .before .before .before .before .if1 .left) in
     let h = head-of _ _ _ (c .before .before .before .before .before .before .before .before .before .before .before .before .before .before .args .at) _ _ k _ (sym (c .before .before .before .before .before .before .before .read-operands .ensures .0) ∙ c .before .before .before .fields2 .given .1) in
-    within-list (c .before .before .before .before .before .before .before .before .before .before .before .before .before .before .args .tail .now) 1 (h .several (block-kind _ (h .byte ∙ c .before .match2 .keys1)))
+    let q = leaf-returns _ _ _ _ _ _ _ h _ _ (filled-row _ _ _ _ _ _ _ (c .before .before .before .before .before .before .before .read-operands .ensures) (c .before .before .before .fields2 .given .1)) (leaf-kind _ (λ z. absurd (omega (arith, z, h .byte, c .if2 .taken))) (λ z. omega (arith, z, h .byte, c .if2 .taken))) in
+    (fine-found _ _ _ _ (omega (arith, h .within, c .before .before .before .before .before .before .before .before .before .before .before .before .before .before .pre .1 .room)) (omega (arith, h .room)) (omega (arith, c .before .before .before .before .before .before .before .before .before .before .before .before .before .before .pre .1 .few)) (c .before .fine .ensures) ∙ q .0, q .1)
+
+read-term-same-length-2 : (t : ℕ) → read-term-lts.Need-same-length-2 (read-term-claims t) (read-term-at t) read-term.Post
+read-term-same-length-2 t c = c .before .before .before .before .before .before .before .before .read-operands .kept .1 .1 .1 .1 .0
+
+read-term-returns-3 : (t : ℕ) → read-term-lts.Need-returns-3 (read-term-claims t) (read-term-at t) read-term.Post
+read-term-returns-3 t c =
+    let k = opening-clear _ _ _ (c .before .before .before .before .before .before .before .before .before .before .before .before .before .before .before .args .at) _ _ (c .before .before .before .before .before .before .before .before .before .before .before .before .before .before .before .pre .1 .few) (sym (c .before .before .before .before .before .before .before .before .before .before .before .before .opening-number .ensures) ∙ c .before .before .before .before .before .before .before .before .before .before .before .if1 .left) in
+    let h = head-of _ _ _ (c .before .before .before .before .before .before .before .before .before .before .before .before .before .before .before .args .at) _ _ k _ (sym (c .before .before .before .before .before .before .before .before .read-operands .ensures .0) ∙ c .before .before .before .before .fields2 .given .1) in
+    let q = leaf-returns _ _ _ _ _ _ _ h _ _ (filled-row _ _ _ _ _ _ _ (c .before .before .before .before .before .before .before .before .read-operands .ensures) (c .before .before .before .before .fields2 .given .1)) (leaf-kind _ (λ z. omega (arith, h .byte, c .if3 .taken)) (λ z. omega (arith, z, h .byte, c .if3 .taken))) in
+    (fine-found _ _ _ _ (omega (arith, h .within, c .before .before .before .before .before .before .before .before .before .before .before .before .before .before .before .pre .1 .room)) (omega (arith, h .room)) (omega (arith, c .before .before .before .before .before .before .before .before .before .before .before .before .before .before .before .pre .1 .few)) (c .before .before .fine .ensures) ∙ q .0, q .1)
+
+read-term-sub-deeper : (t : ℕ) → read-term-lts.Need-sub-deeper (read-term-claims t) (read-term-at t) read-term.Post
+read-term-sub-deeper t c = opening-clear _ _ _ (c .before .before .before .before .before .before .before .before .before .before .before .before .before .before .before .args .at) _ _ (c .before .before .before .before .before .before .before .before .before .before .before .before .before .before .before .pre .1 .few) (sym (c .before .before .before .before .before .before .before .before .before .before .before .before .opening-number .ensures) ∙ c .before .before .before .before .before .before .before .before .before .before .before .if1 .left) .deep
+
+read-term-shared-slice-read-count : (t : ℕ) → read-term-lts.Need-shared-slice-read-count (read-term-claims t) (read-term-at t) read-term.Post
+read-term-shared-slice-read-count t c =
+    let k = opening-clear _ _ _ (c .before .before .before .before .before .before .before .before .before .before .before .before .before .before .before .before .before .args .at) _ _ (c .before .before .before .before .before .before .before .before .before .before .before .before .before .before .before .before .before .pre .1 .few) (sym (c .before .before .before .before .before .before .before .before .before .before .before .before .before .before .opening-number .ensures) ∙ c .before .before .before .before .before .before .before .before .before .before .before .before .before .if1 .left) in
+    let h = head-of _ _ _ (c .before .before .before .before .before .before .before .before .before .before .before .before .before .before .before .before .before .args .at) _ _ k _ (sym (c .before .before .before .before .before .before .before .before .before .before .read-operands .ensures .0) ∙ c .before .before .before .before .before .before .fields2 .given .1) in
+    within-list (c .before .before .before .before .before .before .before .before .before .before .before .before .before .before .before .before .before .args .tail .now) 1 (h .several (block-kind _ (h .byte ∙ c .before .if4 .taken)))
 
 read-term-cast-count : (t : ℕ) → read-term-lts.Need-cast-count (read-term-claims t) (read-term-at t) read-term.Post
 read-term-cast-count t c = omega (arith, c .shared-slice-known3 .given 1)
 
 read-term-sub-read-block : (t : ℕ) → read-term-lts.Need-sub-read-block (read-term-claims t) (read-term-at t) read-term.Post
 read-term-sub-read-block t c =
-    let k = opening-clear _ _ _ (c .before .before .before .before .before .before .before .before .before .before .before .before .before .before .args .at) _ _ (c .before .before .before .before .before .before .before .before .before .before .before .before .before .before .pre .1 .few) (sym (c .before .before .before .before .before .before .before .before .before .before .before .opening-number .ensures) ∙ c .before .before .before .before .before .before .before .before .before .before .if1 .left) in
-    head-of _ _ _ (c .before .before .before .before .before .before .before .before .before .before .before .before .before .before .args .at) _ _ k _ (sym (c .before .before .before .before .before .before .before .read-operands .ensures .0) ∙ c .before .before .before .fields2 .given .1) .within
+    let k = opening-clear _ _ _ (c .before .before .before .before .before .before .before .before .before .before .before .before .before .before .before .before .before .args .at) _ _ (c .before .before .before .before .before .before .before .before .before .before .before .before .before .before .before .before .before .pre .1 .few) (sym (c .before .before .before .before .before .before .before .before .before .before .before .before .before .before .opening-number .ensures) ∙ c .before .before .before .before .before .before .before .before .before .before .before .before .before .if1 .left) in
+    head-of _ _ _ (c .before .before .before .before .before .before .before .before .before .before .before .before .before .before .before .before .before .args .at) _ _ k _ (sym (c .before .before .before .before .before .before .before .before .before .before .read-operands .ensures .0) ∙ c .before .before .before .before .before .before .fields2 .given .1) .within
 
 read-term-part-read-block-start : (t : ℕ) → read-term-lts.Need-part-read-block-start (read-term-claims t) (read-term-at t) read-term.Post
 read-term-part-read-block-start t c =
-    let k = opening-clear _ _ _ (c .before .before .before .before .before .before .before .before .before .before .before .before .before .before .args .at) _ _ (c .before .before .before .before .before .before .before .before .before .before .before .before .before .before .pre .1 .few) (sym (c .before .before .before .before .before .before .before .before .before .before .before .opening-number .ensures) ∙ c .before .before .before .before .before .before .before .before .before .before .if1 .left) in
-    head-of _ _ _ (c .before .before .before .before .before .before .before .before .before .before .before .before .before .before .args .at) _ _ k _ (sym (c .before .before .before .before .before .before .before .read-operands .ensures .0) ∙ c .before .before .before .fields2 .given .1) .within
+    let k = opening-clear _ _ _ (c .before .before .before .before .before .before .before .before .before .before .before .before .before .before .before .before .before .args .at) _ _ (c .before .before .before .before .before .before .before .before .before .before .before .before .before .before .before .before .before .pre .1 .few) (sym (c .before .before .before .before .before .before .before .before .before .before .before .before .before .before .opening-number .ensures) ∙ c .before .before .before .before .before .before .before .before .before .before .before .before .before .if1 .left) in
+    head-of _ _ _ (c .before .before .before .before .before .before .before .before .before .before .before .before .before .before .before .before .before .args .at) _ _ k _ (sym (c .before .before .before .before .before .before .before .before .before .before .read-operands .ensures .0) ∙ c .before .before .before .before .before .before .fields2 .given .1) .within
 
 read-term-part-read-block-end : (t : ℕ) → read-term-lts.Need-part-read-block-end (read-term-claims t) (read-term-at t) read-term.Post
 read-term-part-read-block-end t c = search needs
 
 read-term-read-block-requires : (t : ℕ) → read-term-lts.Need-read-block-requires (read-term-claims t) (read-term-at t) read-term.Post
 read-term-read-block-requires t c κs =
-    let k = opening-clear _ _ _ (c .before .before .before .before .before .before .before .before .before .before .before .before .before .before .before .before .args .at) _ _ (c .before .before .before .before .before .before .before .before .before .before .before .before .before .before .before .before .pre .1 .few) (sym (c .before .before .before .before .before .before .before .before .before .before .before .before .before .opening-number .ensures) ∙ c .before .before .before .before .before .before .before .before .before .before .before .before .if1 .left) in
-    let h = head-of _ _ _ (c .before .before .before .before .before .before .before .before .before .before .before .before .before .before .before .before .args .at) _ _ k _ (sym (c .before .before .before .before .before .before .before .before .before .read-operands .ensures .0) ∙ c .before .before .before .before .before .fields2 .given .1) in
-    (omega (arith, c .before .before .before .before .before .before .before .before .before .before .before .before .before .before .before .before .pre .0, h .deep), (block-ready _ _ _ _ _ _ _ h _ _ (filled-row _ _ _ _ _ _ _ (c .before .before .before .before .before .before .before .before .before .read-operands .ensures) (c .before .before .before .before .before .fields2 .given .1)) (c .before .before .before .before .before .before .before .before .before .before .before .before .before .before .before .before .pre .1) (c .before .before .before .before .before .before .before .before .before .read-operands .kept .1 .1 .1 .1 .0 ∙ c .before .before .before .before .before .before .before .before .before .before .before .before .before .before .before .before .pre .1 .full), h .several (block-kind _ (h .byte ∙ c .before .before .before .match2 .keys1))))
+    let k = opening-clear _ _ _ (c .before .before .before .before .before .before .before .before .before .before .before .before .before .before .before .before .before .before .before .args .at) _ _ (c .before .before .before .before .before .before .before .before .before .before .before .before .before .before .before .before .before .before .before .pre .1 .few) (sym (c .before .before .before .before .before .before .before .before .before .before .before .before .before .before .before .before .opening-number .ensures) ∙ c .before .before .before .before .before .before .before .before .before .before .before .before .before .before .before .if1 .left) in
+    let h = head-of _ _ _ (c .before .before .before .before .before .before .before .before .before .before .before .before .before .before .before .before .before .before .before .args .at) _ _ k _ (sym (c .before .before .before .before .before .before .before .before .before .before .before .before .read-operands .ensures .0) ∙ c .before .before .before .before .before .before .before .before .fields2 .given .1) in
+    (omega (arith, c .before .before .before .before .before .before .before .before .before .before .before .before .before .before .before .before .before .before .before .pre .0, h .deep), (block-ready _ _ _ _ _ _ _ h _ _ (filled-row _ _ _ _ _ _ _ (c .before .before .before .before .before .before .before .before .before .before .before .before .read-operands .ensures) (c .before .before .before .before .before .before .before .before .fields2 .given .1)) (c .before .before .before .before .before .before .before .before .before .before .before .before .before .before .before .before .before .before .before .pre .1) (c .before .before .before .before .before .before .before .before .before .before .before .before .read-operands .kept .1 .1 .1 .1 .0 ∙ c .before .before .before .before .before .before .before .before .before .before .before .before .before .before .before .before .before .before .before .pre .1 .full), h .several (block-kind _ (h .byte ∙ c .before .before .before .if4 .taken)), omega (arith, h .room)))
+
+read-term-same-length-3 : (t : ℕ) → read-term-lts.Need-same-length-3 (read-term-claims t) (read-term-at t) read-term.Post
+read-term-same-length-3 t c = c .before .before .read-block .kept .1 .1 .1 .1 .1 .1 .0 ∙ c .before .before .before .before .before .before .before .before .before .before .before .before .before .before .before .read-operands .kept .1 .1 .1 .1 .0
+
+read-term-returns-4 : (t : ℕ) → read-term-lts.Need-returns-4 (read-term-claims t) (read-term-at t) read-term.Post
+read-term-returns-4 t c =
+    let k = opening-clear _ _ _ (c .before .before .before .before .before .before .before .before .before .before .before .before .before .before .before .before .before .before .before .before .before .before .args .at) _ _ (c .before .before .before .before .before .before .before .before .before .before .before .before .before .before .before .before .before .before .before .before .before .before .pre .1 .few) (sym (c .before .before .before .before .before .before .before .before .before .before .before .before .before .before .before .before .before .before .before .opening-number .ensures) ∙ c .before .before .before .before .before .before .before .before .before .before .before .before .before .before .before .before .before .before .if1 .left) in
+    let h = head-of _ _ _ (c .before .before .before .before .before .before .before .before .before .before .before .before .before .before .before .before .before .before .before .before .before .before .args .at) _ _ k _ (sym (c .before .before .before .before .before .before .before .before .before .before .before .before .before .before .before .read-operands .ensures .0) ∙ c .before .before .before .before .before .before .before .before .before .before .before .fields2 .given .1) in
+    block-returns _ _ _ _ _ _ _ h _ _ (filled-row _ _ _ _ _ _ _ (c .before .before .before .before .before .before .before .before .before .before .before .before .before .before .before .read-operands .ensures) (c .before .before .before .before .before .before .before .before .before .before .before .fields2 .given .1)) (block-kind _ (h .byte ∙ c .before .before .before .before .before .before .if4 .taken)) _ _ (c .before .before .read-block .ensures)
 
 read-term-boxes-with-requires : (t : ℕ) → read-term-lts.Need-boxes-with-requires (read-term-claims t) (read-term-at t) read-term.Post
-read-term-boxes-with-requires t c κs = c .before .before .before .before .before .before .before .before .before .before .before .before .before .before .before .pre .1 .few
+read-term-boxes-with-requires t c κs = c .before .before .before .before .before .before .before .before .before .before .before .before .before .before .before .before .pre .1 .few
 
 read-term-sub-read-term : (t : ℕ) → read-term-lts.Need-sub-read-term (read-term-claims t) (read-term-at t) read-term.Post
 read-term-sub-read-term t c =
-    let k = opening-clear _ _ _ (c .before .before .before .before .before .before .before .before .before .before .before .before .before .before .before .before .args .at) _ _ (c .before .before .before .before .before .before .before .before .before .before .before .before .before .before .before .before .pre .1 .few) (sym (c .before .before .before .before .before .before .before .before .before .before .before .before .before .opening-number .ensures) ∙ c .before .before .before .before .before .before .before .before .before .before .before .before .if1 .left) in
-    head-of _ _ _ (c .before .before .before .before .before .before .before .before .before .before .before .before .before .before .before .before .args .at) _ _ k _ (sym (c .before .before .before .before .before .before .before .before .before .read-operands .ensures .0) ∙ c .before .before .before .before .before .fields2 .given .1) .within
+    let k = opening-clear _ _ _ (c .before .before .before .before .before .before .before .before .before .before .before .before .before .before .before .before .before .args .at) _ _ (c .before .before .before .before .before .before .before .before .before .before .before .before .before .before .before .before .before .pre .1 .few) (sym (c .before .before .before .before .before .before .before .before .before .before .before .before .before .before .opening-number .ensures) ∙ c .before .before .before .before .before .before .before .before .before .before .before .before .before .if1 .left) in
+    head-of _ _ _ (c .before .before .before .before .before .before .before .before .before .before .before .before .before .before .before .before .before .args .at) _ _ k _ (sym (c .before .before .before .before .before .before .before .before .before .before .read-operands .ensures .0) ∙ c .before .before .before .before .before .before .fields2 .given .1) .within
 
 read-term-part-read-term-start : (t : ℕ) → read-term-lts.Need-part-read-term-start (read-term-claims t) (read-term-at t) read-term.Post
 read-term-part-read-term-start t c =
-    let k = opening-clear _ _ _ (c .before .before .before .before .before .before .before .before .before .before .before .before .before .before .before .before .args .at) _ _ (c .before .before .before .before .before .before .before .before .before .before .before .before .before .before .before .before .pre .1 .few) (sym (c .before .before .before .before .before .before .before .before .before .before .before .before .before .opening-number .ensures) ∙ c .before .before .before .before .before .before .before .before .before .before .before .before .if1 .left) in
-    head-of _ _ _ (c .before .before .before .before .before .before .before .before .before .before .before .before .before .before .before .before .args .at) _ _ k _ (sym (c .before .before .before .before .before .before .before .before .before .read-operands .ensures .0) ∙ c .before .before .before .before .before .fields2 .given .1) .within
+    let k = opening-clear _ _ _ (c .before .before .before .before .before .before .before .before .before .before .before .before .before .before .before .before .before .args .at) _ _ (c .before .before .before .before .before .before .before .before .before .before .before .before .before .before .before .before .before .pre .1 .few) (sym (c .before .before .before .before .before .before .before .before .before .before .before .before .before .before .opening-number .ensures) ∙ c .before .before .before .before .before .before .before .before .before .before .before .before .before .if1 .left) in
+    head-of _ _ _ (c .before .before .before .before .before .before .before .before .before .before .before .before .before .before .before .before .before .args .at) _ _ k _ (sym (c .before .before .before .before .before .before .before .before .before .before .read-operands .ensures .0) ∙ c .before .before .before .before .before .before .fields2 .given .1) .within
 
 read-term-part-read-term-end : (t : ℕ) → read-term-lts.Need-part-read-term-end (read-term-claims t) (read-term-at t) read-term.Post
 read-term-part-read-term-end t c = search needs
 
 read-term-read-term-requires : (t : ℕ) → read-term-lts.Need-read-term-requires (read-term-claims t) (read-term-at t) read-term.Post
 read-term-read-term-requires t c κs =
-    let k = opening-clear _ _ _ (c .before .before .before .before .before .before .before .before .before .before .before .before .before .before .before .before .before .before .args .at) _ _ (c .before .before .before .before .before .before .before .before .before .before .before .before .before .before .before .before .before .before .pre .1 .few) (sym (c .before .before .before .before .before .before .before .before .before .before .before .before .before .before .before .opening-number .ensures) ∙ c .before .before .before .before .before .before .before .before .before .before .before .before .before .before .if1 .left) in
-    let h = head-of _ _ _ (c .before .before .before .before .before .before .before .before .before .before .before .before .before .before .before .before .before .before .args .at) _ _ k _ (sym (c .before .before .before .before .before .before .before .before .before .before .before .read-operands .ensures .0) ∙ c .before .before .before .before .before .before .before .fields2 .given .1) in
-    (omega (arith, c .before .before .before .before .before .before .before .before .before .before .before .before .before .before .before .before .before .before .pre .0, h .deep), rw (c .before .before .boxes-with .ensures) (inner-ready _ _ _ _ _ _ _ h _ _ (filled-row _ _ _ _ _ _ _ (c .before .before .before .before .before .before .before .before .before .before .before .read-operands .ensures) (c .before .before .before .before .before .before .before .fields2 .given .1)) (c .before .before .before .before .before .before .before .before .before .before .before .before .before .before .before .before .before .before .pre .1) (c .before .before .before .before .before .before .before .before .before .before .before .read-operands .kept .1 .1 .1 .1 .0 ∙ c .before .before .before .before .before .before .before .before .before .before .before .before .before .before .before .before .before .before .pre .1 .full)))
-
-read-term-same-length : (t : ℕ) → read-term-lts.Need-same-length (read-term-claims t) (read-term-at t) read-term.Post
-read-term-same-length t c = c .before .before .before .before .before .read-operands .kept .1 .1 .1 .1 .0
-
-read-term-returns-2 : (t : ℕ) → read-term-lts.Need-returns-2 (read-term-claims t) (read-term-at t) read-term.Post
-read-term-returns-2 t c =
-    let k = opening-clear _ _ _ (c .before .before .before .before .before .before .before .before .before .before .before .before .args .at) _ _ (c .before .before .before .before .before .before .before .before .before .before .before .before .pre .1 .few) (sym (c .before .before .before .before .before .before .before .before .before .opening-number .ensures) ∙ c .before .before .before .before .before .before .before .before .if1 .left) in
-    operand-refused _ _ _ (c .before .before .before .before .before .before .before .before .before .before .before .before .args .at) _ _ _ _ _ _ k (sym (c .before .before .before .before .before .read-operands .ensures .0) ∙ c .before .fields .given .1)
-
-read-term-same-length-2 : (t : ℕ) → read-term-lts.Need-same-length-2 (read-term-claims t) (read-term-at t) read-term.Post
-read-term-same-length-2 t c = c .before .before .read-block .kept .1 .1 .1 .1 .1 .1 .0 ∙ c .before .before .before .before .before .before .before .before .before .before .before .before .read-operands .kept .1 .1 .1 .1 .0
-
-read-term-returns-3 : (t : ℕ) → read-term-lts.Need-returns-3 (read-term-claims t) (read-term-at t) read-term.Post
-read-term-returns-3 t c =
     let k = opening-clear _ _ _ (c .before .before .before .before .before .before .before .before .before .before .before .before .before .before .before .before .before .before .before .args .at) _ _ (c .before .before .before .before .before .before .before .before .before .before .before .before .before .before .before .before .before .before .before .pre .1 .few) (sym (c .before .before .before .before .before .before .before .before .before .before .before .before .before .before .before .before .opening-number .ensures) ∙ c .before .before .before .before .before .before .before .before .before .before .before .before .before .before .before .if1 .left) in
     let h = head-of _ _ _ (c .before .before .before .before .before .before .before .before .before .before .before .before .before .before .before .before .before .before .before .args .at) _ _ k _ (sym (c .before .before .before .before .before .before .before .before .before .before .before .before .read-operands .ensures .0) ∙ c .before .before .before .before .before .before .before .before .fields2 .given .1) in
-    block-returns _ _ _ _ _ _ _ h _ _ (filled-row _ _ _ _ _ _ _ (c .before .before .before .before .before .before .before .before .before .before .before .before .read-operands .ensures) (c .before .before .before .before .before .before .before .before .fields2 .given .1)) (block-kind _ (h .byte ∙ c .before .before .before .before .before .before .match2 .keys1)) _ _ (c .before .before .read-block .ensures)
-
-read-term-same-length-3 : (t : ℕ) → read-term-lts.Need-same-length-3 (read-term-claims t) (read-term-at t) read-term.Post
-read-term-same-length-3 t c = c .before .before .read-term .kept .1 .1 .1 .1 .1 .1 .0 ∙ c .before .before .before .before .before .before .before .before .before .before .before .before .before .before .read-operands .kept .1 .1 .1 .1 .0
-
-read-term-returns-4 : (t : ℕ) → read-term-lts.Need-returns-4 (read-term-claims t) (read-term-at t) read-term.Post
-read-term-returns-4 t c =
-    let k = opening-clear _ _ _ (c .before .before .before .before .before .before .before .before .before .before .before .before .before .before .before .before .before .before .before .before .before .args .at) _ _ (c .before .before .before .before .before .before .before .before .before .before .before .before .before .before .before .before .before .before .before .before .before .pre .1 .few) (sym (c .before .before .before .before .before .before .before .before .before .before .before .before .before .before .before .before .before .before .opening-number .ensures) ∙ c .before .before .before .before .before .before .before .before .before .before .before .before .before .before .before .before .before .if1 .left) in
-    let h = head-of _ _ _ (c .before .before .before .before .before .before .before .before .before .before .before .before .before .before .before .before .before .before .before .before .before .args .at) _ _ k _ (sym (c .before .before .before .before .before .before .before .before .before .before .before .before .before .before .read-operands .ensures .0) ∙ c .before .before .before .before .before .before .before .before .before .before .fields2 .given .1) in
-    around-returns _ _ _ _ _ _ _ h _ _ (filled-row _ _ _ _ _ _ _ (c .before .before .before .before .before .before .before .before .before .before .before .before .before .before .read-operands .ensures) (c .before .before .before .before .before .before .before .before .before .before .fields2 .given .1)) (around-kind _ (omega (arith, h .byte, c .before .before .before .before .before .before .before .if2 .left)) (omega (arith, h .byte, c .before .before .before .before .before .before .if3 .taken))) _ _ (rw (c .before .before .before .before .before .boxes-with .ensures) at (c .before .before .read-term .ensures))
+    (omega (arith, c .before .before .before .before .before .before .before .before .before .before .before .before .before .before .before .before .before .before .before .pre .0, h .deep), rw (c .before .before .boxes-with .ensures) (inner-ready _ _ _ _ _ _ _ h _ _ (filled-row _ _ _ _ _ _ _ (c .before .before .before .before .before .before .before .before .before .before .before .before .read-operands .ensures) (c .before .before .before .before .before .before .before .before .fields2 .given .1)) (c .before .before .before .before .before .before .before .before .before .before .before .before .before .before .before .before .before .before .before .pre .1) (c .before .before .before .before .before .before .before .before .before .before .before .before .read-operands .kept .1 .1 .1 .1 .0 ∙ c .before .before .before .before .before .before .before .before .before .before .before .before .before .before .before .before .before .before .before .pre .1 .full)))
 
 read-term-same-length-4 : (t : ℕ) → read-term-lts.Need-same-length-4 (read-term-claims t) (read-term-at t) read-term.Post
-read-term-same-length-4 t c = c .before .before .before .before .before .before .before .read-operands .kept .1 .1 .1 .1 .0
+read-term-same-length-4 t c = c .before .before .before .before .before .before .read-operands .kept .1 .1 .1 .1 .0
 
 read-term-returns-5 : (t : ℕ) → read-term-lts.Need-returns-5 (read-term-claims t) (read-term-at t) read-term.Post
 read-term-returns-5 t c =
-    let k = opening-clear _ _ _ (c .before .before .before .before .before .before .before .before .before .before .before .before .before .before .args .at) _ _ (c .before .before .before .before .before .before .before .before .before .before .before .before .before .before .pre .1 .few) (sym (c .before .before .before .before .before .before .before .before .before .before .before .opening-number .ensures) ∙ c .before .before .before .before .before .before .before .before .before .before .if1 .left) in
-    let h = head-of _ _ _ (c .before .before .before .before .before .before .before .before .before .before .before .before .before .before .args .at) _ _ k _ (sym (c .before .before .before .before .before .before .before .read-operands .ensures .0) ∙ c .before .before .before .fields2 .given .1) in
-    leaf-returns _ _ _ _ _ _ _ h _ _ (filled-row _ _ _ _ _ _ _ (c .before .before .before .before .before .before .before .read-operands .ensures) (c .before .before .before .fields2 .given .1)) (leaf-kind _ (λ z. absurd (omega (arith, z, h .byte, c .if2 .taken))) (λ z. omega (arith, z, h .byte, c .if2 .taken)))
+    let k = opening-clear _ _ _ (c .before .before .before .before .before .before .before .before .before .before .before .before .before .args .at) _ _ (c .before .before .before .before .before .before .before .before .before .before .before .before .before .pre .1 .few) (sym (c .before .before .before .before .before .before .before .before .before .before .opening-number .ensures) ∙ c .before .before .before .before .before .before .before .before .before .if1 .left) in
+    let e = sym (c .before .before .before .before .before .before .read-operands .ensures .0) ∙ c .before .before .fields .given .1 in
+    let q = operand-refused _ _ _ (c .before .before .before .before .before .before .before .before .before .before .before .before .before .args .at) _ _ _ _ _ _ k e in
+    let n = operands-near _ _ _ _ _ e (c .before .before .before .before .before .before .before .before .before .before .before .before .before .pre .1 .room) in
+    (refused-found _ _ _ (omega (arith, n)) (c .refused2 .ensures) ∙ q .0, q .1)
 
 read-term-same-length-5 : (t : ℕ) → read-term-lts.Need-same-length-5 (read-term-claims t) (read-term-at t) read-term.Post
-read-term-same-length-5 t c = c .before .before .before .before .before .before .before .before .read-operands .kept .1 .1 .1 .1 .0
+read-term-same-length-5 t c = c .before .before .read-term .kept .1 .1 .1 .1 .1 .1 .0 ∙ c .before .before .before .before .before .before .before .before .before .before .before .before .before .before .before .read-operands .kept .1 .1 .1 .1 .0
 
 read-term-returns-6 : (t : ℕ) → read-term-lts.Need-returns-6 (read-term-claims t) (read-term-at t) read-term.Post
 read-term-returns-6 t c =
-    let k = opening-clear _ _ _ (c .before .before .before .before .before .before .before .before .before .before .before .before .before .before .before .args .at) _ _ (c .before .before .before .before .before .before .before .before .before .before .before .before .before .before .before .pre .1 .few) (sym (c .before .before .before .before .before .before .before .before .before .before .before .before .opening-number .ensures) ∙ c .before .before .before .before .before .before .before .before .before .before .before .if1 .left) in
-    let h = head-of _ _ _ (c .before .before .before .before .before .before .before .before .before .before .before .before .before .before .before .args .at) _ _ k _ (sym (c .before .before .before .before .before .before .before .before .read-operands .ensures .0) ∙ c .before .before .before .before .fields2 .given .1) in
-    leaf-returns _ _ _ _ _ _ _ h _ _ (filled-row _ _ _ _ _ _ _ (c .before .before .before .before .before .before .before .before .read-operands .ensures) (c .before .before .before .before .fields2 .given .1)) (leaf-kind _ (λ z. omega (arith, h .byte, c .if3 .left)) (λ z. c .before .before .match2 .rest .1 (sym (h .byte) ∙ z)))
+    let k = opening-clear _ _ _ (c .before .before .before .before .before .before .before .before .before .before .before .before .before .before .before .before .before .before .before .before .before .before .args .at) _ _ (c .before .before .before .before .before .before .before .before .before .before .before .before .before .before .before .before .before .before .before .before .before .before .pre .1 .few) (sym (c .before .before .before .before .before .before .before .before .before .before .before .before .before .before .before .before .before .before .before .opening-number .ensures) ∙ c .before .before .before .before .before .before .before .before .before .before .before .before .before .before .before .before .before .before .if1 .left) in
+    let h = head-of _ _ _ (c .before .before .before .before .before .before .before .before .before .before .before .before .before .before .before .before .before .before .before .before .before .before .args .at) _ _ k _ (sym (c .before .before .before .before .before .before .before .before .before .before .before .before .before .before .before .read-operands .ensures .0) ∙ c .before .before .before .before .before .before .before .before .before .before .before .fields2 .given .1) in
+    around-returns _ _ _ _ _ _ _ h _ _ (filled-row _ _ _ _ _ _ _ (c .before .before .before .before .before .before .before .before .before .before .before .before .before .before .before .read-operands .ensures) (c .before .before .before .before .before .before .before .before .before .before .before .fields2 .given .1)) (around-kind _ (omega (arith, h .byte, c .before .before .before .before .before .before .before .before .if2 .left)) (λ z. c .before .before .before .before .before .before .before .if3 .left (sym (h .byte) ∙ z)) (λ z. c .before .before .before .before .before .before .if4 .left (sym (h .byte) ∙ z))) _ _ (rw (c .before .before .before .before .before .boxes-with .ensures) at (c .before .before .read-term .ensures))
 
 pub +read-block+read-term-spec : {M : Type 1} → statement M
 +read-block+read-term-spec = close μ-read-block μ-read-term (λ t. read-block-lts.spec (read-block-claims t) (read-block-at t)
@@ -280,43 +267,45 @@ pub +read-block+read-term-spec : {M : Type 1} → statement M
     (read-block-part-read-term-start t)
     (read-block-part-read-term-end t)
     (read-block-read-term-requires t)
-    (read-block-enum-known-got t)
-    (read-block-enum-told t)
     (read-block-same-length t)
     (read-block-returns t)
     (read-block-sub-left t)
     (read-block-loop-less t)
     (read-block-loop-again t)
+    (read-block-fine-requires t)
     (read-block-same-length-2 t)
     (read-block-returns-2 t))
     λ t. read-term-lts.spec (read-term-claims t) (read-term-at t)
     read-term.Post
     (read-term-opening-number-requires t)
+    (read-term-refused-requires t)
     (read-term-returns t)
     (read-term-shared-slice-read-kind t)
     (read-term-read-operands-requires t)
     (read-term-enum-known-fields t)
+    (read-term-refused-requires-2 t)
     (read-term-enum-known-fields-2 t)
     (read-term-add-next t)
-    (read-term-sub-deeper t)
     (read-term-add-met t)
+    (read-term-fine-requires t)
+    (read-term-same-length t)
+    (read-term-returns-2 t)
+    (read-term-same-length-2 t)
+    (read-term-returns-3 t)
+    (read-term-sub-deeper t)
     (read-term-shared-slice-read-count t)
     (read-term-cast-count t)
     (read-term-sub-read-block t)
     (read-term-part-read-block-start t)
     (read-term-part-read-block-end t)
     (read-term-read-block-requires t)
+    (read-term-same-length-3 t)
+    (read-term-returns-4 t)
     (read-term-boxes-with-requires t)
     (read-term-sub-read-term t)
     (read-term-part-read-term-start t)
     (read-term-part-read-term-end t)
     (read-term-read-term-requires t)
-    (read-term-same-length t)
-    (read-term-returns-2 t)
-    (read-term-same-length-2 t)
-    (read-term-returns-3 t)
-    (read-term-same-length-3 t)
-    (read-term-returns-4 t)
     (read-term-same-length-4 t)
     (read-term-returns-5 t)
     (read-term-same-length-5 t)

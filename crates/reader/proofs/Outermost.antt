@@ -1,0 +1,66 @@
+-- The outermost term of rows must be a block: the code asks that once, of the first row, and then judges the term as any other.
+use Prim.Native.Nat.{ℕ, zero, suc, _+_, _-_, _<_}
+use native.Mathlib.Omega.{arith}
+use mathlib.Core.Path.{_≡_, refl, sym, ap, _∙_, subst}
+use mathlib.Core.Bool.{Bool, true, false, false≢true, not, _&&_}
+use mathlib.Core.List.{List}
+use lib.ListN.{length, take}
+use lib.Dec.{ltb, eqb}
+use borrow.Author.Tests.{lt-ltb, le-ltb, ne-eqb, ltb-true, ltb-false, eqb-false}
+use Rattle.reader.specs.Result.{pick}
+use Rattle.reader.specs.Limits.{base}
+use Rattle.reader.specs.Kinds.{Kind, fields}
+use Rattle.reader.specs.Layout.{inRows}
+use Rattle.reader.specs.Reader.{boxesOf, built, term}
+use Rattle.reader.specs.RowParts.{fieldAt, fieldsAt, noBlock, rowNumber, rowCursor, termRows, Refused, spanOf}
+use Rattle.reader.proofs.RowTerms.{Judges, row-judged}
+
+both : (x y : Bool) → (x && y) ≡ true → (x ≡ true) × (y ≡ true)
+both true true h = (refl, refl)
+both true false h = absurd (false≢true h)
+both false y h = absurd (false≢true h)
+
+-- The tests of a kind that is none, or a block's, are the same whether a block is asked for or not.
+same-number : (b x : ℕ) → (ltb 0 b && ltb b 11) ≡ false → pick (eqb b 0) 12 (pick (ltb 11 b) 13 (pick (not (eqb b 11)) 18 x)) ≡ pick (eqb b 0) 12 (pick (ltb 11 b) 13 x)
+same-number b x h = go (eqb b 0) (ltb 11 b) (eqb b 11) refl refl refl
+  where
+    go : (t u v : Bool) → eqb b 0 ≡ t → ltb 11 b ≡ u → eqb b 11 ≡ v → pick t 12 (pick u 13 (pick (not v) 18 x)) ≡ pick t 12 (pick u 13 x)
+    go true u v p q r = refl
+    go false true v p q r = refl
+    go false false true p q r = refl
+    go false false false p q r =
+        let low : 0 < b = omega (arith, eqb-false b 0 p) in
+        let high : b < 11 = omega (arith, ltb-false 11 b q, eqb-false b 11 r) in
+        let z : (ltb 0 b && ltb b 11) ≡ true = rw (lt-ltb 0 b low, lt-ltb b 11 high) in
+        absurd (false≢true (sym h ∙ z))
+
+module _ (rows : List ℕ) (full : length rows ≡ 2560) where
+  abbrev Row : Bool → ℕ → Type 0
+  Row outer n = Judges 16 outer rows 0 0 n
+
+  judged : (outer : Bool) → Row outer (rowNumber 16 outer rows 0 0)
+  judged outer = row-judged 16 outer rows 0 0 full (omega arith)
+
+  pub outer-refused : noBlock rows ≡ true → Refused 18 0 ≡ spanOf (termRows 16 true rows 0 0)
+  unfolding noBlock rowNumber spanOf
+  outer-refused h =
+      let b = fieldAt rows 0 0 in
+      let o = both (ltb 0 b) (ltb b 11) h in
+      let low = ltb-true 0 b (o .0) in
+      let high = ltb-true b 11 (o .1) in
+      let n : rowNumber 16 true rows 0 0 ≡ 18 = rw (ne-eqb b 0 (λ z. omega arith), le-ltb 11 b (omega arith), ne-eqb b 11 (λ z. omega arith)) in
+      sym (ap spanOf (subst (Row true) n (judged true) .refuses (λ z. omega arith)))
+
+  alike : (n : ℕ) → Row true n → Row false n → termRows 16 true rows 0 0 ≡ termRows 16 false rows 0 0
+  alike zero a b =
+      let e = a .enters refl in
+      let f = b .enters refl in
+      let k : e .kind ≡ f .kind = cc (e .is, f .is) in
+      e .builds ∙ ap (λ (k : Kind). built k 0 (take (length (fields base k)) (fieldsAt rows 0)) (term base 1 inRows (16 - 1)) (rowCursor rows (0 + 1) (0 + boxesOf k))) k ∙ sym (f .builds)
+  alike (suc n) a b = a .refuses (λ z. omega arith) ∙ sym (b .refuses (λ z. omega arith))
+
+  pub outer-same : noBlock rows ≡ false → spanOf (termRows 16 false rows 0 0) ≡ spanOf (termRows 16 true rows 0 0)
+  unfolding noBlock rowNumber
+  outer-same h =
+      let n : rowNumber 16 true rows 0 0 ≡ rowNumber 16 false rows 0 0 = same-number (fieldAt rows 0 0) _ h in
+      ap spanOf (sym (alike _ (subst (Row true) n (judged true)) (judged false)))

@@ -1,0 +1,65 @@
+-- The place of what is refused in operands, and in mark and version: none is far on.
+use Prim.Native.Nat.{ℕ, zero, suc, _+_, _*_, _≤_}
+use native.Mathlib.Omega.{arith}
+use mathlib.Core.Path.{_≡_, subst}
+use mathlib.Core.Bool.{Bool, true, false}
+use mathlib.Core.Option.{Option, none, some}
+use mathlib.Core.List.{List, [], _∷_}
+use lib.ListN.{length, getD}
+use lib.Dec.{ltb, eqb}
+use Rattle.reader.specs.Result.{pick}
+use Rattle.reader.specs.Kinds.{Kind, kNumber, kReading, kCopy, kMove, kShared, kExclusive, kBox, kLet, kAssign, kBelow, kBlock, kindOf, Field, word, until, fields}
+use Rattle.reader.specs.Parts.{fieldsIn, fieldsOf}
+use Rattle.reader.specs.ByteParts.{fieldNumber, markNumber, onNumber, judgedFields, leadJudged}
+use Rattle.reader.specs.declared.operands.Fields.{Fields}
+use Rattle.reader.specs.declared.operands.Fields.the-variants as found
+
+abbrev Near : ℕ → Fields → Type 0
+Near b (found.Fine used) = Unit {0}
+Near b (found.Refused n p) = p ≤ b
+
+module _ (b : ℕ) where
+  near-pick : (t : Bool) (x y : Fields) → Near b x → Near b y → Near b (pick t x y)
+  near-pick true x y f g = f
+  near-pick false x y f g = g
+
+  near-number : (n p : ℕ) (go : Fields) → p ≤ b → Near b go → Near b (onNumber n p go)
+  unfolding onNumber
+  near-number zero p go h g = g
+  near-number (suc n) p go h g = h
+
+  near-fields : (fs : List Field) (t : List ℕ) (at j : ℕ) → at + length t ≤ b → at + j + 4 * length fs ≤ b → Near b (judgedFields fs t at j)
+  unfolding judgedFields
+  near-fields [] t at j h l = tt
+  near-fields (word ∷ fs) t at j h l = near-pick (ltb (length t) (j + 4)) _ _ h (near-fields fs t at (j + 4) h (omega arith))
+  near-fields (until x y ∷ fs) t at j h l = near-number (fieldNumber t j x y) (at + j) _ (omega arith) (near-fields fs t at (j + 1) h (omega arith))
+
+few-fields : (o : Option Kind) → length (fieldsIn o) ≤ 4
+unfolding fieldsIn fields
+few-fields none = omega arith
+few-fields (some kNumber) = omega arith
+few-fields (some kReading) = omega arith
+few-fields (some kCopy) = omega arith
+few-fields (some kMove) = omega arith
+few-fields (some kShared) = omega arith
+few-fields (some kExclusive) = omega arith
+few-fields (some kBox) = omega arith
+few-fields (some kLet) = omega arith
+few-fields (some kAssign) = omega arith
+few-fields (some kBelow) = omega arith
+few-fields (some kBlock) = omega arith
+
+pub operands-near : (kind : ℕ) (t : List ℕ) (at n p : ℕ) → judgedFields (fieldsOf kind) t at 1 ≡ found.Refused n p → at + length t ≤ 4096 → p ≤ 4200
+unfolding fieldsOf
+operands-near kind t at n p e h =
+    subst (λ (f : Fields). Near 4200 f) e (near-fields 4200 (fieldsIn (kindOf 1 kind)) t at 1 (omega arith) (omega (arith, few-fields (kindOf 1 kind))))
+
+pub lead-near : (t : List ℕ) (n p : ℕ) → leadJudged t ≡ found.Refused n p → length t ≤ 4096 → p ≤ 4200
+unfolding leadJudged
+lead-near t n p e h =
+    subst (λ (f : Fields). Near 4200 f) e
+    (near-number 4200 (markNumber t 0 0x52) 0 _ (omega arith)
+    (near-number 4200 (markNumber t 1 0x43) 1 _ (omega arith)
+    (near-number 4200 (markNumber t 2 0x53) 2 _ (omega arith)
+    (near-pick 4200 (ltb (length t) 5) (found.Refused 12 (length t)) _ (omega arith)
+    (near-pick 4200 (eqb (getD t 3 0 * 256 + getD t 4 0) 1) (found.Fine 5) (found.Refused 11 3) tt (omega arith))))))

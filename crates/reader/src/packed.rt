@@ -1,0 +1,42 @@
+// The answers of the term and block functions, each in one number: that is returned in a register, where an enum
+// goes through memory at every return. The numbers are kept small, since a constant of over 32 bits costs time too.
+ghost use mathlib.Core.Path.{_≡_};
+ghost use Prim.Native.Nat.{_+_, _*_, _-_, _/_, _%_, _<_, _≤_};
+
+// Terms, or rows, and boxes: the boxes times this, and the terms.
+pub const TERMS: usize = 1024;
+// An offset with terms and boxes: those times this, and the offset.
+pub const OFFSETS: usize = 8192;
+// A refusal: its number times this, its place, and REFUSED, which every other answer is below.
+pub const PLACES: usize = 65536;
+
+pub const REFUSED: usize = 1073741824;
+
+pub fn counted(terms: usize, boxes: usize) -> usize
+    requires { ⌜ (terms < 1024) × (boxes < 128) ⌝ }
+    ensures { λ r. ⌜ r ≡ boxes * 1024 + terms ⌝ }
+{
+    boxes * TERMS + terms
+}
+
+pub fn fine(next: usize, terms: usize, boxes: usize) -> usize
+    requires { ⌜ (next < 8192) × (terms < 1024) × (boxes < 128) ⌝ }
+    ensures { λ r. ⌜ r ≡ (boxes * 1024 + terms) * 8192 + next ⌝ }
+{
+    counted(terms, boxes) * OFFSETS + next
+}
+
+pub fn refused(number: u32, place: usize) -> usize
+    requires { ⌜ place < 65536 ⌝ }
+    ensures { λ r. ⌜ (r ≡ 1073741824 + number * 65536 + place) × (number < 4294967296) ⌝ }
+{
+    REFUSED + number as usize * PLACES + place
+}
+
+// The number of a refusal, which has 32 bits.
+pub fn number_of(refusal: usize) -> u32
+    requires { ⌜ 1073741824 ≤ refusal ⌝ }
+    ensures { λ r. ⌜ r ≡ (refusal - 1073741824) / 65536 % 4294967296 ⌝ }
+{
+    ((refusal - REFUSED) / PLACES % 4294967296) as u32
+}
