@@ -1,4 +1,5 @@
-//! Times the proved library beside the reference program.
+//! Times the proved library beside the reference program, and measures the
+//! stack that the library takes.
 //!
 //! `cargo run --release --offline` prints plain tables, and with
 //! `-- --markdown` Markdown. It is no test: nothing fails because it is slow.
@@ -9,6 +10,7 @@ mod measure;
 mod operations;
 mod report;
 mod scripts;
+mod stack;
 mod table;
 
 use std::env;
@@ -29,5 +31,9 @@ fn main() -> ExitCode {
     println!("{}", report::conditions());
     println!("{}", report::sizes().shown(form));
     println!("{}", report::growth().shown(form));
+    match stack::table() {
+        Ok(table) => println!("{}", table.shown(form)),
+        Err(error) => println!("Stack use is not measured: {error}"),
+    }
     ExitCode::SUCCESS
 }

@@ -13,8 +13,9 @@ pub fn conditions() -> String {
          pair by pair: the median,\nand the 10th to 90th percentile. Times are medians. Both \
          programs use the same buffers, which are\nfilled with junk before each batch, outside \
          the timed part, and are neither cleared nor refilled\nbetween the calls of a batch. \
-         Reading itself clears the unused rows, and judging and writing look\nat them; that is \
-         part of each call.\n",
+         Reading itself clears the unused rows, and all that take rows look\nat them, and a run \
+         clears the store; that is part of each call. The scripts are accepted. What is\nbeside \
+         the whole call is the reference program's read, check and run one after the other.\n",
         BATCH.as_micros()
     )
 }

@@ -1,5 +1,5 @@
-//! The scripts that are timed. Each is accepted by the reader; none need be
-//! accepted by the ownership check.
+//! The scripts that are timed. Each is accepted by the ownership check, but
+//! for one that is only run, to see how much stack that takes.
 
 use reference::form::HEADER;
 
@@ -9,24 +9,38 @@ pub const E1: [u8; 25] = [
     0x02, 0x05, 0x00, 0x00, 0x0A, 0x02, 0x01, 0x01, 0x00,
 ];
 
-const LET_NUMBER: &[u8] = &[0x08, 1, 0x01, 0, 0, 1, 44];
-const LET_BOX: &[u8] = &[0x08, 2, 0x07, 0x02, 3];
-const ASSIGN_COPY: &[u8] = &[0x09, 2, 1, 0x03, 1, 0];
-const BELOW: &[u8] = &[0x0A, 1, 0, 2, 1];
-const BLOCK_OF_PLACES: &[u8] = &[0x0B, 3, 0x05, 1, 0, 0x06, 1, 0, 0x04, 2, 1];
-const BLOCK_OF_ASSIGN: &[u8] = &[0x0B, 2, 0x09, 2, 1, 0x03, 1, 0, 0x05, 1, 0];
+const READING: &[u8] = &[0x02, 1];
 
-/// Statements of every kind in turn, with the terms of each: 12 in all.
-const STATEMENTS: [(usize, &[u8]); 5] = [
-    (2, LET_NUMBER),
-    (3, LET_BOX),
-    (4, BLOCK_OF_PLACES),
-    (1, BELOW),
-    (2, ASSIGN_COPY),
-];
+/// The variables are 0 to 63.
+const VARIABLES: u8 = 64;
+
+/// A statement's bytes, and how many terms it has.
+type Statement = (usize, Vec<u8>);
+
+/// Statements of every kind, 24 terms in all. They declare three variables and
+/// have two boxes, so that 512 terms of them are within the limits.
+fn statements(first: u8) -> [Statement; 9] {
+    let (a, b, c) = (first, first + 1, first + 2);
+    [
+        // let a = 300; let b = box reading 3
+        (2, vec![0x08, a, 0x01, 0, 0, 1, 44]),
+        (3, vec![0x08, b, 0x07, 0x02, 3]),
+        // { let c = &a; below *c, *b }
+        (4, vec![0x0B, 2, 0x08, c, 0x05, a, 0, 0x0A, c, 1, b, 1]),
+        // *b = copy a; { &a; &mut *b; copy *b }
+        (2, vec![0x09, b, 1, 0x03, a, 0]),
+        (4, vec![0x0B, 3, 0x05, a, 0, 0x06, b, 1, 0x03, b, 1]),
+        // below a, *b; b = box move *b
+        (1, vec![0x0A, a, 0, b, 1]),
+        (3, vec![0x09, b, 0, 0x07, 0x04, b, 1]),
+        // a = reading 5; a = { move a }
+        (2, vec![0x09, a, 0, 0x02, 5]),
+        (3, vec![0x09, a, 0, 0x0B, 1, 0x04, a, 0]),
+    ]
+}
 
 /// A block of the statements given, as a script.
-fn script(statements: &[&[u8]]) -> Vec<u8> {
+fn script(statements: &[Vec<u8>]) -> Vec<u8> {
     let count = statements.len() as u8;
     [&HEADER, &[0x0B, count][..], &statements.concat()].concat()
 }
@@ -34,51 +48,85 @@ fn script(statements: &[&[u8]]) -> Vec<u8> {
 /// A script of exactly so many terms, 2 to 512, in the same mixture at every
 /// size.
 pub fn mixed(terms: usize) -> Vec<u8> {
-    let mut left = terms - 1;
-    let mut statements = Vec::new();
-    for (size, statement) in STATEMENTS.iter().cycle() {
-        if left == 0 {
+    // The outermost block and the answer are there at every size.
+    let mut left = terms - 2;
+    let mut chosen = Vec::new();
+    for (size, statement) in (0..VARIABLES - 2).step_by(3).flat_map(statements) {
+        // What is too large for the end makes room for single terms.
+        if size > left {
             break;
         }
-        // A statement too large for the end makes room for a single term.
-        let (size, statement) = if *size <= left {
-            (*size, *statement)
-        } else {
-            (1, BELOW)
-        };
-        statements.push(statement);
+        chosen.push(statement);
         left -= size;
     }
-    script(&statements)
+    chosen.extend(vec![READING.to_vec(); left + 1]);
+    script(&chosen)
 }
 
-/// 15 terms with 2 boxes that reach from level 2 to level 16.
-fn deep() -> Vec<u8> {
-    let around = [&[0x0B, 1, 0x08, 4, 0x09, 1, 0].repeat(4)[..], &[0x07, 0x07]].concat();
-    [&around[..], &[0x01, 0, 0, 0, 9]].concat()
-}
-
-/// 512 terms, 64 boxes, 16 levels: 8 statements of 15 terms and 2 boxes, 48
-/// times 8 terms with a box, 7 single terms, and the block around them.
-pub fn full() -> Vec<u8> {
-    let deep = deep();
-    let mut statements = vec![&deep[..]; 8];
-    for _ in 0..48 {
-        statements.extend([LET_BOX, BLOCK_OF_ASSIGN, BELOW]);
+/// 21 terms with 2 boxes that reach from level 2 to level 16: a number in
+/// blocks that assign it to a number or in a box, and copy it from there.
+fn deep(number: u8, boxed: u8) -> Vec<u8> {
+    let mut term = vec![0x01, 0, 0, 0, 9];
+    for level in 0..6 {
+        let (around, after) = match level % 3 {
+            0 => (vec![0x09, boxed, 0, 0x07], [0x03, boxed, 1]),
+            _ => (vec![0x09, number, 0], [0x03, number, 0]),
+        };
+        term = [&[0x0B, 2], &around[..], &term, &after].concat();
     }
-    statements.extend([BELOW; 7]);
+    term
+}
+
+/// 512 terms, 64 boxes, 16 levels, and 64 variables that are all in scope at
+/// the end, 14 of which hold a borrow.
+pub fn full() -> Vec<u8> {
+    let (number, held) = (0, 1);
+    let mut statements = vec![
+        vec![0x08, number, 0x01, 0, 0, 1, 44],
+        vec![0x08, held, 0x02, 2],
+    ];
+    let borrows = 2..16;
+    statements.extend(
+        borrows
+            .clone()
+            .map(|borrow| vec![0x08, borrow, 0x05, held, 0]),
+    );
+    for (boxed, borrow) in (16..VARIABLES).zip(borrows.cycle()) {
+        statements.push(vec![0x08, boxed, 0x07, 0x02, 3]);
+        statements.push(vec![0x09, boxed, 1, 0x03, borrow, 1]);
+        statements.push(vec![0x0A, number, 0, boxed, 1]);
+    }
+    statements.extend((16..24).map(|boxed| deep(number, boxed)));
+    statements.extend(vec![vec![0x0A, number, 0, held, 0]; 22]);
+    statements.push(READING.to_vec());
     script(&statements)
+}
+
+/// A script that the check refuses, for the stack of its run: all 64 cells in
+/// one chain, which a block on level 13 drops.
+pub fn chain() -> Vec<u8> {
+    let mut statements = vec![vec![0x08, 0, 0x07, 0x02, 0]];
+    statements.extend(vec![vec![0x09, 0, 0, 0x07, 0x04, 0, 0]; 63]);
+    statements.push(READING.to_vec());
+    let inner = [&[0x0B, 65], &statements.concat()[..]].concat();
+    script(&[[&[0x0B, 1].repeat(11)[..], &inner].concat()])
 }
 
 #[cfg(test)]
 mod tests {
     use super::*;
     use reference::form::{BLOCK, BOX, FIELDS, ROWS_LEN};
+    use reference::{check, read, run};
+
+    fn rows_of(script: &[u8]) -> (u32, Vec<u32>) {
+        let mut rows = vec![0; ROWS_LEN];
+        let terms = read(script, &mut rows).expect("a script");
+        (terms, rows)
+    }
 
     /// Terms, boxes and levels of a script.
     fn outline(script: &[u8]) -> (u32, usize, usize) {
-        let mut rows = vec![0; ROWS_LEN];
-        let terms = reference::read(script, &mut rows).expect("accepted");
+        let (terms, rows) = rows_of(script);
         let used: Vec<&[u32]> = rows.chunks(FIELDS).take(terms as usize).collect();
         let boxes = used.iter().filter(|row| row[0] == BOX).count();
         (terms, boxes, levels(&used, &mut 0))
@@ -97,14 +145,26 @@ mod tests {
     }
 
     #[test]
-    fn full_is_at_every_limit() {
+    fn full_is_at_every_limit_and_accepted() {
         assert_eq!(outline(&full()), (512, 64, 16));
+        assert_eq!(check(&rows_of(&full()).1), Ok(512));
     }
 
     #[test]
-    fn mixed_has_the_terms_asked_for() {
+    fn mixed_has_the_terms_asked_for_and_is_accepted() {
         for terms in 2..=512 {
-            assert_eq!(outline(&mixed(terms)).0, terms as u32);
+            let script = mixed(terms);
+            assert_eq!(outline(&script).0, terms as u32);
+            assert_eq!(check(&rows_of(&script).1), Ok(terms as u32));
         }
+    }
+
+    #[test]
+    fn chain_takes_every_cell() {
+        assert_eq!(outline(&chain()), (206, 64, 16));
+        let rows = rows_of(&chain()).1;
+        assert!(check(&rows).is_err());
+        let ran = run(&rows, &[0; 8], &mut [0; 384]).expect("no fault");
+        assert_eq!(ran.cells, 64);
     }
 }

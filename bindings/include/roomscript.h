@@ -7,7 +7,7 @@
  * order.
  *
  * Every function answers on every input, without allocation, and changes no
- * memory but the buffer that it takes without const. It keeps no pointer.
+ * memory but the buffers that it takes without const. It keeps no pointer.
  *
  * A buffer is a pointer and then a length in elements. The pointer is never
  * NULL and is aligned for its elements, for length 0 too; all of the length
@@ -30,14 +30,20 @@ extern "C" {
 /* The fields of one term row, and the length of all rows. */
 #define ROOMSCRIPT_FIELDS 5
 #define ROOMSCRIPT_ROWS_LEN 2560
+/* The fields of one store row, and the length of the store. */
+#define ROOMSCRIPT_STORE_FIELDS 3
+#define ROOMSCRIPT_STORE_LEN 384
+/* The number of readings. */
+#define ROOMSCRIPT_READINGS_LEN 8
 
 /*
  * Where refused is 0, value is the count and number 0. Where refused is 1,
  * number is the refusal's number and value its place.
  *
  * Refusals 1 to 5 are the caller's, with place 0 and no lent memory changed,
- * and the lowest number is the one given. Refusals 10 to 19 are about the
- * script; their place is a byte offset from reading and a row from rows.
+ * and the lowest number is the one given. Refusals 10 to 19 are about the form
+ * of the script; their place is a byte offset from reading and a row from
+ * rows. Refusals 30 to 43 are the author's; their place is the term.
  */
 typedef struct roomscript_answer {
     uint32_t refused;
@@ -99,6 +105,115 @@ roomscript_answer roomscript_judge_rows(const uint32_t *rows, size_t rows_len);
  */
 roomscript_answer roomscript_write(const uint32_t *rows, size_t rows_len,
                                    uint8_t *output, size_t output_len);
+
+/*
+ * Judges term rows by the ownership rules and answers the number of terms.
+ *
+ * A script is accepted where its rows are of the right form and the rules
+ * refuse no term of it. It then runs without a fault, whatever the readings.
+ * Nothing lent is changed.
+ *
+ * Refusals:
+ *   2: rows is not 2,560 long, at place 0;
+ *   12 to 15 and 17 to 19, with the row, as from roomscript_judge_rows.
+ * Refusals by the author, with the term:
+ *   30: the number of a let is taken;
+ *   31: the root of a place is not in scope; 32: its chain is not long enough;
+ *   33: something is moved away on the path or of the value;
+ *   34: reading the root is barred; 35: writing it is barred;
+ *   36: a shared link is passed where only box and exclusive links may be;
+ *   37: a copy of neither a number nor a shared borrow; 38: a move passes a
+ *   borrow link;
+ *   39: other link kinds than the assigned place has, or no number in a below;
+ *   40: a borrowed root does not live in the block of the variable finally
+ *   written or in one around it, or lives in the block that ends;
+ *   41: no value where one is needed; 42: more than 8 links;
+ *   43: the answer is no number, at term 0.
+ * Terms are judged in their order. A term whose inner term is refused is
+ * refused with the inner number and term.
+ */
+roomscript_answer roomscript_check(const uint32_t *rows, size_t rows_len);
+
+/*
+ * What came of a run. Where outcome is 0, answer is the number that the script
+ * gives, value the cells taken, and number 0. Where outcome is 1, the run was
+ * refused: number is the refusal's number, value its place, and answer 0.
+ * Where outcome is 2, it met a fault: number is the fault's number, value the
+ * term that was acting, and answer 0.
+ */
+typedef struct roomscript_ran {
+    uint32_t outcome;
+    uint32_t number;
+    int32_t answer;
+    uint64_t value;
+} roomscript_ran;
+
+/*
+ * Runs term rows, accepted by roomscript_check or not.
+ *
+ * The store is 128 rows of state, value kind and payload. Rows 0 to 63 are
+ * variables, 64 to 127 are cells. State: 0 closed, 1 open, 2 given back. Value
+ * kind: 0 empty, 1 number (32 bits), 2 owner (cell 0 to 63), 3 reference
+ * (row). The run first sets all of it to 0, whatever it held.
+ *
+ * Where roomscript_check accepts the rows the run meets no fault, takes a cell
+ * for every box term and gives each back: afterwards the store is all 0 but
+ * the cells taken, which are 2, 0, 0.
+ *
+ * Refusals by the caller, at place 0, with store unchanged, the lowest first:
+ *   2: rows is not 2,560 long; 3: store is not 384 long; 4: readings is not 8
+ *   long.
+ * Refusals by the rows, with the row, store unchanged:
+ *   12 to 15 and 17 to 19, as from roomscript_judge_rows.
+ * Faults, met only by rows that roomscript_check does not accept, with the
+ * term (for a block's drops and closings the block), leaving store as the run
+ * rules had it:
+ *   60: a location that is closed, given back or empty;
+ *   61: a value of the wrong kind, or an answer that is no number (term 0,
+ *   after closing);
+ *   62: a let on a row already open; 63: a cell given back twice.
+ */
+roomscript_ran roomscript_run(const uint32_t *rows, size_t rows_len,
+                              const int32_t *readings, size_t readings_len,
+                              uint32_t *store, size_t store_len);
+
+/*
+ * What came of a whole call. Where refused is 0, answer is the number that the
+ * script gives, terms its terms, cells the cells taken, number and place 0.
+ * Where refused is 1, number and place are the refusal's, and the others 0.
+ */
+typedef struct roomscript_called {
+    uint32_t refused;
+    uint32_t number;
+    int32_t answer;
+    uint64_t place;
+    uint64_t terms;
+    uint64_t cells;
+} roomscript_called;
+
+/*
+ * Reads a script into rows, checks it and runs it on store.
+ *
+ * It answers as roomscript_read, roomscript_check and roomscript_run do one
+ * after the other. A script that is accepted runs without a fault, so there is
+ * none to answer. After success rows holds the script, and store is all 0 but
+ * the cells taken, which are 2, 0, 0.
+ *
+ * Refusals by the caller, at place 0, with nothing lent changed, the lowest
+ * first:
+ *   1: the script is over 4,096 bytes; 2: rows is not 2,560 long; 3: store is
+ *   not 384 long; 4: readings is not 8 long.
+ * Refusals by the bytes, with a byte offset, leaving all of rows 0 and store
+ * unchanged:
+ *   10 to 19, as from roomscript_read.
+ * Refusals by the author, with the term, where rows holds the script and store
+ * is unchanged:
+ *   30 to 43, as from roomscript_check.
+ */
+roomscript_called roomscript_call(const uint8_t *script, size_t script_len,
+                                  const int32_t *readings, size_t readings_len,
+                                  uint32_t *rows, size_t rows_len,
+                                  uint32_t *store, size_t store_len);
 
 #ifdef __cplusplus
 }

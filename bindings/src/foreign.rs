@@ -5,7 +5,7 @@
 
 #![allow(unsafe_code)]
 
-use crate::Refusal;
+use crate::{Called, Fault, Ran, Refusal, Stop};
 
 /// Where `refused` is 0, `value` is the count and `number` 0; where it is 1,
 /// `number` is the refusal's number and `value` its place.
@@ -17,7 +17,35 @@ pub(crate) struct Answer {
     value: u64,
 }
 
+/// Where `outcome` is 0, `value` is the cells taken and `number` 0; where it
+/// is 1, `number` is the refusal's number and `value` its place; where it is
+/// 2, `number` is the fault's number and `value` its term. Where `outcome` is
+/// not 0, `answer` is.
+#[repr(C)]
+#[derive(Debug, PartialEq, Eq)]
+pub(crate) struct RunAnswer {
+    outcome: u32,
+    number: u32,
+    answer: i32,
+    value: u64,
+}
+
+/// Where `refused` is 0, `number` and `place` are 0; where it is 1, these two
+/// are the refusal's and the others 0.
+#[repr(C)]
+#[derive(Debug, PartialEq, Eq)]
+pub(crate) struct CallAnswer {
+    refused: u32,
+    number: u32,
+    answer: i32,
+    place: u64,
+    terms: u64,
+    cells: u64,
+}
+
 const _: () = assert!(size_of::<Answer>() == 16 && align_of::<Answer>() == 8);
+const _: () = assert!(size_of::<RunAnswer>() == 24 && align_of::<RunAnswer>() == 8);
+const _: () = assert!(size_of::<CallAnswer>() == 40 && align_of::<CallAnswer>() == 8);
 
 // A slice is passed as a pointer and then a length.
 extern "C" {
@@ -34,20 +62,75 @@ extern "C" {
         output: *mut u8,
         output_len: usize,
     ) -> Answer;
+    fn roomscript_check(rows: *const u32, rows_len: usize) -> Answer;
+    fn roomscript_run(
+        rows: *const u32,
+        rows_len: usize,
+        readings: *const i32,
+        readings_len: usize,
+        store: *mut u32,
+        store_len: usize,
+    ) -> RunAnswer;
+    fn roomscript_call(
+        script: *const u8,
+        script_len: usize,
+        readings: *const i32,
+        readings_len: usize,
+        rows: *mut u32,
+        rows_len: usize,
+        store: *mut u32,
+        store_len: usize,
+    ) -> CallAnswer;
+}
+
+/// Counts and places are small, so the conversion loses nothing; one that did
+/// not fit would show as the largest number and not as some other small one.
+fn small(value: u64) -> u32 {
+    u32::try_from(value).unwrap_or(u32::MAX)
+}
+
+fn refusal(number: u32, place: u64) -> Refusal {
+    Refusal {
+        number,
+        place: small(place),
+    }
 }
 
 impl Answer {
-    /// The count, or the refusal. Both are small, so the conversion loses
-    /// nothing; a value that did not fit would show as the largest one and
-    /// not as some other small one.
+    /// The count, or the refusal.
     pub(crate) fn count(self) -> Result<u32, Refusal> {
-        let value = u32::try_from(self.value).unwrap_or(u32::MAX);
         match self.refused {
-            0 => Ok(value),
-            _ => Err(Refusal {
-                number: self.number,
-                place: value,
+            0 => Ok(small(self.value)),
+            _ => Err(refusal(self.number, self.value)),
+        }
+    }
+}
+
+impl RunAnswer {
+    pub(crate) fn outcome(self) -> Result<Ran, Stop> {
+        match self.outcome {
+            0 => Ok(Ran {
+                answer: self.answer,
+                cells: small(self.value),
             }),
+            1 => Err(Stop::Refused(refusal(self.number, self.value))),
+            _ => Err(Stop::Fault(Fault {
+                number: self.number,
+                term: small(self.value),
+            })),
+        }
+    }
+}
+
+impl CallAnswer {
+    pub(crate) fn outcome(self) -> Result<Called, Refusal> {
+        match self.refused {
+            0 => Ok(Called {
+                answer: self.answer,
+                terms: small(self.terms),
+                cells: small(self.cells),
+            }),
+            _ => Err(refusal(self.number, self.place)),
         }
     }
 }
@@ -70,48 +153,42 @@ pub(crate) fn write(rows: &[u32], output: &mut [u8]) -> Answer {
     unsafe { roomscript_write(rows.as_ptr(), rows.len(), output.as_mut_ptr(), output.len()) }
 }
 
-/// The safe functions do not show every field of an answer, so these tests do.
-#[cfg(test)]
-mod tests {
-    use super::*;
-    use crate::ROWS_LEN;
+pub(crate) fn check(rows: &[u32]) -> Answer {
+    unsafe { roomscript_check(rows.as_ptr(), rows.len()) }
+}
 
-    const SHORT: [u8; 9] = [0x52, 0x43, 0x53, 0x00, 0x01, 0x0B, 0x01, 0x02, 0x07];
-
-    fn counted(value: u64) -> Answer {
-        Answer {
-            refused: 0,
-            number: 0,
-            value,
-        }
-    }
-
-    fn refused(number: u32, value: u64) -> Answer {
-        Answer {
-            refused: 1,
-            number,
-            value,
-        }
-    }
-
-    #[test]
-    fn every_field_of_a_count() {
-        let mut rows = [9; ROWS_LEN];
-        let mut output = [9; 16];
-        assert_eq!(read(&SHORT, &mut rows), counted(2));
-        assert_eq!(judge_rows(&rows), counted(2));
-        assert_eq!(write(&rows, &mut output), counted(9));
-    }
-
-    #[test]
-    fn every_field_of_a_refusal() {
-        let mut rows = [9; ROWS_LEN];
-        assert_eq!(read(&SHORT, &mut []), refused(2, 0));
-        assert_eq!(read(&SHORT[..8], &mut rows), refused(12, 8));
-        assert_eq!(judge_rows(&[]), refused(2, 0));
-        assert_eq!(judge_rows(&rows), refused(12, 0));
-        assert_eq!(write(&rows, &mut []), refused(12, 0));
-        assert_eq!(read(&SHORT, &mut rows), counted(2));
-        assert_eq!(write(&rows, &mut [0; 8]), refused(5, 0));
+pub(crate) fn run(rows: &[u32], readings: &[i32], store: &mut [u32]) -> RunAnswer {
+    unsafe {
+        roomscript_run(
+            rows.as_ptr(),
+            rows.len(),
+            readings.as_ptr(),
+            readings.len(),
+            store.as_mut_ptr(),
+            store.len(),
+        )
     }
 }
+
+pub(crate) fn call(
+    script: &[u8],
+    readings: &[i32],
+    rows: &mut [u32],
+    store: &mut [u32],
+) -> CallAnswer {
+    unsafe {
+        roomscript_call(
+            script.as_ptr(),
+            script.len(),
+            readings.as_ptr(),
+            readings.len(),
+            rows.as_mut_ptr(),
+            rows.len(),
+            store.as_mut_ptr(),
+            store.len(),
+        )
+    }
+}
+
+#[cfg(test)]
+mod tests;

@@ -4,20 +4,28 @@
 //! `u32` per term: kind, then operands in byte order (a number as its 32
 //! bits), unused fields 0, unused rows 0. Terms are numbered from 0 in byte
 //! order. [`read`] goes from bytes to rows, [`judge_rows`] judges rows that
-//! come from elsewhere, and [`write`] goes from rows to bytes.
+//! come from elsewhere, and [`write()`] goes from rows to bytes. [`check`]
+//! judges rows by the ownership rules, [`run`] runs rows on a store, and
+//! [`call`] reads, checks and runs a script.
 //!
 //! Every function answers on every input, without a panic and without
-//! allocation, and changes no memory but the slice that it is lent mutably.
+//! allocation, and changes no memory but the slices that it is lent mutably.
 
 #![deny(unsafe_code)]
 #![deny(missing_docs)]
 
 mod foreign;
 mod form;
+mod machine;
+mod ownership;
 mod refusal;
+mod whole;
 
 pub use form::{judge_rows, read, write};
+pub use machine::{run, Fault, Ran, Stop};
+pub use ownership::check;
 pub use refusal::Refusal;
+pub use whole::{call, Called};
 
 /// The most bytes of a script.
 pub const MAX_BYTES: usize = 4096;
@@ -27,3 +35,13 @@ pub const MAX_TERMS: usize = 512;
 pub const FIELDS: usize = 5;
 /// The length of a slice of term rows; every other length is refused with 2.
 pub const ROWS_LEN: usize = MAX_TERMS * FIELDS;
+/// The variables, whose rows begin the store.
+pub const VARIABLES: usize = 64;
+/// The cells, whose rows come after those of the variables.
+pub const CELLS: usize = 64;
+/// The fields of one store row: state, value kind and payload.
+pub const STORE_FIELDS: usize = 3;
+/// The length of a store; every other length is refused with 3.
+pub const STORE_LEN: usize = (VARIABLES + CELLS) * STORE_FIELDS;
+/// The number of readings; every other number is refused with 4.
+pub const READINGS_LEN: usize = 8;

@@ -7,7 +7,8 @@ use std::fmt::{self, Display, Formatter};
 ///
 /// Refusals 1 to 5 are the caller's, with place 0 and no lent memory changed,
 /// and the lowest number is the one given. Refusals 10 to 19 are about the
-/// script; their place is a byte offset from reading and a row from rows.
+/// form of the script; their place is a byte offset from reading and a row
+/// from rows. Refusals 30 to 43 are the author's; their place is the term.
 #[derive(Clone, Copy, Debug, PartialEq, Eq)]
 pub struct Refusal {
     /// The number of the refusal.

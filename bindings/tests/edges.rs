@@ -1,9 +1,10 @@
-//! The edges of reading, judging rows and writing, each by hand with its
-//! number and place.
+//! The edges of every function, each by hand with its number and place:
+//! reading, judging rows and writing, the check, runs and whole calls.
 
 #![forbid(unsafe_code)]
 
 mod common;
+
 #[path = "edges/given.rs"]
 mod given;
 #[path = "edges/limits.rs"]
@@ -14,3 +15,28 @@ mod reading;
 mod rows;
 #[path = "edges/writing.rs"]
 mod writing;
+
+/// What the modules below ask. `oracle` puts the same questions to the
+/// reference program.
+mod asked {
+    pub use roomscript::{call, check, run};
+}
+
+#[path = "edges/assigns.rs"]
+mod assigns;
+#[path = "edges/borrows.rs"]
+mod borrows;
+#[path = "edges/calling.rs"]
+mod calling;
+#[path = "edges/examples.rs"]
+mod examples;
+#[path = "edges/faults.rs"]
+mod faults;
+#[path = "edges/hand.rs"]
+mod hand;
+#[path = "edges/places.rs"]
+mod places;
+#[path = "edges/running.rs"]
+mod running;
+#[path = "edges/scope.rs"]
+mod scope;

@@ -1,14 +1,34 @@
-/* The three functions from C, on the first example and one refusal of each. */
+/* Every function from C, on the first example and on some refusals and faults. */
 #include <roomscript.h>
 
 #include <stdio.h>
 #include <string.h>
 
+#define ROWS ROOMSCRIPT_ROWS_LEN
+#define STORE ROOMSCRIPT_STORE_LEN
+#define READINGS ROOMSCRIPT_READINGS_LEN
+
 static const uint8_t E1[25] = {
     0x52, 0x43, 0x53, 0x00, 0x01, 0x0B, 0x04, 0x08, 0x00, 0x02, 0x00, 0x08, 0x01,
     0x02, 0x01, 0x08, 0x02, 0x05, 0x00, 0x00, 0x0A, 0x02, 0x01, 0x01, 0x00};
 
+/* let v0=box 7; let v1=move v0; copy *v0 */
+static const uint8_t E3[23] = {0x52, 0x43, 0x53, 0x00, 0x01, 0x0B, 0x03, 0x08,
+                               0x00, 0x07, 0x01, 0x00, 0x00, 0x00, 0x07, 0x08,
+                               0x01, 0x04, 0x00, 0x00, 0x03, 0x00, 0x01};
+
+static const int32_t GIVEN[READINGS] = {185, 200, 0, 0, 0, 0, 0, 0};
+
+static uint32_t rows[ROWS];
+static uint32_t store[STORE];
 static int failed = 0;
+
+static void note(const char *what, int holds) {
+    if (!holds) {
+        printf("%s: not as it must be\n", what);
+        failed = 1;
+    }
+}
 
 static void expect(const char *what, roomscript_answer answer, uint32_t refused,
                    uint32_t number, uint64_t value) {
@@ -19,20 +39,97 @@ static void expect(const char *what, roomscript_answer answer, uint32_t refused,
     }
 }
 
-int main(void) {
-    static uint32_t rows[ROOMSCRIPT_ROWS_LEN];
-    static uint8_t output[ROOMSCRIPT_MAX_BYTES];
-
-    expect("read", roomscript_read(E1, sizeof E1, rows, ROOMSCRIPT_ROWS_LEN), 0, 0, 8);
-    expect("judge_rows", roomscript_judge_rows(rows, ROOMSCRIPT_ROWS_LEN), 0, 0, 8);
-    expect("write", roomscript_write(rows, ROOMSCRIPT_ROWS_LEN, output, sizeof output), 0, 0, 25);
-    if (memcmp(output, E1, sizeof E1) != 0) {
-        printf("write: other bytes\n");
+static void expect_ran(const char *what, roomscript_ran ran, uint32_t outcome, uint32_t number,
+                       int32_t answer, uint64_t value) {
+    if (ran.outcome != outcome || ran.number != number || ran.answer != answer ||
+        ran.value != value) {
+        printf("%s: outcome %u, number %u, answer %d, value %llu\n", what,
+               (unsigned)ran.outcome, (unsigned)ran.number, (int)ran.answer,
+               (unsigned long long)ran.value);
         failed = 1;
     }
-    expect("short output", roomscript_write(rows, ROOMSCRIPT_ROWS_LEN, output, 24), 1, 5, 0);
-    expect("short script", roomscript_read(E1, 24, rows, ROOMSCRIPT_ROWS_LEN), 1, 12, 24);
+}
+
+static void expect_not_called(const char *what, roomscript_called called, uint32_t number,
+                              uint64_t place) {
+    if (called.refused != 1 || called.number != number || called.place != place) {
+        printf("%s: refused %u, number %u, place %llu\n", what, (unsigned)called.refused,
+               (unsigned)called.number, (unsigned long long)called.place);
+        failed = 1;
+    }
+    note(what, called.answer == 0 && called.terms == 0 && called.cells == 0);
+}
+
+/* Whether each number from one place to another is this one. */
+static int all(const uint32_t *numbers, size_t from, size_t to, uint32_t value) {
+    while (from < to && numbers[from] == value) {
+        from++;
+    }
+    return from == to;
+}
+
+static void junk(void) {
+    size_t at;
+    for (at = 0; at < ROWS; at++) {
+        rows[at] = 9;
+    }
+    for (at = 0; at < STORE; at++) {
+        store[at] = 9;
+    }
+}
+
+static void form(void) {
+    static uint8_t output[ROOMSCRIPT_MAX_BYTES];
+    expect("read", roomscript_read(E1, sizeof E1, rows, ROWS), 0, 0, 8);
+    expect("judge_rows", roomscript_judge_rows(rows, ROWS), 0, 0, 8);
+    expect("write", roomscript_write(rows, ROWS, output, sizeof output), 0, 0, 25);
+    note("bytes written", memcmp(output, E1, sizeof E1) == 0);
+    expect("short output", roomscript_write(rows, ROWS, output, 24), 1, 5, 0);
+    expect("short script", roomscript_read(E1, 24, rows, ROWS), 1, 12, 24);
     expect("no rows", roomscript_judge_rows(rows, 0), 1, 2, 0);
-    expect("rows of 0", roomscript_judge_rows(rows, ROOMSCRIPT_ROWS_LEN), 1, 12, 0);
+    expect("rows of 0", roomscript_judge_rows(rows, ROWS), 1, 12, 0);
+}
+
+static void check_and_run(void) {
+    static const uint32_t fault[6] = {1, 0, 0, 1, 2, 0};
+    junk();
+    expect("read E1", roomscript_read(E1, sizeof E1, rows, ROWS), 0, 0, 8);
+    expect("check E1", roomscript_check(rows, ROWS), 0, 0, 8);
+    expect_ran("no store", roomscript_run(rows, ROWS, GIVEN, READINGS, store, 0), 1, 3, 0, 0);
+    expect_ran("no readings", roomscript_run(rows, ROWS, GIVEN, 7, store, STORE), 1, 4, 0, 0);
+    note("store before a run", all(store, 0, STORE, 9));
+    expect_ran("run E1", roomscript_run(rows, ROWS, GIVEN, READINGS, store, STORE), 0, 0, 1, 0);
+    note("store after E1", all(store, 0, STORE, 0));
+    expect("read E3", roomscript_read(E3, sizeof E3, rows, ROWS), 0, 0, 7);
+    expect("check E3", roomscript_check(rows, ROWS), 1, 33, 6);
+    expect_ran("run E3", roomscript_run(rows, ROWS, GIVEN, READINGS, store, STORE), 2, 60, 0, 6);
+    note("variables after E3", memcmp(store, fault, sizeof fault) == 0);
+    note("cell after E3", store[192] == 1 && store[193] == 1 && store[194] == 7);
+    note("the rest after E3", all(store, 6, 192, 0) && all(store, 195, STORE, 0));
+    expect("check no rows", roomscript_check(rows, 0), 1, 2, 0);
+}
+
+static void call(void) {
+    roomscript_called called;
+    junk();
+    expect_not_called("call without rows",
+                      roomscript_call(E1, 25, GIVEN, READINGS, rows, 0, store, STORE), 2, 0);
+    note("after no rows", all(rows, 0, ROWS, 9) && all(store, 0, STORE, 9));
+    expect_not_called("call of a short script",
+                      roomscript_call(E1, 24, GIVEN, READINGS, rows, ROWS, store, STORE), 12, 24);
+    note("after a short script", all(rows, 0, ROWS, 0) && all(store, 0, STORE, 9));
+    expect_not_called("call of E3",
+                      roomscript_call(E3, 23, GIVEN, READINGS, rows, ROWS, store, STORE), 33, 6);
+    note("after E3", rows[0] == 11 && rows[1] == 3 && all(store, 0, STORE, 9));
+    called = roomscript_call(E1, 25, GIVEN, READINGS, rows, ROWS, store, STORE);
+    note("call of E1", called.refused == 0 && called.number == 0 && called.answer == 1 &&
+                           called.place == 0 && called.terms == 8 && called.cells == 0);
+    note("after E1", rows[0] == 11 && rows[1] == 4 && all(store, 0, STORE, 0));
+}
+
+int main(void) {
+    form();
+    check_and_run();
+    call();
     return failed;
 }

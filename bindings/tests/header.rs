@@ -7,7 +7,7 @@ use std::path::Path;
 use std::process::Command;
 
 #[test]
-fn a_c_program_reads_judges_and_writes() {
+fn a_c_program_calls_every_function() {
     let package = Path::new(env!("CARGO_MANIFEST_DIR"));
     let root = package.parent().expect("a folder around the package");
     let program = Path::new(env!("CARGO_TARGET_TMPDIR")).join("header");

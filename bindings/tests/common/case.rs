@@ -8,10 +8,15 @@ use std::fmt::{self, Debug, Display, Formatter, LowerHex};
 pub enum Input<'a> {
     Script(&'a [u8]),
     Rows(&'a [u32]),
+    /// A script and readings.
+    Call(&'a [u8], &'a [i32]),
+    /// Rows and readings.
+    Run(&'a [u32], &'a [i32]),
 }
 
 pub struct Case<'a> {
-    pub seed: u64,
+    /// None where the cases are not seeded but all that there are.
+    pub seed: Option<u64>,
     /// Counted from 0; a run of one case more than this meets it again.
     pub number: u64,
     pub input: Input<'a>,
@@ -57,10 +62,21 @@ impl Case<'_> {
 
 impl Display for Case<'_> {
     fn fmt(&self, to: &mut Formatter<'_>) -> fmt::Result {
-        writeln!(to, "seed {}, case {}", self.seed, self.number)?;
+        match self.seed {
+            Some(seed) => writeln!(to, "seed {seed}, case {}", self.number)?,
+            None => writeln!(to, "case {} of all", self.number)?,
+        }
         match self.input {
-            Input::Script(script) => write!(to, "script of {}", hex_bytes(script)),
-            Input::Rows(rows) => write!(to, "rows of {}", hex_rows(rows)),
+            Input::Script(script) | Input::Call(script, _) => {
+                write!(to, "script of {}", hex_bytes(script))?
+            }
+            Input::Rows(rows) | Input::Run(rows, _) => write!(to, "rows of {}", hex_rows(rows))?,
+        }
+        match self.input {
+            Input::Call(_, readings) | Input::Run(_, readings) => {
+                write!(to, "\nreadings {readings:?}")
+            }
+            _ => Ok(()),
         }
     }
 }

@@ -15,6 +15,12 @@ impl Cell for u32 {
     }
 }
 
+impl Cell for i32 {
+    fn junk(seed: u32, index: usize) -> i32 {
+        u32::junk(seed, index) as i32
+    }
+}
+
 impl Cell for u8 {
     fn junk(seed: u32, index: usize) -> u8 {
         (u32::junk(seed, index) >> 24) as u8 | 1

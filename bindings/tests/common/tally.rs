@@ -1,7 +1,8 @@
 //! How often each refusal number was answered.
 
 use super::settings::Settings;
-use super::Answer;
+use super::{Answer, RunAnswer};
+use roomscript::Stop;
 use std::collections::BTreeMap;
 use std::io::{self, Write};
 
@@ -20,13 +21,40 @@ impl Tally {
     }
 
     pub fn count(&mut self, answer: Answer) {
-        let number = answer.map_or_else(|refusal| refusal.number, |_| 0);
+        self.count_number(answer.map_or_else(|refusal| refusal.number, |_| 0));
+    }
+
+    pub fn count_run(&mut self, answer: RunAnswer) {
+        self.count_number(match answer {
+            Ok(_) => 0,
+            Err(Stop::Refused(refusal)) => refusal.number,
+            Err(Stop::Fault(fault)) => fault.number,
+        });
+    }
+
+    fn count_number(&mut self, number: u32) {
         *self.counts.entry(number).or_default() += 1;
     }
 
     /// Shows the counts, and fails unless exactly the expected numbers
     /// occurred. A short run may miss some of them.
     pub fn report(&self, settings: &Settings, expected: &[u32]) {
+        self.report_with(settings, expected, &[]);
+    }
+
+    /// The same where some more numbers may occur, but are rare.
+    pub fn report_with(&self, settings: &Settings, expected: &[u32], rare: &[u32]) {
+        let name = format!("{} (seed {})", self.operation, settings.seed);
+        let must: &[u32] = if settings.is_whole() { expected } else { &[] };
+        self.show(&name, must, &[expected, rare].concat());
+    }
+
+    /// The same for cases that are all that there are.
+    pub fn report_all(&self, expected: &[u32]) {
+        self.show(self.operation, expected, expected);
+    }
+
+    fn show(&self, name: &str, must: &[u32], may: &[u32]) {
         let shown: Vec<String> = self
             .counts
             .iter()
@@ -37,16 +65,13 @@ impl Tally {
             .collect();
         // Written to the handle itself, since what is printed by a test that
         // passes is not shown.
-        let line = format!("{} (seed {}): ", self.operation, settings.seed);
-        let _ = writeln!(io::stdout(), "occurred in {line}{}", shown.join(", "));
+        let _ = writeln!(io::stdout(), "occurred in {name}: {}", shown.join(", "));
         for number in self.counts.keys() {
-            assert!(expected.contains(number), "{line}{number} occurred");
+            assert!(may.contains(number), "{name}: {number} occurred");
         }
-        for number in expected.iter().filter(|_| settings.is_whole()) {
-            assert!(
-                self.counts.contains_key(number),
-                "{line}{number} did not occur"
-            );
+        for number in must {
+            let occurred = self.counts.contains_key(number);
+            assert!(occurred, "{name}: {number} did not occur");
         }
     }
 }

@@ -41,7 +41,7 @@ fn rows_are_judged_and_written_alike() {
     for number in 0..settings.cases {
         generator.rows_any_length(&mut rows);
         let case = Case {
-            seed: settings.seed,
+            seed: Some(settings.seed),
             number,
             input: Input::Rows(&rows),
         };

@@ -49,7 +49,7 @@ fn scripts_are_read_alike() {
     for number in 0..settings.cases {
         generator.script(&mut script);
         let case = Case {
-            seed: settings.seed,
+            seed: Some(settings.seed),
             number,
             input: Input::Script(&script),
         };

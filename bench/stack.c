@@ -1,0 +1,87 @@
+/*
+ * How much stack a function takes: its name as the argument, a script on
+ * standard input, the bytes on standard output.
+ *
+ * The function is called in a thread whose stack was painted before, and the
+ * lowest byte that is painted over afterwards is looked for. The thread calls
+ * nothing else before that, so that what is counted is the library's frames
+ * and one small frame around them.
+ */
+#define _POSIX_C_SOURCE 200809L
+
+#include <roomscript.h>
+
+#include <pthread.h>
+#include <stdio.h>
+#include <stdlib.h>
+#include <string.h>
+
+#define PAINTED ((size_t)16 << 20)
+#define PAINT 0xA5
+#define ROWS rows, ROOMSCRIPT_ROWS_LEN
+#define STORE store, ROOMSCRIPT_STORE_LEN
+#define READINGS readings, ROOMSCRIPT_READINGS_LEN
+
+static const int32_t readings[ROOMSCRIPT_READINGS_LEN];
+static uint32_t rows[ROOMSCRIPT_ROWS_LEN];
+static uint32_t store[ROOMSCRIPT_STORE_LEN];
+static uint8_t output[ROOMSCRIPT_MAX_BYTES];
+static uint8_t script[ROOMSCRIPT_MAX_BYTES];
+static size_t length;
+
+static void do_read(void) { roomscript_read(script, length, ROWS); }
+static void do_judge_rows(void) { roomscript_judge_rows(ROWS); }
+static void do_write(void) { roomscript_write(ROWS, output, sizeof output); }
+static void do_check(void) { roomscript_check(ROWS); }
+static void do_run(void) { roomscript_run(ROWS, READINGS, STORE); }
+static void do_call(void) { roomscript_call(script, length, READINGS, ROWS, STORE); }
+
+static const struct {
+    const char *name;
+    void (*act)(void);
+} operations[] = {{"read", do_read},   {"judge_rows", do_judge_rows}, {"write", do_write},
+                  {"check", do_check}, {"run", do_run},               {"call", do_call}};
+
+/* Volatile, so that the calls and the look at the stack stay where they are. */
+static void (*volatile chosen)(void);
+static volatile unsigned char *stack;
+static size_t taken;
+
+static void *measured(void *unused) {
+    volatile unsigned char top = 0;
+    volatile unsigned char *low = stack;
+    chosen();
+    while (*low == PAINT) {
+        low++;
+    }
+    taken = (size_t)(&top - low);
+    return unused;
+}
+
+int main(int count, char **words) {
+    pthread_attr_t attributes;
+    pthread_t thread;
+    void *memory;
+    size_t at;
+    for (at = 0; count == 2 && at < sizeof operations / sizeof operations[0]; at++) {
+        if (strcmp(words[1], operations[at].name) == 0) {
+            chosen = operations[at].act;
+        }
+    }
+    length = fread(script, 1, sizeof script, stdin);
+    /* Those who take rows find them here. */
+    if (chosen == NULL || roomscript_read(script, length, ROWS).refused != 0 ||
+        posix_memalign(&memory, 4096, PAINTED) != 0) {
+        return 1;
+    }
+    memset(memory, PAINT, PAINTED);
+    stack = memory;
+    if (pthread_attr_init(&attributes) != 0 ||
+        pthread_attr_setstack(&attributes, memory, PAINTED) != 0 ||
+        pthread_create(&thread, &attributes, measured, NULL) != 0 ||
+        pthread_join(thread, NULL) != 0) {
+        return 1;
+    }
+    printf("%zu\n", taken);
+    return 0;
+}

@@ -1,0 +1,37 @@
+//! The ownership check of term rows.
+
+use crate::foreign;
+use crate::Refusal;
+
+/// Judges term rows by the ownership rules and answers the number of terms.
+///
+/// A script is accepted where its rows are of the right form and the rules
+/// refuse no term of it. It then runs without a fault, whatever the readings
+/// ([`run`](crate::run)). Nothing lent is changed.
+///
+/// # Refusals
+///
+/// - 2: `rows` is not 2,560 long, at place 0;
+/// - 12 to 15 and 17 to 19, with the row, as from
+///   [`judge_rows`](crate::judge_rows).
+///
+/// By the author, with the term:
+/// - 30: the number of a let is taken;
+/// - 31: the root of a place is not in scope; 32: its chain is not long
+///   enough; 33: something is moved away on the path or of the value;
+/// - 34: reading the root is barred; 35: writing it is barred;
+/// - 36: a shared link is passed where only box and exclusive links may be;
+/// - 37: a copy of neither a number nor a shared borrow; 38: a move passes a
+///   borrow link;
+/// - 39: other link kinds than the assigned place has, or no number in a
+///   below;
+/// - 40: a borrowed root does not live in the block of the variable finally
+///   written or in one around it, or lives in the block that ends;
+/// - 41: no value where one is needed; 42: more than 8 links;
+/// - 43: the answer is no number, at term 0.
+///
+/// Terms are judged in their order. A term whose inner term is refused is
+/// refused with the inner number and term.
+pub fn check(rows: &[u32]) -> Result<u32, Refusal> {
+    foreign::check(rows).count()
+}

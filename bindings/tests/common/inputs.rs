@@ -1,0 +1,112 @@
+//! The inputs in `examples/`, with the line that the program prints for each.
+
+use super::examples::*;
+use super::terms::*;
+
+/// The file's name without its ending, its bytes, and the line.
+pub struct Example {
+    pub name: String,
+    pub input: Vec<u8>,
+    pub line: &'static str,
+}
+
+/// Readings, and then a script.
+pub fn input_of(readings: [i32; 8], script: &[u8]) -> Vec<u8> {
+    let mut input = readings.map(i32::to_be_bytes).concat();
+    input.extend(script);
+    input
+}
+
+fn example(name: impl Into<String>, script: &[u8], line: &'static str) -> Example {
+    Example {
+        name: name.into(),
+        input: input_of([0; 8], script),
+        line,
+    }
+}
+
+/// E1 to E11, with the lines that follow from the requirement's list.
+pub fn listed() -> Vec<Example> {
+    let scripts = [
+        (e1(), "accepted 8 call 1 cells 0"),
+        (e2(), "refused 34 at 5"),
+        (e3(), "refused 33 at 6"),
+        (e4(), "accepted 9 call 8 cells 1"),
+        (e5(), "refused 40 at 4"),
+        (e6(), "accepted 12 call 2 cells 0"),
+        (e7(), "refused 36 at 7"),
+        // The program runs accepted scripts only, so that E8 is E3 again.
+        (e3(), "refused 33 at 6"),
+        (e9(), "refused 37 at 5"),
+        (e10(9), "refused 42 at 2"),
+        (e11(), "refused 40 at 8"),
+    ];
+    let mut listed: Vec<Example> = (1..)
+        .zip(scripts)
+        .map(|(number, (terms, line))| example(format!("e{number}"), &script_of(&terms), line))
+        .collect();
+    listed[0].input = input_of([185, 200, 0, 0, 0, 0, 0, 0], &script_of(&e1()));
+    let eight = script_of(&e10(8));
+    listed.push(example("e10-eight", &eight, "accepted 12 call 0 cells 8"));
+    listed
+}
+
+/// Blocks of one term round a number.
+fn levels(count: usize) -> Vec<u8> {
+    // Both the outermost block and the number are a level.
+    let inner = (0..count - 2).fold(number(3), |inner, _| block(&[inner]));
+    script_of(&[inner])
+}
+
+/// Two blocks of numbers.
+fn terms(first: usize, second: usize) -> Vec<u8> {
+    let numbers = |count| block(&vec![number(4); count]);
+    script_of(&[numbers(first), numbers(second)])
+}
+
+/// Boxes side by side, and a number as the answer.
+fn boxes_beside(count: usize) -> Vec<u8> {
+    let mut terms = vec![boxed(number(5)); count];
+    terms.push(number(6));
+    script_of(&terms)
+}
+
+/// E1, and then bytes of 0.
+fn bytes(count: usize) -> Vec<u8> {
+    let mut script = script_of(&e1());
+    script.resize(count, 0);
+    script
+}
+
+/// The edges. Places in bytes: the 17th level begins after the header and 16
+/// blocks of 2 bytes, the 513th term after 3 blocks and 509 numbers of 5
+/// bytes, the 65th box after a block and 64 boxed numbers of 6 bytes.
+pub fn edges() -> Vec<Example> {
+    let mut edges = vec![
+        example("levels-16", &levels(16), "accepted 16 call 3 cells 0"),
+        example("levels-17", &levels(17), "refused 15 at 37"),
+        example("terms-512", &terms(255, 254), "accepted 512 call 4 cells 0"),
+        example("terms-513", &terms(255, 255), "refused 16 at 2556"),
+        example(
+            "boxes-64",
+            &boxes_beside(64),
+            "accepted 130 call 6 cells 64",
+        ),
+        example("boxes-65", &boxes_beside(65), "refused 17 at 391"),
+        example("bytes-4096", &bytes(4096), "refused 19 at 25"),
+        example("bytes-4097", &bytes(4097), "refused 1 at 0"),
+        example("no-bytes", &[], "refused 12 at 0"),
+    ];
+    for (name, length) in [("readings-short", 31), ("nothing", 0)] {
+        let mut short = example(name, &[], "readings short");
+        short.input.truncate(length);
+        edges.push(short);
+    }
+    edges
+}
+
+pub fn all() -> Vec<Example> {
+    let mut all = listed();
+    all.extend(edges());
+    all
+}

@@ -1,0 +1,85 @@
+//! Terms as rows, so that scripts can be written close to their notation.
+
+use roomscript::{FIELDS, ROWS_LEN};
+
+pub type Row = [u32; FIELDS];
+
+/// The rows of a term and of everything inside it.
+pub type Term = Vec<Row>;
+
+/// Variable and follows.
+pub type Place = (u32, u32);
+
+pub fn number(value: i32) -> Term {
+    vec![[0x01, value as u32, 0, 0, 0]]
+}
+
+pub fn reading(index: u32) -> Term {
+    vec![[0x02, index, 0, 0, 0]]
+}
+
+pub fn copy(place: Place) -> Term {
+    vec![[0x03, place.0, place.1, 0, 0]]
+}
+
+pub fn mov(place: Place) -> Term {
+    vec![[0x04, place.0, place.1, 0, 0]]
+}
+
+pub fn shared(place: Place) -> Term {
+    vec![[0x05, place.0, place.1, 0, 0]]
+}
+
+pub fn exclusive(place: Place) -> Term {
+    vec![[0x06, place.0, place.1, 0, 0]]
+}
+
+pub fn boxed(inner: Term) -> Term {
+    boxes(1, inner)
+}
+
+/// So many boxes round a term.
+pub fn boxes(count: usize, inner: Term) -> Term {
+    [vec![[0x07, 0, 0, 0, 0]; count], inner].concat()
+}
+
+pub fn let_(variable: u32, inner: Term) -> Term {
+    [vec![[0x08, variable, 0, 0, 0]], inner].concat()
+}
+
+pub fn assign(place: Place, right: Term) -> Term {
+    [vec![[0x09, place.0, place.1, 0, 0]], right].concat()
+}
+
+pub fn below(first: Place, second: Place) -> Term {
+    vec![[0x0A, first.0, first.1, second.0, second.1]]
+}
+
+pub fn block(terms: &[Term]) -> Term {
+    [vec![[0x0B, terms.len() as u32, 0, 0, 0]], terms.concat()].concat()
+}
+
+/// All rows of a script with these terms in its outermost block.
+pub fn rows_of(terms: &[Term]) -> Vec<u32> {
+    let mut rows = block(terms).concat();
+    rows.resize(ROWS_LEN, 0);
+    rows
+}
+
+/// The bytes of a script with these terms in its outermost block.
+pub fn script_of(terms: &[Term]) -> Vec<u8> {
+    let mut script = b"RCS\x00\x01".to_vec();
+    for row in block(terms) {
+        let bytes = row.map(|field| field as u8);
+        let operands = match row[0] {
+            0x01 => &row[1].to_be_bytes(),
+            0x07 => &bytes[1..1],
+            0x02 | 0x08 | 0x0B => &bytes[1..2],
+            0x0A => &bytes[1..5],
+            _ => &bytes[1..3],
+        };
+        script.push(bytes[0]);
+        script.extend(operands);
+    }
+    script
+}

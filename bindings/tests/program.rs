@@ -1,0 +1,15 @@
+//! The program `roomcheck` as it is run: inputs by hand, the reference
+//! program's lines for generated ones, and the files in `examples/`.
+//!
+//! It is the executable `target/bin/roomcheck` at the repository root. Without
+//! it these tests fail.
+
+#![forbid(unsafe_code)]
+
+mod common;
+#[path = "program/executable.rs"]
+mod executable;
+#[path = "program/files.rs"]
+mod files;
+#[path = "program/lines.rs"]
+mod lines;

@@ -1,0 +1,365 @@
+-- The terms of a block in rows: a turn of its loop, and the block as a term.
+use Prim.Native.Nat.{ℕ, zero, suc, _+_, _-_, _*_, _≤_, _<_}
+use native.Mathlib.Omega.{arith}
+use native.Mathlib.Decide.{ℕ-discrete}
+use native.Mathlib.Numerals.{sub-one}
+use mathlib.Core.Path.{_≡_, refl, sym, ap, subst, _∙_}
+use mathlib.Core.List.{List, []}
+use lib.IntN.{ℤ}
+use lib.ListN.{length, getD}
+use Rattle.reader.specs.Result.{Result, ok, err, _>>=_}
+use Rattle.reader.specs.Script.{Term, Terms, last, more}
+use Rattle.reader.specs.Measures.{boxesIn, boxesAll}
+use Rattle.machine.specs.Values.{Value, empty}
+use Rattle.machine.specs.Store.{State, Fault, Ran, fault}
+use Rattle.machine.specs.Drop.{InOrder, dropValue}
+use Rattle.machine.specs.Run.{Outcome, runBlockEnd, run, runs}
+use Rattle.machine.specs.Answers.{bitsOf}
+use Rattle.machine.specs.RowTrees.{Decoded, tree, broken, Decodeds, trees, brokens, IsTree, IsTrees, endOf, boxesAt, boxesFrom, fieldIn, blockD, lastD, consD, moreD, decodes, someOf, treeAt, IsRest, boxesRest}
+use Rattle.machine.specs.Words.{valueOf, storeOf, Sound, Tidy}
+use Rattle.machine.specs.Parts.{stateAt, left, Dropped, runOn, since, Stop, seen, Stood, atRow, outcome, stood, sequel, withoutValue, Fine, EndReady, BlockClosed, Opened, runAt, Ready, TermReady, TermRan, runsOn, restRun, BlockReady, BlockRan}
+use Rattle.machine.specs.declared.around.Standing.{Standing}
+use Rattle.machine.proofs.DropLaws.{drop-empty}
+use Rattle.machine.proofs.Kept.{keeps-ok}
+use Rattle.machine.proofs.RunOrder.{runs-ordered}
+use Rattle.machine.proofs.WordLaws.{empty-sound, empty-is}
+use Rattle.machine.proofs.CellLaws.{left-stops, left-goes, drop-ordered}
+use Rattle.machine.proofs.AroundLaws.{stood-stops, stood-goes, since-kept}
+use Rattle.machine.proofs.RowLaws.{has-room, block-is, block-asks}
+use Rattle.machine.proofs.TermLaws.{block-run, block-cells, Went-well, went-well, same-ran, term-fine, term-taken, term-end, term-room, next-ready, next-opened}
+
+-- ---- what is left of a block, in rows
+
+last-sub : (d : Decoded) → IsTrees (lastD d) → IsTree d
+last-sub (tree t j) h = h
+last-sub broken h = absurd h
+
+more-sub : (d : Decoded) (k : ℕ → Decodeds) → IsTrees (moreD d k) → IsTree d
+more-sub (tree t j) k h = tt
+more-sub broken k h = absurd h
+
+cons-sub : (t : Term) (ds : Decodeds) → IsTrees (consD t ds) → IsTrees ds
+cons-sub t (trees ts j) h = tt
+cons-sub t brokens h = absurd h
+
+cons-cells : (t : Term) (j : ℕ) (ds : Decodeds) → IsTrees (consD t ds) → boxesFrom (consD t ds) ≡ boxesAt (tree t j) + boxesFrom ds
+unfolding boxesFrom boxesAt boxesAll
+cons-cells t j (trees ts k) h = refl
+cons-cells t j brokens h = absurd h
+
+module _ (f : ℕ → Decoded) where
+  first-asks : (n at : ℕ) → 0 < n → IsRest f n at → IsTree (f at)
+  unfolding decodes
+  first-asks zero at b h = absurd (omega arith)
+  first-asks (suc zero) at b h = last-sub (f at) h
+  first-asks (suc (suc n)) at b h = more-sub (f at) (decodes f n) h
+
+  more-rest : (d : Decoded) (k : ℕ → Decodeds) → IsTrees (moreD d k) → IsTrees (k (endOf d))
+  unfolding endOf
+  more-rest (tree t j) k h = cons-sub t (k j) h
+  more-rest broken k h = absurd h
+
+  rest-asks : (n at : ℕ) → 0 < n → IsRest f n at → IsRest f (n - 1) (endOf (f at))
+  unfolding decodes
+  rest-asks zero at b h = absurd (omega arith)
+  rest-asks (suc zero) at b h = tt
+  rest-asks (suc (suc n)) at b h = rw sub-one (more-rest (f at) (decodes f n) h)
+
+  last-cells : (d : Decoded) → boxesFrom (lastD d) ≡ boxesAt d
+  unfolding boxesFrom boxesAt boxesAll
+  last-cells (tree t j) = refl
+  last-cells broken = refl
+
+  more-cells : (d : Decoded) (k : ℕ → Decodeds) → IsTrees (moreD d k) → boxesFrom (moreD d k) ≡ boxesAt d + boxesFrom (k (endOf d))
+  unfolding endOf
+  more-cells (tree t j) k h = cons-cells t j (k j) h
+  more-cells broken k h = absurd h
+
+  rest-cells : (n at : ℕ) → 0 < n → IsRest f n at → boxesRest f n at ≡ boxesAt (f at) + boxesRest f (n - 1) (endOf (f at))
+  unfolding boxesRest decodes
+  rest-cells zero at b h = absurd (omega arith)
+  rest-cells (suc zero) at b h = let z = last-cells (f at) in omega arith
+  rest-cells (suc (suc n)) at b h = rw sub-one (more-cells (f at) (decodes f n) h)
+
+-- ---- the run of what is left
+
+-- A fault goes onwards, whatever follows.
+stop-here : (m : Ran Outcome) (o : Stop) (j k : ℕ) (f : Outcome → Ran Outcome) → _≡_ {A = Stood} (err o) (atRow j (seen m)) → _≡_ {A = Stood} (err o) (atRow k (seen (m >>= f)))
+unfolding atRow seen _>>=_
+stop-here (ok a) o j k f e = let z : _≡_ {A = ℕ} 0 1 = cc in absurd (omega arith)
+stop-here (err x) o j k f e = e
+
+module _ (readings : List ℤ) (i : ℕ) where
+  -- Block i's terms after the first, whose outcome is o.
+  abbrev after-first : Terms → Outcome → Ran Outcome
+  after-first ts o = dropValue i (o .0) (o .1) >>= λ s. runs (bitsOf readings) ts i s
+
+  module _ (s : State) where
+    last-run : (d : Decoded) → IsTree d → runsOn readings (lastD d) i s ≡ runAt readings d s
+    unfolding runsOn runAt runOn endOf runs
+    last-run (tree t j) h = refl
+    last-run broken h = absurd h
+
+    last-go : (d : Decoded) (o : Outcome) → IsTrees (lastD d) → runOn readings d s ≡ ok o → _≡_ {A = Stood} (ok (o, endOf d)) (runsOn readings (lastD d) i s)
+    unfolding runAt seen atRow
+    last-go d o h e = sym (last-run d (last-sub d h) ∙ rw e)
+
+    cons-stop : (t : Term) (j : ℕ) (ds : Decodeds) (o : Stop) → IsTrees (consD t ds) → _≡_ {A = Stood} (err o) (atRow j (seen (run (bitsOf readings) t s))) → _≡_ {A = Stood} (err o) (runsOn readings (consD t ds) i s)
+    unfolding runsOn runs
+    cons-stop t j (trees ts k) o h e = stop-here (run (bitsOf readings) t s) o j k (after-first ts) e
+    cons-stop t j brokens o h e = absurd h
+
+    more-stop : (d : Decoded) (k : ℕ → Decodeds) (o : Stop) → IsTrees (moreD d k) → _≡_ {A = Stood} (err o) (runAt readings d s) → _≡_ {A = Stood} (err o) (runsOn readings (moreD d k) i s)
+    unfolding runAt runOn endOf
+    more-stop (tree t j) k o h e = cons-stop t j (k j) o h e
+    more-stop broken k o h e = absurd h
+
+    cons-go : (t : Term) (ds : Decodeds) (o : Outcome) → IsTrees (consD t ds) → run (bitsOf readings) t s ≡ ok o → (seen (dropValue i (o .0) (o .1)) >>= λ s′. runsOn readings ds i s′) ≡ runsOn readings (consD t ds) i s
+    unfolding runsOn runs seen atRow _>>=_
+    cons-go t (trees ts k) o h e = go (dropValue i (o .0) (o .1)) ∙ sym (rw e)
+      where
+        go : (m : Ran State) → (seen m >>= λ s′. atRow k (seen (runs (bitsOf readings) ts i s′))) ≡ atRow k (seen (m >>= λ s′. runs (bitsOf readings) ts i s′))
+        go (ok a) = refl
+        go (err x) = refl
+    cons-go t brokens o h e = absurd h
+
+    more-go : (d : Decoded) (k : ℕ → Decodeds) (o : Outcome) → IsTrees (moreD d k) → runOn readings d s ≡ ok o → (seen (dropValue i (o .0) (o .1)) >>= λ s′. runsOn readings (k (endOf d)) i s′) ≡ runsOn readings (moreD d k) i s
+    unfolding runOn endOf
+    more-go (tree t j) k o h e = cons-go t (k j) o h e
+    more-go broken k o h e = absurd h
+
+    module _ (f : ℕ → Decoded) where
+      -- What is left begins with a fault.
+      rest-stop : (n at : ℕ) (o : Stop) → 0 < n → IsRest f n at → _≡_ {A = Stood} (err o) (runAt readings (f at) s) → _≡_ {A = Stood} (err o) (runsOn readings (decodes f (n - 1) at) i s)
+      unfolding decodes
+      rest-stop zero at o b h e = absurd (omega arith)
+      rest-stop (suc zero) at o b h e = e ∙ sym (last-run (f at) (last-sub (f at) h))
+      rest-stop (suc (suc n)) at o b h e = rw sub-one (more-stop (f at) (decodes f n) o h e)
+
+      -- It begins with a term that has an outcome.
+      rest-go : (n at : ℕ) (o : Outcome) → 0 < n → IsRest f n at → runOn readings (f at) s ≡ ok o → restRun readings f i (n - 1) (endOf (f at)) o ≡ runsOn readings (decodes f (n - 1) at) i s
+      unfolding decodes restRun
+      rest-go zero at o b h e = absurd (omega arith)
+      rest-go (suc zero) at o b h e = last-go (f at) o h e
+      rest-go (suc (suc n)) at o b h e = rw sub-one (more-go (f at) (decodes f n) o h e)
+
+  rest-drop : (f : ℕ → Decoded) (n at : ℕ) (o : Outcome) → 0 < n → restRun readings f i n at o ≡ (seen (dropValue i (o .0) (o .1)) >>= λ s. runsOn readings (decodes f (n - 1) at) i s)
+  unfolding restRun
+  rest-drop f zero at o b = absurd (omega arith)
+  rest-drop f (suc n) at o b = rw sub-one
+
+-- ---- a turn of the block's loop
+
+-- Where the loop stands: `left` terms after the term whose outcome `last` tells.
+pub record Going (rows : List ℕ) (i terms levels block : ℕ) (readings : List ℤ) (w₀ opened₀ : List ℕ) (n taken : ℕ) (w opened : List ℕ) (left : ℕ) (last : Standing) : Type 0 where
+  pub fine : last .fault ≡ 0
+  pub ready : Ready rows (last .next) readings w opened (last .opened) (last .taken)
+  pub sound : Sound (last .kind) (last .payload)
+  pub opens : Opened opened₀ opened n (last .opened) i (last .next)
+  pub rest : IsRest (treeAt levels rows) left (last .next)
+  pub cells : last .taken + boxesRest (treeAt levels rows) left (last .next) ≤ 64
+  pub is : restRun readings (treeAt levels rows) block left (last .next) (outcome w opened n last) ≡ restRun readings (treeAt levels rows) block terms i (stateAt w₀ taken [], empty)
+
+module _ (rows : List ℕ) (i terms levels block : ℕ) (readings : List ℤ) (w₀ opened₀ : List ℕ) (n taken : ℕ) where
+  abbrev first : Standing
+  first = record { fault = 0; term = block; kind = 0; payload = 0; taken = taken; opened = n; next = i }
+
+  first-outcome : _≡_ {A = Outcome} (outcome w₀ opened₀ n first) (stateAt w₀ taken [], empty)
+  unfolding since
+  first-outcome = let z : n - n ≡ 0 = omega arith in rw (z, empty-is)
+
+  pub going-starts : BlockReady rows i terms levels readings w₀ opened₀ n taken
+      → Going rows i terms levels block readings w₀ opened₀ n taken w₀ opened₀ terms (record { fault = 0; term = block; kind = 0; payload = 0; taken = taken; opened = n; next = i })
+  going-starts g = record {
+    fine = refl;
+    ready = g .ready;
+    sound = empty-sound;
+    opens = record { kept = λ k h. refl; more = omega arith; few = omega arith; listed = g .ready .listed; room = g .room };
+    rest = g .is;
+    cells = g .cells;
+    is = ap (restRun readings (treeAt levels rows) block terms i) first-outcome;
+  }
+
+  module _ (w opened : List ℕ) (left₁ : ℕ) (last : Standing) (g : Going rows i terms levels block readings w₀ opened₀ n taken w opened left₁ last) where
+    pub going-ends : left₁ ≤ 0 → BlockRan rows i terms levels block readings w₀ opened₀ n taken w opened last
+    unfolding restRun
+    going-ends h = record {
+      tidy = g .ready .tidy;
+      is =
+          stood-goes w opened n last (g .fine)
+          ∙ ap (λ (m : ℕ). restRun readings (treeAt levels rows) block m (last .next) (outcome w opened n last)) (let z : 0 ≡ left₁ = omega arith in z)
+          ∙ g .is;
+      sound = λ z. g .sound;
+      opens = λ z. g .opens;
+    }
+
+    module _ (some : 0 < left₁) (w₁ : List ℕ) (m : ℕ) (d : Dropped w (last .kind) (last .payload) w₁ m) where
+      drop-is : left w₁ (last .taken) (since opened n (last .opened - n)) block m ≡ dropValue block (stateAt w (last .taken) (since opened n (last .opened - n))) (valueOf (last .kind) (last .payload))
+      drop-is = d .is block (last .taken) (since opened n (last .opened - n)) (g .ready .ordered)
+
+      turn : (seen (left w₁ (last .taken) (since opened n (last .opened - n)) block m) >>= λ s. runsOn readings (decodes (treeAt levels rows) (left₁ - 1) (last .next)) block s)
+          ≡ restRun readings (treeAt levels rows) block terms i (stateAt w₀ taken [], empty)
+      turn =
+          ap (λ (x : Ran State). seen x >>= λ s. runsOn readings (decodes (treeAt levels rows) (left₁ - 1) (last .next)) block s) drop-is
+          ∙ sym (rest-drop readings block (treeAt levels rows) left₁ (last .next) (outcome w opened n last) some)
+          ∙ g .is
+
+      -- The drop faults.
+      pub going-drops : (m ≡ 0 → ⊥) → (r : Standing) → r ≡ withoutValue last m block → BlockRan rows i terms levels block readings w₀ opened₀ n taken w₁ opened r
+      unfolding withoutValue stood seen _>>=_
+      going-drops z r e = record {
+        tidy = d .tidy;
+        is =
+            ap (stood w₁ opened n) e ∙ stood-stops w₁ opened n (withoutValue last m block) z
+            ∙ sym (ap (λ (x : Ran State). seen x >>= λ s. runsOn readings (decodes (treeAt levels rows) (left₁ - 1) (last .next)) block s) (left-stops w₁ (last .taken) (since opened n (last .opened - n)) block m z))
+            ∙ turn;
+        sound = λ y. absurd (z (sym (ap (λ (x : Standing). x .fault) e) ∙ y));
+        opens = λ y. absurd (z (sym (ap (λ (x : Standing). x .fault) e) ∙ y));
+      }
+
+      module _ (z : m ≡ 0) where
+        gone : runsOn readings (decodes (treeAt levels rows) (left₁ - 1) (last .next)) block (stateAt w₁ (last .taken) (since opened n (last .opened - n)))
+            ≡ restRun readings (treeAt levels rows) block terms i (stateAt w₀ taken [], empty)
+        unfolding seen _>>=_
+        gone =
+            sym (ap (λ (x : Ran State). seen x >>= λ s. runsOn readings (decodes (treeAt levels rows) (left₁ - 1) (last .next)) block s) (left-goes w₁ (last .taken) (since opened n (last .opened - n)) block m z))
+            ∙ turn
+
+        ordered₁ : InOrder (stateAt w₁ (last .taken) [])
+        ordered₁ = drop-ordered block (stateAt w (last .taken) (since opened n (last .opened - n))) (valueOf (last .kind) (last .payload)) (g .ready .ordered) (stateAt w₁ (last .taken) (since opened n (last .opened - n)))
+            (sym drop-is ∙ left-goes w₁ (last .taken) (since opened n (last .opened - n)) block m z)
+
+        cells-now : last .taken + (boxesAt (treeAt levels rows (last .next)) + boxesRest (treeAt levels rows) (left₁ - 1) (endOf (treeAt levels rows (last .next)))) ≤ 64
+        cells-now = let a = g .cells in let b = rest-cells (treeAt levels rows) left₁ (last .next) some (g .rest) in omega arith
+
+        pub turn-ready : TermReady rows (last .next) levels readings w₁ opened (last .opened) (last .taken)
+        turn-ready = record {
+          ready = record { long = g .ready .long; eight = g .ready .eight; many = g .ready .many; tidy = d .tidy; ordered = ordered₁; few = g .ready .few; listed = g .ready .listed };
+          is = first-asks (treeAt levels rows) left₁ (last .next) some (g .rest);
+          cells = let a = cells-now in omega arith;
+        }
+
+        module _ (w₂ opened₂ : List ℕ) (r : Standing) (t : TermRan rows (last .next) levels readings w₁ opened (last .opened) (last .taken) w₂ opened₂ r) where
+          stood-is : stood w₂ opened₂ n r ≡ runAt readings (treeAt levels rows (last .next)) (stateAt w₁ (last .taken) (since opened n (last .opened - n)))
+          stood-is = t .is n (g .opens .more)
+
+          -- The term faults.
+          pub going-stops : (r .fault ≡ 0 → ⊥) → BlockRan rows i terms levels block readings w₀ opened₀ n taken w₂ opened₂ r
+          going-stops y = record {
+            tidy = t .tidy;
+            is =
+                stood-stops w₂ opened₂ n r y
+                ∙ rest-stop readings block (stateAt w₁ (last .taken) (since opened n (last .opened - n))) (treeAt levels rows) left₁ (last .next) _ some (g .rest) (sym (stood-stops w₂ opened₂ n r y) ∙ stood-is)
+                ∙ gone;
+            sound = λ x. absurd (y x);
+            opens = λ x. absurd (y x);
+          }
+
+          -- The term has an outcome.
+          pub going-goes : r .fault ≡ 0 → length opened₂ ≡ 512 → Going rows i terms levels block readings w₀ opened₀ n taken w₂ opened₂ (left₁ - 1) r
+          going-goes y long =
+              let o = t .opens y in
+              let x = went-well readings (treeAt levels rows (last .next)) (stateAt w₁ (last .taken) (since opened n (last .opened - n))) w₂ opened₂ n r y stood-is in
+              let f = term-fine rows (last .next) levels readings w₁ opened (last .opened) (last .taken) turn-ready w₂ opened₂ r t y in
+              let k = term-taken rows (last .next) levels readings w₁ opened (last .opened) (last .taken) turn-ready w₂ opened₂ r t y in
+              let c = cells-now in
+              let a = g .opens in
+              let a₁ = a .more in
+              let a₂ = a .few in
+              let o₁ = o .more in
+              let o₂ = o .few in
+              let b = g .ready .few in
+              record {
+                fine = y;
+                ready = record { long = g .ready .long; eight = g .ready .eight; many = long; tidy = t .tidy; ordered = f .ordered; few = omega arith; listed = o .listed };
+                sound = f .sound;
+                opens = record { kept = λ j h. o .kept j (omega arith) ∙ a .kept j h; more = omega arith; few = omega arith; listed = o .listed; room = o .room };
+                rest = rw (x .end) (rest-asks (treeAt levels rows) left₁ (last .next) some (g .rest));
+                cells = rw (x .end) (omega arith);
+                is =
+                    ap (λ (j : ℕ). restRun readings (treeAt levels rows) block (left₁ - 1) j (outcome w₂ opened₂ n r)) (x .end)
+                    ∙ rest-go readings block (stateAt w₁ (last .taken) (since opened n (last .opened - n))) (treeAt levels rows) left₁ (last .next) (outcome w₂ opened₂ n r) some (g .rest) (x .ran)
+                    ∙ gone;
+              }
+
+-- ---- the block as a term
+
+some-rest : (f : ℕ → Decoded) (n at : ℕ) → IsTrees (someOf f n at) → IsRest f n at
+unfolding someOf
+some-rest f zero at h = absurd h
+some-rest f (suc n) at h = h
+
+some-cells : (f : ℕ → Decoded) (n at : ℕ) → boxesRest f n at ≡ boxesFrom (someOf f n at)
+unfolding boxesRest someOf boxesFrom
+some-cells f zero at = refl
+some-cells f (suc n) at = refl
+
+some-run : (readings : List ℤ) (f : ℕ → Decoded) (i n at : ℕ) (s : State) → IsTrees (someOf f n at) → restRun readings f i n at (s, empty) ≡ runsOn readings (someOf f n at) i s
+unfolding restRun someOf seen _>>=_
+some-run readings f i zero at s h = absurd h
+some-run readings f i (suc n) at s h = rw (drop-empty i s)
+
+-- After a fault no rule counts.
+any-rule : (w opened : List ℕ) (begin : ℕ) (r : Standing) (f g : Outcome → Ran Outcome) → (r .fault ≡ 0 → ⊥) → sequel (stood w opened begin r) f ≡ sequel (stood w opened begin r) g
+unfolding sequel
+any-rule w opened begin r f g n = rw (stood-stops w opened begin r n)
+
+module _ (rows : List ℕ) (i levels : ℕ) (readings : List ℤ) (w opened : List ℕ) (n taken : ℕ) (g : TermReady rows i levels readings w opened n taken)
+         (e : fieldIn rows i 0 ≡ 11) (count : ℕ) (ec : count ≡ fieldIn rows i 1) where
+  asks : IsTrees (someOf (treeAt (levels - 1) rows) count (i + 1))
+  asks = rw ec (block-asks levels rows i (g .is) e)
+
+  is-block : treeAt levels rows i ≡ blockD i (someOf (treeAt (levels - 1) rows) count (i + 1))
+  is-block = block-is levels rows i (g .is) e ∙ ap (λ (k : ℕ). blockD i (someOf (treeAt (levels - 1) rows) k (i + 1))) (sym ec)
+
+  pub block-ready : BlockReady rows (i + 1) count (levels - 1) readings w opened n taken
+  block-ready = record {
+    ready = next-ready rows i readings w opened n taken (g .ready);
+    room = term-room rows i levels readings w opened n taken g;
+    is = some-rest (treeAt (levels - 1) rows) count (i + 1) asks;
+    cells =
+        let a = g .cells in
+        let b = ap boxesAt is-block ∙ block-cells i (someOf (treeAt (levels - 1) rows) count (i + 1)) asks ∙ sym (some-cells (treeAt (levels - 1) rows) count (i + 1)) in
+        omega arith;
+  }
+
+  module _ (w₁ opened₁ : List ℕ) (inner : Standing) (t : BlockRan rows (i + 1) count (levels - 1) i readings w opened n taken w₁ opened₁ inner) where
+    runs-is : stood w₁ opened₁ n inner ≡ runsOn readings (someOf (treeAt (levels - 1) rows) count (i + 1)) i (stateAt w taken [])
+    runs-is = t .is ∙ some-run readings (treeAt (levels - 1) rows) i count (i + 1) (stateAt w taken []) asks
+
+    runs-fine : (ds : Decodeds) → IsTrees ds → inner .fault ≡ 0 → stood w₁ opened₁ n inner ≡ runsOn readings ds i (stateAt w taken []) → InOrder (stateAt w₁ (inner .taken) [])
+    unfolding runsOn
+    runs-fine (trees ts j) h z q =
+        keeps-ok (runs-ordered (bitsOf readings) ts i (stateAt w taken []) (g .ready .ordered)) (outcome w₁ opened₁ n inner) (same-ran (runs (bitsOf readings) ts i (stateAt w taken [])) (outcome w₁ opened₁ n inner) (inner .next) j (sym (stood-goes w₁ opened₁ n inner z) ∙ q) .0)
+    runs-fine brokens h z q = absurd h
+
+    pub block-ending : length opened₁ ≡ 512 → EndReady w₁ opened₁ n inner
+    block-ending long = record {
+      ready = record { tidy = t .tidy; fine = λ z. record { sound = t .sound z; ordered = runs-fine (someOf (treeAt (levels - 1) rows) count (i + 1)) asks z runs-is } };
+      listed = λ z. t .opens z .listed;
+      begun = λ z. t .opens z .more;
+      few = λ z. let o = t .opens z in let a = o .few in let b = o .room in let c = g .ready .few in omega arith;
+    }
+
+    pub block-returns : (w₂ : List ℕ) (r : Standing) → BlockClosed w₁ opened₁ i n inner w₂ r → TermRan rows i levels readings w opened n taken w₂ opened₁ r
+    block-returns w₂ r b = record {
+      tidy = b .tidy;
+      is = λ begin h.
+          b .is begin ∙ around begin h (ℕ-discrete (inner .fault) 0)
+          ∙ ap (λ (m : Stood). sequel m (λ o. runBlockEnd i (since opened begin (n - begin)) o)) runs-is
+          ∙ block-run readings i w taken (since opened begin (n - begin)) (someOf (treeAt (levels - 1) rows) count (i + 1)) asks
+          ∙ ap (λ (d : Decoded). runAt readings d (stateAt w taken (since opened begin (n - begin)))) (sym is-block);
+      sound = λ z. b .went z .sound;
+      opens = λ z.
+          let o = t .opens (b .went z .fine) in
+          let a = o .few in
+          let m = o .more in
+          let c = b .count z in
+          let q = b .went z .next in
+          record { kept = o .kept; more = omega arith; few = omega arith; listed = λ k h. o .listed k (omega arith); room = rw q (o .room) };
+    }
+      where
+        around : (begin : ℕ) → begin ≤ n → Dec (inner .fault ≡ 0)
+            → sequel (stood w₁ opened₁ n inner) (λ o. runBlockEnd i (since opened₁ begin (n - begin)) o) ≡ sequel (stood w₁ opened₁ n inner) (λ o. runBlockEnd i (since opened begin (n - begin)) o)
+        around begin h (yes z) = ap (λ (l : List ℕ). sequel (stood w₁ opened₁ n inner) (λ o. runBlockEnd i l o)) (since-kept opened₁ opened begin n h (t .opens z .kept))
+        around begin h (no z) = any-rule w₁ opened₁ n inner _ _ z

@@ -1,0 +1,57 @@
+-- `machine::around::assign_place` meets its contract. Assumes nothing.
+use Rattle.machine.proofs.AroundLaws.{place-stops, place-drops, place-writes}
+use borrow.Author.Needs.{needs}
+use mathlib.Core.Path.{_∙_}
+use Rattle.machine.proofs.around.assign_place.Statement.{statement}
+use Rattle.machine.proofs.around.assign_place.Tie as tie
+use Rattle.machine.proofs.around.assign_place.Reads as reads
+use Rattle.machine.proofs.around.assign_place.Lts as lts
+use Rattle.machine.proofs.around.write_open.Reads as write-open-reads
+use Rattle.machine.proofs.dropping.drop_value.Reads as drop-value-reads
+use Rattle.machine.proofs.locate.locate.Reads as locate-reads
+use Rattle.machine.proofs.store.load.Reads as load-reads
+
+locate-requires : tie.Need-locate-requires
+locate-requires c κs = search needs
+
+same-length : tie.Need-same-length
+same-length c = search needs
+
+returns : tie.Need-returns
+returns c = place-stops _ _ _ _ _ _ (c .before .before .locate .ensures) (c .if1 .taken) (c .before .before .before .before .before .pre .0)
+
+load-requires : tie.Need-load-requires
+load-requires c κs = (c .before .before .before .before .before .before .pre .0, c .before .before .before .locate .ensures .inside)
+
+drop-value-requires : tie.Need-drop-value-requires
+drop-value-requires c κs = (c .before .before .before .before .before .before .before .before .pre .0, c .before .load .ensures .sound)
+
+same-length-2 : tie.Need-same-length-2
+same-length-2 c = c .before .before .before .drop-value .kept .0
+
+returns-2 : tie.Need-returns-2
+returns-2 c = place-drops _ _ _ _ _ _ (c .before .before .before .before .before .before .before .before .before .locate .ensures) (c .before .before .before .before .before .before .before .if1 .left) _ (c .before .before .before .before .before .load .ensures) _ _ (c .before .before .before .drop-value .ensures) (c .if2 .taken)
+
+write-open-requires : tie.Need-write-open-requires
+write-open-requires c κs = (c .before .before .before .before .drop-value .ensures .tidy, c .before .before .before .before .before .before .before .before .before .before .locate .ensures .inside, c .before .before .before .before .before .before .before .before .before .before .before .before .before .pre .2)
+
+same-length-3 : tie.Need-same-length-3
+same-length-3 c = c .before .before .write-open .kept .0 ∙ c .before .before .before .before .before .before .before .drop-value .kept .0
+
+returns-3 : tie.Need-returns-3
+returns-3 c = place-writes _ _ _ _ _ _ (c .before .before .before .before .before .before .before .before .before .before .before .before .before .locate .ensures) (c .before .before .before .before .before .before .before .before .before .before .before .if1 .left) _ (c .before .before .before .before .before .before .before .before .before .load .ensures) _ _ (c .before .before .before .before .before .before .before .drop-value .ensures) (c .before .before .before .before .if2 .left) _ (c .before .before .write-open .ensures)
+
+pub assign-place-spec : {M : Type 1} → statement M
+assign-place-spec =
+    tie.close
+    (tie.spec
+    locate-requires
+    same-length
+    returns
+    load-requires
+    drop-value-requires
+    same-length-2
+    returns-2
+    write-open-requires
+    same-length-3
+    returns-3)

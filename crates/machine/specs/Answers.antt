@@ -1,0 +1,65 @@
+-- What `run` answers, and what it leaves in the store, on every input.
+use Prim.Native.Nat.{ℕ, _+_, _*_}
+use mathlib.Core.List.{List}
+use lib.Dec.{eqb}
+use lib.IntN.{ℤ, pos}
+use lib.ListN.{length, getD}
+use mir.Syntax.{w32}
+use mir.Val.{ofZ, toZ}
+use Rattle.reader.specs.Result.{Result, ok, err, Refusal, need, _>>=_}
+use Rattle.reader.specs.Limits.{Limits}
+use Rattle.reader.specs.Script.{Term}
+use Rattle.reader.specs.Reader.{decode}
+use Rattle.reader.specs.Answers.{rowsFit}
+use Rattle.machine.specs.Values.{closed}
+use Rattle.machine.specs.Store.{State, Ran}
+use Rattle.machine.specs.Run.{runScript}
+use Rattle.machine.specs.Encode.{encode}
+use Rattle.machine.specs.declared.RunOutcome.{RunOutcome}
+use Rattle.machine.specs.declared.RunOutcome.the-variants.{Answered, Refused, Faulted}
+
+-- The answer and the cells taken; 01's refusal and its place; 01's fault and its term.
+pub data Answer : Type 0 where
+  answered : ℤ → ℕ → Answer
+  refused faulted : ℕ → ℕ → Answer
+
+-- 01's number and values for each case of the code's answer.
+unfoldable pub toldRun : RunOutcome → Answer
+toldRun (Answered a c) = answered a c
+toldRun (Refused n p) = refused n p
+toldRun (Faulted n i) = faulted n i
+
+-- The answer, and the store afterwards.
+abbrev pub Answered′ : Type 0
+Answered′ = Answer × List ℕ
+
+-- "2 rows not 2,560; 3 store not 384; 4 readings not 8 i32": place 0, "lowest number first".
+unfoldable pub runFits : Limits → List ℕ → List ℤ → List ℕ → Result Refusal (Unit {0})
+runFits l rows readings store =
+    rowsFit l rows >>= λ _.
+    need (eqb (length store) (3 * (l .variables + l .boxes))) (3, 0) >>= λ _.
+    need (eqb (length readings) 8) (4, 0)
+
+-- The script that is to run: 2 to 4, then 12 to 19.
+unfoldable pub runnable : Limits → List ℕ → List ℤ → List ℕ → Result Refusal Term
+runnable l rows readings store =
+    runFits l rows readings store >>= λ _.
+    decode l rows
+
+-- Reading n as its 32 bits.
+unfoldable pub bitsOf : List ℤ → ℕ → ℕ
+bitsOf readings n = ofZ w32 (getD readings n (pos 0))
+
+-- "the store stays as the run rules had it" on a fault.
+unfoldable pub ranInto : Limits → Ran (State × ℕ) → Answered′
+ranInto l (ok e) = (answered (toZ w32 (e .1)) (e .0 .taken), encode (l .variables) (l .variables + l .boxes) (e .0 .store))
+ranInto l (err f) = (faulted (f .number) (f .term), encode (l .variables) (l .variables + l .boxes) (f .state .store))
+
+-- A refusal leaves the store unchanged. A run first clears it, so that what it was before does not count: any may be named.
+unfoldable pub runInto : Limits → List ℤ → List ℕ → Result Refusal Term → Answered′
+runInto l readings store (ok t) = ranInto l (runScript (bitsOf readings) t (λ x. closed))
+runInto l readings store (err e) = (refused (e .0) (e .1), store)
+
+-- `run`: the answer and the store.
+unfoldable pub runOf : Limits → List ℕ → List ℤ → List ℕ → Answered′
+runOf l rows readings store = runInto l readings store (runnable l rows readings store)

@@ -1,0 +1,33 @@
+-- "boxes run are the box terms that finished": a count along the run.
+use Prim.Native.Nat.{ℕ, _+_}
+use Rattle.reader.specs.Result.{Result, ok, err}
+use Rattle.reader.specs.Script.{Term, number, reading, copy, move, borrowShared, borrowExclusive, box, declare, assign, below, block, Terms, last, more}
+use Rattle.machine.specs.Store.{State}
+use Rattle.machine.specs.Drop.{dropValue}
+use Rattle.machine.specs.Run.{entered, run}
+
+-- What is counted after a step, if it finishes.
+unfoldable pub afterwards : {E A : Type 0} → Result E A → (A → ℕ) → ℕ
+afterwards (ok a) count = count a
+afterwards (err e) count = 0
+
+module _ (readings : ℕ → ℕ) where
+  unfoldable mutual
+    pub boxesRun : Term → State → ℕ
+    boxesRun (number i n) s = 0
+    boxesRun (reading i n) s = 0
+    boxesRun (copy i p) s = 0
+    boxesRun (move i p) s = 0
+    boxesRun (borrowShared i p) s = 0
+    boxesRun (borrowExclusive i p) s = 0
+    -- A box finishes if its inner term does.
+    boxesRun (box i t) s = boxesRun t s + afterwards (run readings t s) (λ o. 1)
+    boxesRun (declare i x t) s = boxesRun t s
+    boxesRun (assign i p t) s = boxesRun t s
+    boxesRun (below i p q) s = 0
+    boxesRun (block i ts) s = boxesRunAll ts i (entered s)
+
+    pub boxesRunAll : Terms → ℕ → State → ℕ
+    boxesRunAll (last t) i s = boxesRun t s
+    boxesRunAll (more t ts) i s =
+        boxesRun t s + afterwards (run readings t s) (λ o. afterwards (dropValue i (o .0) (o .1)) (λ s′. boxesRunAll ts i s′))

@@ -1,0 +1,302 @@
+-- What the parts of the machine's code answer: each the run rule it is for, on the store that the lent numbers stand for. No rule of 01
+-- is stated here. A fault number 0 is no fault.
+use Prim.Native.Nat.{ℕ, zero, suc, _+_, _-_, _*_, _≤_, _<_}
+use mathlib.Core.Path.{_≡_}
+use mathlib.Core.Bool.{true, false}
+use mathlib.Core.List.{List, [], _∷_}
+use lib.Dec.{eqb}
+use lib.IntN.{ℤ}
+use lib.ListN.{length, getD, set}
+use Rattle.reader.specs.Result.{Result, ok, err, pick, _>>=_}
+use Rattle.reader.specs.Limits.{base}
+use Rattle.reader.specs.Script.{Place, number}
+use Rattle.machine.specs.Values.{Location, variable, Value, empty, openWith, closed}
+use Rattle.machine.specs.Store.{Store, put, isOpen, valueIn, State, Ran, fault}
+use Rattle.machine.specs.Locate.{followed, locateFrom, filled}
+use Rattle.machine.specs.Drop.{InOrder, dropValue, closeAll}
+use Rattle.machine.specs.Run.{Outcome, runCopy, runMove, runBorrow, runNumber, runBelow, runBox, runLet, runAssign, runBlockEnd, run, runs, runScript}
+use Rattle.machine.specs.Encode.{locationOf}
+use Rattle.machine.specs.Answers.{Answered′, bitsOf, ranInto}
+use Rattle.machine.specs.RowTrees.{Decoded, tree, broken, Decodeds, trees, brokens, IsTree, IsRest, endOf, boxesAt, boxesRest, decodes, treeAt, leafAt}
+use Rattle.machine.specs.Words.{valueOf, storeOf, Sound, Tidy}
+use Rattle.machine.specs.declared.locate.Found.{Found}
+use Rattle.machine.specs.declared.locate.Gave.{Gave}
+use Rattle.machine.specs.declared.around.Standing.{Standing}
+
+abbrev pub stateAt : List ℕ → ℕ → List ℕ → State
+stateAt w taken opened = record { store = storeOf w; taken = taken; opened = opened }
+
+abbrev pub placeOf : ℕ → ℕ → Place
+placeOf root follows = record { root = root; follows = follows }
+
+-- ---- locating and reading
+
+unfoldable pub found : State → ℕ → Found → Ran Location
+found s i f = pick (eqb (f .fault) 0) (ok (locationOf 64 (f .row))) (fault (f .fault) i s)
+
+pub record Followed (w : List ℕ) (row : ℕ) (f : Found) : Type 0 where
+  pub inside : f .row < 128
+  pub is : (s : State) (i : ℕ) → found s i f ≡ followed s i (storeOf w (locationOf 64 row))
+
+pub record Located (w : List ℕ) (root follows : ℕ) (f : Found) : Type 0 where
+  pub inside : f .row < 128
+  pub is : (i taken : ℕ) (opened : List ℕ) → found (stateAt w taken opened) i f ≡ locateFrom (stateAt w taken opened) i (variable root) follows
+
+unfoldable pub held : State → ℕ → Gave → Ran Value
+held s i g = pick (eqb (g .fault) 0) (ok (valueOf (g .kind) (g .payload))) (fault (g .fault) i s)
+
+pub record Filled (w : List ℕ) (row : ℕ) (g : Gave) : Type 0 where
+  pub sound : Sound (g .kind) (g .payload)
+  pub is : (s : State) (i : ℕ) → held s i g ≡ filled s i (storeOf w (locationOf 64 row))
+
+-- ---- the terms without an inner term
+
+unfoldable pub gave : List ℕ → ℕ → List ℕ → ℕ → Gave → Ran Outcome
+gave w taken opened i g = pick (eqb (g .fault) 0) (ok (stateAt w taken opened, valueOf (g .kind) (g .payload))) (fault (g .fault) i (stateAt w taken opened))
+
+pub record Copied (w : List ℕ) (root follows : ℕ) (g : Gave) : Type 0 where
+  pub sound : Sound (g .kind) (g .payload)
+  pub is : (i taken : ℕ) (opened : List ℕ) → gave w taken opened i g ≡ runCopy (stateAt w taken opened) i (placeOf root follows)
+
+pub record Moved (w : List ℕ) (root follows : ℕ) (w′ : List ℕ) (g : Gave) : Type 0 where
+  pub tidy : Tidy w′
+  pub sound : Sound (g .kind) (g .payload)
+  pub is : (i taken : ℕ) (opened : List ℕ) → gave w′ taken opened i g ≡ runMove (stateAt w taken opened) i (placeOf root follows)
+
+pub record Borrowed (w : List ℕ) (root follows : ℕ) (g : Gave) : Type 0 where
+  pub sound : Sound (g .kind) (g .payload)
+  pub is : (i taken : ℕ) (opened : List ℕ) → gave w taken opened i g ≡ runBorrow (stateAt w taken opened) i (placeOf root follows)
+
+unfoldable pub counted : State → ℕ → Gave → Ran ℕ
+counted s i g = pick (eqb (g .fault) 0) (ok (g .payload)) (fault (g .fault) i s)
+
+pub record Numbered (w : List ℕ) (root follows : ℕ) (g : Gave) : Type 0 where
+  pub sound : Sound (g .kind) (g .payload)
+  pub is : (i taken : ℕ) (opened : List ℕ) → counted (stateAt w taken opened) i g ≡ runNumber (stateAt w taken opened) i (placeOf root follows)
+
+pub record Compared (w : List ℕ) (root follows other others : ℕ) (g : Gave) : Type 0 where
+  pub sound : Sound (g .kind) (g .payload)
+  pub is : (i taken : ℕ) (opened : List ℕ) → gave w taken opened i g ≡ runBelow (stateAt w taken opened) i (placeOf root follows) (placeOf other others)
+
+-- The run of the term that stands in rows.
+unfoldable pub runOn : List ℤ → Decoded → State → Ran Outcome
+runOn readings (tree t j) s = run (bitsOf readings) t s
+runOn readings broken s = fault 0 0 s
+
+pub record LeafReady (rows : List ℕ) (i : ℕ) (readings : List ℤ) (w : List ℕ) : Type 0 where
+  pub room : 5 * i + 5 ≤ length rows
+  pub leaf : IsTree (leafAt rows i)
+  pub eight : length readings ≡ 8
+  pub tidy : Tidy w
+
+pub record LeafRan (rows : List ℕ) (i : ℕ) (readings : List ℤ) (w w′ : List ℕ) (g : Gave) : Type 0 where
+  pub tidy : Tidy w′
+  pub sound : Sound (g .kind) (g .payload)
+  pub is : (taken : ℕ) (opened : List ℕ) → gave w′ taken opened i g ≡ runOn readings (leafAt rows i) (stateAt w taken opened)
+
+-- ---- dropping and closing
+
+unfoldable pub left : List ℕ → ℕ → List ℕ → ℕ → ℕ → Ran State
+left w taken opened i n = pick (eqb n 0) (ok (stateAt w taken opened)) (fault n i (stateAt w taken opened))
+
+pub record Dropped (w : List ℕ) (k p : ℕ) (w′ : List ℕ) (n : ℕ) : Type 0 where
+  pub tidy : Tidy w′
+  pub is : (i taken : ℕ) (opened : List ℕ) → InOrder (stateAt w taken opened) → left w′ taken opened i n ≡ dropValue i (stateAt w taken opened) (valueOf k p)
+
+-- The variable x closed.
+abbrev pub closeOne : ℕ → State → ℕ → Ran State
+closeOne i s x = closeAll i s (x ∷ [])
+
+pub record ClosedOne (w : List ℕ) (x : ℕ) (w′ : List ℕ) (n : ℕ) : Type 0 where
+  pub tidy : Tidy w′
+  pub is : (i taken : ℕ) (opened : List ℕ) → InOrder (stateAt w taken opened) → left w′ taken opened i n ≡ closeOne i (stateAt w taken opened) x
+
+-- The variables that were opened from `begin` on, n of them, last opened first.
+unfoldable pub since : List ℕ → ℕ → ℕ → List ℕ
+since opened begin zero = []
+since opened begin (suc n) = getD opened (begin + n) 0 ∷ since opened begin n
+
+-- The first n that were opened are variables.
+abbrev pub Listed : List ℕ → ℕ → Type 0
+Listed opened n = (k : ℕ) → k < n → getD opened k 0 < 64
+
+pub record ClosedAll (w opened : List ℕ) (begin end : ℕ) (w′ : List ℕ) (n : ℕ) : Type 0 where
+  pub tidy : Tidy w′
+  pub is : (i taken : ℕ) (around : List ℕ) → InOrder (stateAt w taken around) → left w′ taken around i n ≡ closeAll i (stateAt w taken around) (since opened begin (end - begin))
+
+pub record Wrote (w : List ℕ) (row k p : ℕ) (w′ : List ℕ) : Type 0 where
+  pub tidy : Tidy w′
+  pub is : storeOf w′ ≡ pick (isOpen (storeOf w (locationOf 64 row))) (put (storeOf w) (locationOf 64 row) (openWith (valueOf k p))) (storeOf w)
+
+unfoldable pub assigned : List ℕ → ℕ → List ℕ → ℕ → ℕ → Ran Outcome
+assigned w taken opened i n = pick (eqb n 0) (ok (stateAt w taken opened, empty)) (fault n i (stateAt w taken opened))
+
+pub record PlaceAssigned (w : List ℕ) (root follows k p : ℕ) (w′ : List ℕ) (n : ℕ) : Type 0 where
+  pub tidy : Tidy w′
+  pub is : (i taken : ℕ) (opened : List ℕ) → InOrder (stateAt w taken opened) → assigned w′ taken opened i n ≡ runAssign (stateAt w taken opened) i (placeOf root follows) (valueOf k p)
+
+-- ---- where a run stands
+
+-- What is seen of a fault: its number, its term, and the store.
+pub record Stop : Type 0 where
+  pub number : ℕ
+  pub term : ℕ
+  pub store : Store
+
+unfoldable pub seen : {A : Type 0} → Ran A → Result Stop A
+seen (ok a) = ok a
+seen (err f) = err (record { number = f .number; term = f .term; store = f .state .store })
+
+-- The outcome of a term, and the row after it.
+abbrev pub Stood : Type 0
+Stood = Result Stop (Outcome × ℕ)
+
+unfoldable pub atRow : ℕ → Result Stop Outcome → Stood
+atRow j (ok o) = ok (o, j)
+atRow j (err e) = err e
+
+abbrev pub outcome : List ℕ → List ℕ → ℕ → Standing → Outcome
+outcome w opened begin r = (stateAt w (r .taken) (since opened begin (r .opened - begin)), valueOf (r .kind) (r .payload))
+
+unfoldable pub stood : List ℕ → List ℕ → ℕ → Standing → Stood
+stood w opened begin r =
+    pick (eqb (r .fault) 0) (ok (outcome w opened begin r, r .next)) (err (record { number = r .fault; term = r .term; store = storeOf w }))
+
+-- What follows an inner term: the row after it stays.
+unfoldable pub sequel : Stood → (Outcome → Ran Outcome) → Stood
+sequel (ok o) rule = atRow (o .1) (seen (rule (o .0)))
+sequel (err e) rule = err e
+
+unfoldable pub withoutValue : Standing → ℕ → ℕ → Standing
+withoutValue r n i = record { fault = n; term = i; kind = 0; payload = 0; taken = r .taken; opened = r .opened; next = r .next }
+
+-- What holds after an inner term that meets no fault.
+pub record Fine (w : List ℕ) (r : Standing) : Type 0 where
+  pub sound : Sound (r .kind) (r .payload)
+  pub ordered : InOrder (stateAt w (r .taken) [])
+
+pub record InnerReady (w : List ℕ) (inner : Standing) : Type 0 where
+  pub tidy : Tidy w
+  pub fine : inner .fault ≡ 0 → Fine w inner
+
+-- What a rule after an inner term passes on.
+pub record Went (inner r : Standing) : Type 0 where
+  pub fine : inner .fault ≡ 0
+  pub sound : Sound (r .kind) (r .payload)
+  pub next : r .next ≡ inner .next
+
+pub record BoxReady (w : List ℕ) (inner : Standing) : Type 0 where
+  pub ready : InnerReady w inner
+  pub few : inner .fault ≡ 0 → inner .taken < 64
+
+pub record Boxed (w : List ℕ) (inner : Standing) (w′ : List ℕ) (r : Standing) : Type 0 where
+  pub tidy : Tidy w′
+  pub is : (opened : List ℕ) (begin : ℕ) → stood w′ opened begin r ≡ sequel (stood w opened begin inner) (λ o. runBox (o .0) (o .1))
+  pub went : r .fault ≡ 0 → Went inner r
+  pub count : r .fault ≡ 0 → r .opened ≡ inner .opened
+
+pub record LetReady (w opened : List ℕ) (x : ℕ) (inner : Standing) : Type 0 where
+  pub ready : InnerReady w inner
+  pub variable : x < 64
+  pub few : inner .fault ≡ 0 → inner .opened < length opened
+
+-- The variable x, opened last.
+pub record Pushed (opened : List ℕ) (x : ℕ) (inner : Standing) (opened′ : List ℕ) (r : Standing) : Type 0 where
+  pub count : r .opened ≡ suc (inner .opened)
+  pub is : opened′ ≡ set opened (inner .opened) x
+
+pub record Declared (w opened : List ℕ) (i x : ℕ) (inner : Standing) (w′ opened′ : List ℕ) (r : Standing) : Type 0 where
+  pub tidy : Tidy w′
+  pub is : (begin : ℕ) → (inner .fault ≡ 0 → begin ≤ inner .opened) → stood w′ opened′ begin r ≡ sequel (stood w opened begin inner) (λ o. runLet (o .0) i x (o .1))
+  pub went : r .fault ≡ 0 → Went inner r
+  pub pushed : r .fault ≡ 0 → Pushed opened x inner opened′ r
+
+pub record Assigned (w : List ℕ) (i root follows : ℕ) (inner : Standing) (w′ : List ℕ) (r : Standing) : Type 0 where
+  pub tidy : Tidy w′
+  pub is : (opened : List ℕ) (begin : ℕ) → stood w′ opened begin r ≡ sequel (stood w opened begin inner) (λ o. runAssign (o .0) i (placeOf root follows) (o .1))
+  pub went : r .fault ≡ 0 → Went inner r
+  pub count : r .fault ≡ 0 → r .opened ≡ inner .opened
+
+pub record EndReady (w opened : List ℕ) (begin : ℕ) (inner : Standing) : Type 0 where
+  pub ready : InnerReady w inner
+  pub listed : inner .fault ≡ 0 → Listed opened (inner .opened)
+  pub begun : inner .fault ≡ 0 → begin ≤ inner .opened
+  pub few : inner .fault ≡ 0 → inner .opened ≤ length opened
+
+-- `around` is where the block around this one began.
+pub record BlockClosed (w opened : List ℕ) (i begin : ℕ) (inner : Standing) (w′ : List ℕ) (r : Standing) : Type 0 where
+  pub tidy : Tidy w′
+  pub is : (around : ℕ) → stood w′ opened around r ≡ sequel (stood w opened begin inner) (λ o. runBlockEnd i (since opened around (begin - around)) o)
+  pub went : r .fault ≡ 0 → Went inner r
+  pub count : r .fault ≡ 0 → r .opened ≡ begin
+
+-- ---- terms and blocks
+
+-- The variables opened, n before and m after rows i to j: those before stay, and each row opened one at most.
+pub record Opened (before after : List ℕ) (n m i j : ℕ) : Type 0 where
+  pub kept : (k : ℕ) → k < n → getD after k 0 ≡ getD before k 0
+  pub more : n ≤ m
+  pub few : m + i ≤ n + j
+  pub listed : Listed after m
+  pub room : j ≤ 512
+
+unfoldable pub runAt : List ℤ → Decoded → State → Stood
+runAt readings d s = atRow (endOf d) (seen (runOn readings d s))
+
+-- What terms and blocks ask of the lent memory.
+pub record Ready (rows : List ℕ) (i : ℕ) (readings : List ℤ) (w opened : List ℕ) (n taken : ℕ) : Type 0 where
+  pub long : length rows ≡ 2560
+  pub eight : length readings ≡ 8
+  pub many : length opened ≡ 512
+  pub tidy : Tidy w
+  pub ordered : InOrder (stateAt w taken [])
+  pub few : n ≤ i
+  pub listed : Listed opened n
+
+pub record TermReady (rows : List ℕ) (i levels : ℕ) (readings : List ℤ) (w opened : List ℕ) (n taken : ℕ) : Type 0 where
+  pub ready : Ready rows i readings w opened n taken
+  pub is : IsTree (treeAt levels rows i)
+  pub cells : taken + boxesAt (treeAt levels rows i) ≤ 64
+
+pub record TermRan (rows : List ℕ) (i levels : ℕ) (readings : List ℤ) (w opened : List ℕ) (n taken : ℕ) (w′ opened′ : List ℕ) (r : Standing) : Type 0 where
+  pub tidy : Tidy w′
+  pub is : (begin : ℕ) → begin ≤ n → stood w′ opened′ begin r ≡ runAt readings (treeAt levels rows i) (stateAt w taken (since opened begin (n - begin)))
+  pub sound : r .fault ≡ 0 → Sound (r .kind) (r .payload)
+  pub opens : r .fault ≡ 0 → Opened opened opened′ n (r .opened) i (r .next)
+
+unfoldable pub runsOn : List ℤ → Decodeds → ℕ → State → Stood
+runsOn readings (trees ts j) i s = atRow j (seen (runs (bitsOf readings) ts i s))
+runsOn readings brokens i s = err (record { number = 0; term = 0; store = s .store })
+
+-- What is left of block i: n terms from row j on, after the outcome of the term before them.
+unfoldable pub restRun : List ℤ → (ℕ → Decoded) → ℕ → ℕ → ℕ → Outcome → Stood
+restRun readings f i zero j o = ok (o, j)
+restRun readings f i (suc n) j o = seen (dropValue i (o .0) (o .1)) >>= λ s. runsOn readings (decodes f n j) i s
+
+pub record BlockReady (rows : List ℕ) (i terms levels : ℕ) (readings : List ℤ) (w opened : List ℕ) (n taken : ℕ) : Type 0 where
+  pub ready : Ready rows i readings w opened n taken
+  pub room : i ≤ 512
+  pub is : IsRest (treeAt levels rows) terms i
+  pub cells : taken + boxesRest (treeAt levels rows) terms i ≤ 64
+
+pub record BlockRan (rows : List ℕ) (i terms levels block : ℕ) (readings : List ℤ) (w opened : List ℕ) (n taken : ℕ) (w′ opened′ : List ℕ) (r : Standing) : Type 0 where
+  pub tidy : Tidy w′
+  pub is : stood w′ opened′ n r ≡ restRun readings (treeAt levels rows) block terms i (stateAt w taken [], empty)
+  pub sound : r .fault ≡ 0 → Sound (r .kind) (r .payload)
+  pub opens : r .fault ≡ 0 → Opened opened opened′ n (r .opened) i (r .next)
+
+-- ---- a whole script
+
+pub record ScriptReady (rows : List ℕ) (readings : List ℤ) (w : List ℕ) : Type 0 where
+  pub long : length rows ≡ 2560
+  pub eight : length readings ≡ 8
+  pub size : length w ≡ 384
+  pub is : IsTree (treeAt 16 rows 0)
+  pub cells : boxesAt (treeAt 16 rows 0) ≤ 64
+
+unfoldable pub scriptOn : List ℤ → Decoded → Answered′
+scriptOn readings (tree t j) = ranInto base (runScript (bitsOf readings) t (λ x. closed))
+scriptOn readings broken = ranInto base (runScript (bitsOf readings) (number 0 0) (λ x. closed))
+
+unfoldable pub scriptRan : List ℕ → List ℤ → Answered′
+scriptRan rows readings = scriptOn readings (treeAt 16 rows 0)

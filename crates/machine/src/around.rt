@@ -1,0 +1,147 @@
+// What follows an inner term: one function for each run rule. A fault of the inner term goes onwards.
+ghost use mathlib.Core.Path.{_≡_};
+ghost use Prim.Native.Nat.{_<_, _≤_};
+ghost use Rattle.machine.specs.Words.{Tidy, Sound};
+ghost use Rattle.machine.specs.Parts.{withoutValue, Wrote, PlaceAssigned, InnerReady, BoxReady, Boxed, LetReady, Declared, Assigned, EndReady, BlockClosed};
+use crate::dropping::close_variables;
+use crate::dropping::drop_value;
+use crate::limits;
+use crate::locate::locate;
+use crate::store::load;
+use crate::store::put_row;
+
+// Where a run stands after a term: the fault, 0 for none, and its term; the term's value; the cells taken, the
+// variables opened, and the row of the next term.
+pub struct Standing {
+    pub fault: u32,
+    pub term: usize,
+    pub kind: u32,
+    pub payload: u32,
+    pub taken: usize,
+    pub opened: usize,
+    pub next: usize,
+}
+
+// The same without a value, and with the fault, 0 for none, of term i.
+pub fn without_value(ran: Standing, fault: u32, i: usize) -> Standing
+    ensures { λ r. ⌜ r ≡ withoutValue ran fault i ⌝ }
+{
+    Standing {
+        fault: fault,
+        term: i,
+        kind: limits::EMPTY,
+        payload: 0,
+        taken: ran.taken,
+        opened: ran.opened,
+        next: ran.next,
+    }
+}
+
+// "Box runs its inner term, then fills the new cell."
+pub fn run_box(store: &mut [u32], inner: Standing) -> Standing
+    requires { ⌜ BoxReady (now store) inner ⌝ }
+    ensures { λ r. ⌜ Boxed (now (store .entry)) inner (now (store .exit)) r ⌝ }
+{
+    if inner.fault != limits::NO_FAULT {
+        return inner;
+    }
+    put_row(store, limits::FIRST_CELL + inner.taken, limits::OPEN, inner.kind, inner.payload);
+    Standing {
+        fault: limits::NO_FAULT,
+        term: inner.term,
+        kind: limits::OWNER,
+        payload: inner.taken as u32,
+        taken: inner.taken + 1,
+        opened: inner.opened,
+        next: inner.next,
+    }
+}
+
+// "Let runs its inner term, then opens its row."
+pub fn run_let(store: &mut [u32], opened: &mut [u32], i: usize, x: u32, inner: Standing) -> Standing
+    requires { ⌜ LetReady (now store) (now opened) x inner ⌝ }
+    ensures { λ r. ⌜ Declared (now (store .entry)) (now (opened .entry)) i x inner (now (store .exit)) (now (opened .exit)) r ⌝ }
+{
+    if inner.fault != limits::NO_FAULT {
+        return inner;
+    }
+    let row = x as usize;
+    let here = load(store, row);
+    if here.state == limits::OPEN {
+        return without_value(inner, limits::OPEN_ALREADY, i);
+    }
+    put_row(store, row, limits::OPEN, inner.kind, inner.payload);
+    let at = inner.opened;
+    opened[at] = x;
+    Standing {
+        fault: limits::NO_FAULT,
+        term: i,
+        kind: limits::EMPTY,
+        payload: 0,
+        taken: inner.taken,
+        opened: inner.opened + 1,
+        next: inner.next,
+    }
+}
+
+// "then writes if the row is still open; otherwise the new value is lost".
+pub fn write_open(store: &mut [u32], row: usize, kind: u32, payload: u32)
+    requires { ⌜ Tidy (now store) × (row < 128) × Sound kind payload ⌝ }
+    ensures { λ _. ⌜ Wrote (now (store .entry)) row kind payload (now (store .exit)) ⌝ }
+{
+    let here = load(store, row);
+    if here.state != limits::OPEN {
+        return;
+    }
+    put_row(store, row, limits::OPEN, kind, payload);
+}
+
+// "locates, drops the old value (the row keeps it meanwhile)", and then writes. The fault, 0 for none.
+pub fn assign_place(store: &mut [u32], root: usize, follows: usize, kind: u32, payload: u32) -> u32
+    requires { ⌜ Tidy (now store) × (root < 64) × Sound kind payload ⌝ }
+    ensures { λ r. ⌜ PlaceAssigned (now (store .entry)) root follows kind payload (now (store .exit)) r ⌝ }
+{
+    let found = locate(store, root, follows);
+    if found.fault != limits::NO_FAULT {
+        return found.fault;
+    }
+    let old = load(store, found.row);
+    let fault = drop_value(store, old.kind, old.payload);
+    if fault != limits::NO_FAULT {
+        return fault;
+    }
+    write_open(store, found.row, kind, payload);
+    limits::NO_FAULT
+}
+
+// "Assign runs its right side", and then assigns.
+pub fn run_assign(store: &mut [u32], i: usize, root: usize, follows: usize, inner: Standing) -> Standing
+    requires { ⌜ InnerReady (now store) inner × (root < 64) ⌝ }
+    ensures { λ r. ⌜ Assigned (now (store .entry)) i root follows inner (now (store .exit)) r ⌝ }
+{
+    if inner.fault != limits::NO_FAULT {
+        return inner;
+    }
+    let fault = assign_place(store, root, follows, inner.kind, inner.payload);
+    without_value(inner, fault, i)
+}
+
+// "At its end it closes its variables": those opened from `begin` on.
+pub fn close_block(store: &mut [u32], opened: &[u32], i: usize, begin: usize, inner: Standing) -> Standing
+    requires { ⌜ EndReady (now store) (now opened) begin inner ⌝ }
+    ensures { λ r. ⌜ BlockClosed (now (store .entry)) (now (opened .entry)) i begin inner (now (store .exit)) r ⌝ }
+{
+    if inner.fault != limits::NO_FAULT {
+        return inner;
+    }
+    let fault = close_variables(store, opened, begin, inner.opened);
+    Standing {
+        fault: fault,
+        term: i,
+        kind: inner.kind,
+        payload: inner.payload,
+        taken: inner.taken,
+        opened: begin,
+        next: inner.next,
+    }
+}

@@ -1,0 +1,64 @@
+// The store machine: running a script that is given as term rows.
+ghost use mathlib.Core.Path.{_≡_};
+ghost use Rattle.reader.specs.Limits.{base};
+ghost use Rattle.machine.specs.Answers.{toldRun, runOf};
+ghost use Rattle.machine.specs.Parts.{ScriptReady, scriptRan};
+
+mod limits; // limits.rt: 01's sizes and numbers
+mod store; // store.rt: the rows of the lent store
+mod locate; // locate.rt: locating a place and reading rows
+mod dropping; // dropping.rt: dropping values and closing variables
+pub mod numbers; // numbers.rt: signed numbers and their bits
+mod operands; // operands.rt: the operands of the term rows
+mod leaves; // leaves.rt: the terms without an inner term
+mod around; // around.rt: what follows an inner term
+mod terms; // terms.rt: terms and blocks
+
+use crate::numbers::number_of;
+use crate::store::clear;
+use crate::terms::run_term;
+
+// The answer and the cells taken; or a refusal and its place; or a fault and its term.
+pub enum RunOutcome {
+    Answered(i32, usize),
+    Refused(u32, usize),
+    Faulted(u32, usize),
+}
+
+// Runs the script of judged rows.
+fn run_judged(rows: &[u32], readings: &[i32], store: &mut [u32]) -> RunOutcome
+    requires { ⌜ ScriptReady (now rows) (now readings) (now store) ⌝ }
+    ensures { λ r. ⌜ (toldRun r, now (store .exit)) ≡ scriptRan (now (rows .entry)) (now (readings .entry)) ⌝ }
+{
+    clear(store);
+    let mut opened: [u32; 512] = [0; 512];
+    let ran = run_term(rows, 0, limits::LEVELS, readings, store, &mut opened, 0, 0);
+    if ran.fault != limits::NO_FAULT {
+        return RunOutcome::Faulted(ran.fault, ran.term);
+    }
+    if ran.kind != limits::NUMBER {
+        return RunOutcome::Faulted(limits::WRONG_KIND, 0);
+    }
+    RunOutcome::Answered(number_of(ran.payload), ran.taken)
+}
+
+// Runs the script of the term rows with the readings. A refusal leaves the store unchanged; a fault leaves it as
+// the run rules had it.
+pub fn run(rows: &[u32], readings: &[i32], store: &mut [u32]) -> RunOutcome
+    ensures { λ r. ⌜ (toldRun r, now (store .exit)) ≡ runOf base (now (rows .entry)) (now (readings .entry)) (now (store .entry)) ⌝ }
+{
+    if rows.len() != limits::ROW_NUMBERS {
+        return RunOutcome::Refused(limits::ROWS_LENGTH, 0);
+    }
+    if store.len() != limits::STORE_NUMBERS {
+        return RunOutcome::Refused(limits::STORE_LENGTH, 0);
+    }
+    if readings.len() != limits::READINGS {
+        return RunOutcome::Refused(limits::READINGS_LENGTH, 0);
+    }
+    let judged = reader::judge_rows(rows);
+    match judged {
+        reader::Outcome::Refused(number, row) => RunOutcome::Refused(number, row),
+        reader::Outcome::Count(terms) => run_judged(rows, readings, store),
+    }
+}

@@ -1,0 +1,110 @@
+// Locating a place, and reading the row that it leads to.
+ghost use Prim.Native.Nat.{_<_};
+ghost use Rattle.machine.specs.Words.{Tidy};
+ghost use Rattle.machine.specs.Parts.{Followed, Located, Filled};
+use crate::limits;
+use crate::store::load;
+
+// A row, or a fault: 0 for none.
+pub struct Found {
+    pub fault: u32,
+    pub row: usize,
+}
+
+// A value, or a fault: 0 for none.
+pub struct Gave {
+    pub fault: u32,
+    pub kind: u32,
+    pub payload: u32,
+}
+
+// The row that the value of a row leads to: "each follow needs an owner or a reference there".
+pub fn follow(store: &[u32], row: usize) -> Found
+    requires { ⌜ Tidy (now store) × (row < 128) ⌝ }
+    ensures { λ r. ⌜ Followed (now (store .entry)) row r ⌝ }
+{
+    let here = load(store, row);
+    if here.state != limits::OPEN {
+        return Found {
+            fault: limits::NOT_THERE,
+            row: row,
+        };
+    }
+    if here.kind == limits::OWNER {
+        return Found {
+            fault: limits::NO_FAULT,
+            row: limits::FIRST_CELL + here.payload as usize,
+        };
+    }
+    if here.kind == limits::REFERENCE {
+        return Found {
+            fault: limits::NO_FAULT,
+            row: here.payload as usize,
+        };
+    }
+    if here.kind == limits::EMPTY {
+        return Found {
+            fault: limits::NOT_THERE,
+            row: row,
+        };
+    }
+    Found {
+        fault: limits::WRONG_KIND,
+        row: row,
+    }
+}
+
+// "Locating leads first to the variable's own row, then to the row that each follow names."
+pub fn locate(store: &[u32], root: usize, follows: usize) -> Found
+    requires { ⌜ Tidy (now store) × (root < 64) ⌝ }
+    ensures { λ r. ⌜ Located (now (store .entry)) root follows r ⌝ }
+{
+    let mut row = root;
+    let mut left = follows;
+    while 0 < left {
+        let found = follow(store, row);
+        if found.fault != limits::NO_FAULT {
+            return found;
+        }
+        row = found.row;
+        left -= 1;
+    }
+    let here = load(store, row);
+    if here.state != limits::OPEN {
+        return Found {
+            fault: limits::NOT_THERE,
+            row: row,
+        };
+    }
+    Found {
+        fault: limits::NO_FAULT,
+        row: row,
+    }
+}
+
+// "Copy and move read a filled row".
+pub fn read_row(store: &[u32], row: usize) -> Gave
+    requires { ⌜ Tidy (now store) × (row < 128) ⌝ }
+    ensures { λ r. ⌜ Filled (now (store .entry)) row r ⌝ }
+{
+    let here = load(store, row);
+    if here.state != limits::OPEN {
+        return Gave {
+            fault: limits::NOT_THERE,
+            kind: limits::EMPTY,
+            payload: 0,
+        };
+    }
+    if here.kind == limits::EMPTY {
+        return Gave {
+            fault: limits::NOT_THERE,
+            kind: limits::EMPTY,
+            payload: 0,
+        };
+    }
+    Gave {
+        fault: limits::NO_FAULT,
+        kind: here.kind,
+        payload: here.payload,
+    }
+}

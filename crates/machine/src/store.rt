@@ -1,0 +1,48 @@
+// The rows of the lent store: "128 rows of state, value kind, payload".
+ghost use mathlib.Core.Path.{_≡_};
+ghost use Prim.Native.Nat.{_<_};
+ghost use lib.ListN.{length};
+ghost use Rattle.reader.specs.Layout.{zeros};
+ghost use Rattle.machine.specs.Words.{Tidy, IsRow, Loaded, Written};
+
+// A row: its state, and the value that it holds.
+pub struct Entry {
+    pub state: u32,
+    pub kind: u32,
+    pub payload: u32,
+}
+
+pub fn load(store: &[u32], row: usize) -> Entry
+    requires { ⌜ Tidy (now store) × (row < 128) ⌝ }
+    ensures { λ r. ⌜ Loaded (now (store .entry)) row r ⌝ }
+{
+    let at = 3 * row;
+    Entry {
+        state: store[at],
+        kind: store[at + 1],
+        payload: store[at + 2],
+    }
+}
+
+pub fn put_row(store: &mut [u32], row: usize, state: u32, kind: u32, payload: u32)
+    requires { ⌜ Tidy (now store) × (row < 128) × IsRow state kind payload ⌝ }
+    ensures { λ _. ⌜ Written (now (store .entry)) row state kind payload (now (store .exit)) ⌝ }
+{
+    let at = 3 * row;
+    let at1 = 3 * row + 1;
+    let at2 = 3 * row + 2;
+    store[at] = state;
+    store[at1] = kind;
+    store[at2] = payload;
+}
+
+// "A run first sets all to 0."
+pub fn clear(store: &mut [u32])
+    ensures { λ _. ⌜ now (store .exit) ≡ zeros (length (now (store .entry))) ⌝ }
+{
+    let mut i = 0;
+    while i < store.len() {
+        store[i] = 0;
+        i += 1;
+    }
+}

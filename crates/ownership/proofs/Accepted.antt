@@ -1,0 +1,43 @@
+-- For the layers above: an accepted check says that the rows decode to a script within the limits that the judge accepts, and every such
+-- script has rows that the check accepts.
+use Prim.Native.Nat.{ℕ}
+use mathlib.Core.Path.{_≡_}
+use mathlib.Core.List.{List}
+use lib.ListN.{length}
+use borrow.Author.Tests.{eq-eqb}
+use Rattle.reader.specs.Result.{Result, ok, Refusal, need, _>>=_}
+use Rattle.reader.specs.Limits.{Limits, rowNumbers}
+use Rattle.reader.specs.Script.{Term}
+use Rattle.reader.specs.Layout.{rowsOf}
+use Rattle.reader.specs.Reader.{decode}
+use Rattle.reader.specs.Measures.{size}
+use Rattle.reader.specs.Within.{Within, Under}
+use Rattle.reader.specs.Answers.{rowsTree}
+use Rattle.reader.proofs.Answers.{then}
+use Rattle.reader.proofs.RoundTrip.{decoded, decodes, rows-length}
+use Rattle.rules.specs.Judge.{judgeScript}
+use Rattle.ownership.specs.Answers.{checkOf}
+use Rattle.ownership.proofs.CheckLaws.{tree-decoded}
+
+-- A script of n terms, in its rows.
+pub record Accepted (l : Limits) (rows : List ℕ) (n : ℕ) : Type 0 where
+  pub script : Term
+  pub decodes : decode l rows ≡ ok script
+  pub laid : rows ≡ rowsOf l script
+  pub within : Within l script
+  pub judged : judgeScript (l .variables) script ≡ ok tt
+  pub terms : n ≡ size script
+
+pub accepted : (l : Limits) (rows : List ℕ) (n : ℕ) → Under 4294967296 rows → checkOf l rows ≡ ok n → Accepted l rows n
+unfolding checkOf
+accepted l rows n u e =
+    let a = then (rowsTree l rows) (λ t. judgeScript (l .variables) t >>= λ _. ok (size t)) n e in
+    let b = then (judgeScript (l .variables) (a .0)) (λ _. ok (size (a .0))) n (a .2) in
+    let c = tree-decoded l rows (a .0) (a .1) in
+    let d = decoded l rows (a .0) u (c .0) (c .1) in
+    let z : _≡_ {A = Result Refusal ℕ} (ok (size (a .0))) (ok n) = b .2 in
+    record { script = a .0; decodes = c .1; laid = d .0; within = d .1; judged = b .1; terms = cc }
+
+pub accepts : (l : Limits) (t : Term) → Within l t → judgeScript (l .variables) t ≡ ok tt → checkOf l (rowsOf l t) ≡ ok (size t)
+unfolding checkOf rowsTree need _>>=_
+accepts l t w e = rw (eq-eqb (length (rowsOf l t)) (rowNumbers l) (rows-length l t w), decodes l t w, e)

@@ -1,0 +1,10 @@
+-- The laws that the proofs of the functions cite, and the theorem for the layers above.
+pub mod RowLaws
+pub mod JudgeLaws
+pub mod TermLaws
+pub mod LeafLaws
+pub mod BlockLaws
+pub mod ScriptLaws
+pub mod Promise
+pub mod CheckLaws
+pub mod Accepted

@@ -1,0 +1,22 @@
+-- What `check` answers on every input.
+use Prim.Native.Nat.{ℕ}
+use mathlib.Core.List.{List}
+use Rattle.reader.specs.Result.{Result, ok, err, Refusal, _>>=_}
+use Rattle.reader.specs.Limits.{Limits}
+use Rattle.reader.specs.Measures.{size}
+use Rattle.reader.specs.Answers.{rowsTree}
+use Rattle.rules.specs.Judge.{judgeScript}
+use Rattle.ownership.specs.declared.Checked.{Checked}
+use Rattle.ownership.specs.declared.Checked.the-variants.{Accepted, Refused}
+
+-- 01's number and values for each case of the code's answer.
+unfoldable pub toldChecked : Checked → Result Refusal ℕ
+toldChecked (Accepted n) = ok n
+toldChecked (Refused n p) = err (n, p)
+
+-- 2, then 12 to 19, then 30 to 43; an accepted script has its number of terms.
+unfoldable pub checkOf : Limits → List ℕ → Result Refusal ℕ
+checkOf l rows =
+    rowsTree l rows >>= λ t.
+    judgeScript (l .variables) t >>= λ _.
+    ok (size t)

@@ -1,0 +1,62 @@
+-- The judge at a row: the rules' judge at the tree that stands there, and the row after it.
+use Prim.Native.Nat.{ℕ, zero, suc}
+use mathlib.Core.Option.{Option, none, some}
+use Rattle.reader.specs.Result.{ok, err, _>>=_}
+use Rattle.reader.specs.Script.{Place, Term, Terms}
+use Rattle.reader.specs.Kinds.{Kind, kNumber, kReading, kCopy, kMove, kShared, kExclusive, kBox, kLet, kAssign, kBelow, kBlock}
+use Rattle.rules.specs.declared.verdicts.Value.{Value}
+use Rattle.rules.specs.Environment.{Environment}
+use Rattle.rules.specs.Rules.{Judged, Out, numberTy, judgeCopy, judgeMove, judgeShared, judgeExclusive, judgeBelow}
+use Rattle.rules.specs.Judge.{judge, judges, judgeScript}
+use Rattle.rules.specs.Verdicts.{asValue, answered}
+use Rattle.ownership.specs.declared.judge.JudgedTerm.{JudgedTerm}
+use Rattle.ownership.specs.RowTrees.{RowTree, IsTree, severalAt}
+
+abbrev pub Ended : Type 0
+Ended = Judged (Out × ℕ)
+
+abbrev pub atRow : ℕ → Judged Out → Ended
+atRow j r = r >>= λ o. ok (o, j)
+
+-- The code's answer. A refusal has no row after it.
+unfoldable pub ended : Environment → JudgedTerm → Ended
+ended Γ r = atRow (r .next) (answered Γ (r .verdict))
+
+-- Where no tree stands the answer does not matter: the code asks that one does.
+unfoldable pub judgedAt : {A : Type 0} → (A → Judged Out) → RowTree A → Ended
+judgedAt judged none = err (0, 0)
+judgedAt judged (some r) = atRow (r .1) (judged (r .0))
+
+abbrev pub judgeAt : ℕ → RowTree Term → ℕ → Environment → Ended
+judgeAt nv d level Γ = judgedAt (λ t. judge nv t level Γ) d
+
+abbrev pub judgesAt : ℕ → RowTree Terms → ℕ → Environment → Ended
+judgesAt nv d level Γ = judgedAt (λ ts. judges nv ts level Γ) d
+
+-- What is left of a block: n terms from row i on, after one with this value.
+abbrev pub IsRest : (ℕ → RowTree Term) → ℕ → ℕ → Type 0
+IsRest term zero i = Unit {0}
+IsRest term (suc n) i = IsTree (severalAt term n i)
+
+unfoldable pub restAt : ℕ → (ℕ → RowTree Term) → ℕ → ℕ → ℕ → Value → Environment → Ended
+restAt nv term level zero i value Γ = ok ((Γ, asValue value), i)
+restAt nv term level (suc n) i value Γ = judgesAt nv (severalAt term n i) level Γ
+
+-- A term with no inner term, by its kind.
+unfoldable pub judgeLeaf : ℕ → Option Kind → ℕ → Place → Place → Environment → Judged Out
+judgeLeaf nv none i p q Γ = ok (Γ, some numberTy)
+judgeLeaf nv (some kNumber) i p q Γ = ok (Γ, some numberTy)
+judgeLeaf nv (some kReading) i p q Γ = ok (Γ, some numberTy)
+judgeLeaf nv (some kCopy) i p q Γ = judgeCopy nv Γ i p
+judgeLeaf nv (some kMove) i p q Γ = judgeMove nv Γ i p
+judgeLeaf nv (some kShared) i p q Γ = judgeShared nv Γ i p
+judgeLeaf nv (some kExclusive) i p q Γ = judgeExclusive nv Γ i p
+judgeLeaf nv (some kBox) i p q Γ = ok (Γ, some numberTy)
+judgeLeaf nv (some kLet) i p q Γ = ok (Γ, some numberTy)
+judgeLeaf nv (some kAssign) i p q Γ = ok (Γ, some numberTy)
+judgeLeaf nv (some kBelow) i p q Γ = judgeBelow nv Γ i p q
+judgeLeaf nv (some kBlock) i p q Γ = ok (Γ, some numberTy)
+
+unfoldable pub scriptAt : ℕ → RowTree Term → Judged (Unit {0})
+scriptAt nv none = err (0, 0)
+scriptAt nv (some r) = judgeScript nv (r .0)

@@ -1,0 +1,4 @@
+-- The ownership check: what it answers, and what its code relies on about rows.
+pub mod Answers
+pub mod RowTrees
+pub mod JudgeRows

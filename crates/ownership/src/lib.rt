@@ -1,0 +1,43 @@
+// The ownership check of a script that is given as term rows.
+ghost use mathlib.Core.Path.{_≡_};
+ghost use Rattle.reader.specs.Limits.{base};
+ghost use Rattle.ownership.specs.Answers.{toldChecked, checkOf};
+
+mod row; // row.rt: the numbers of a term row
+mod judge; // judge.rt: terms, blocks and the whole script
+
+use crate::judge::judge_script;
+use reader::Outcome;
+use reader::judge_rows;
+use rules::Requirement;
+
+// The number of terms, or 01's number and place: the row (12 to 19) or the term (30 to 43).
+pub enum Checked {
+    Accepted(usize),
+    Refused(u32, usize),
+}
+
+// Variables, and words of the table of the variables.
+const VARIABLES: usize = 64;
+
+const WORDS: usize = 512;
+
+const LEVELS: usize = 16;
+
+// "2 rows not 2,560", then 12 to 19 by the reader, then 30 to 43 by the ownership rules.
+pub fn check(rows: &[u32]) -> Checked
+    ensures { λ r. ⌜ toldChecked r ≡ checkOf base (now (rows .entry)) ⌝ }
+{
+    let outcome = judge_rows(rows);
+    match outcome {
+        Outcome::Refused(number, row) => Checked::Refused(number, row),
+        Outcome::Count(terms) => {
+            let mut env: [u32; 512] = [0; 512];
+            let verdict = judge_script(rows, LEVELS, &mut env, VARIABLES);
+            match verdict {
+                Requirement::Met => Checked::Accepted(terms),
+                Requirement::Refused(number, term) => Checked::Refused(number, term),
+            }
+        }
+    }
+}

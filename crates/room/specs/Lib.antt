@@ -1,0 +1,3 @@
+-- What one call that reads, checks and runs a script answers.
+pub mod Calling
+pub mod Parts

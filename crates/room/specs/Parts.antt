@@ -1,0 +1,31 @@
+-- What the parts of `call` answer, as the answers of the layers below put together. No rule of 01 is stated here.
+use Prim.Native.Nat.{ℕ}
+use mathlib.Core.List.{List}
+use lib.IntN.{ℤ}
+use lib.Dec.{ltb, eqb}
+use Rattle.reader.specs.Result.{Result, ok, err, Refusal, pick}
+use Rattle.reader.specs.Limits.{Limits}
+use Rattle.ownership.specs.Answers.{checkOf}
+use Rattle.machine.specs.Answers.{Answer, answered, refused, faulted, runOf}
+use Rattle.room.specs.Calling.{CallAnswer}
+use Rattle.room.specs.Calling as calling
+
+-- The answer of a run, as a call's.
+unfoldable pub ofRun : ℕ → Answer → CallAnswer
+ofRun terms (answered a c) = calling.called terms a c
+ofRun terms (refused n p) = calling.refused n p
+ofRun terms (faulted n i) = calling.refused n i
+
+-- A run where the check accepts.
+unfoldable pub ifAccepted : Result Refusal ℕ → ℕ → List ℕ → Answer × List ℕ → CallAnswer × List ℕ
+ifAccepted (ok n) terms store ran = (ofRun terms (ran .0), ran .1)
+ifAccepted (err e) terms store ran = (calling.refused (e .0) (e .1), store)
+
+unfoldable pub checkedRun : Limits → ℕ → List ℕ → List ℤ → List ℕ → CallAnswer × List ℕ
+checkedRun l terms rows readings store = ifAccepted (checkOf l rows) terms store (runOf l rows readings store)
+
+-- The number of the caller's refusal for the lengths of script, rows, store and readings; 0 for none.
+unfoldable pub fitNumber : ℕ → ℕ → ℕ → ℕ → ℕ
+fitNumber script rows store readings =
+    pick (ltb 4096 script) 1
+    (pick (eqb rows 2560) (pick (eqb store 384) (pick (eqb readings 8) 0 4) 3) 2)

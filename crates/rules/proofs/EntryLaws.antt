@@ -1,0 +1,74 @@
+-- An entry that the code has loaded, in the rules' terms: in scope, or not.
+use Prim.Native.Nat.{ℕ, _*_, _<_}
+use native.Mathlib.Omega.{arith}
+use native.Mathlib.Decide.{ℕ-discrete, decLt}
+use mathlib.Core.Path.{_≡_, refl, fun-ext}
+use mathlib.Core.Logic.{⊎-elim}
+use mathlib.Core.Bool.{false}
+use mathlib.Core.List.{List, [], _∷_}
+use lib.Dec.{eqb}
+use lib.ListN.{length}
+use borrow.Author.Tests.{eq-eqb, ne-eqb}
+use types.Run.{OneOf}
+use denote.Enum.Declared.{tagOf}
+use Rattle.reader.specs.Result.{err, Refusal, pick}
+use Rattle.rules.specs.declared.table.VariableState.{VariableState}
+use Rattle.rules.specs.declared.table.Entry.{Entry}
+use Rattle.rules.specs.declared.table.Entry.the-variants as entry
+use Rattle.rules.proofs.table.Entry.{the-type}
+use Rattle.rules.specs.Environment.{Borrow, live, update, refilled}
+use Rattle.rules.specs.Follow.{wholeAt}
+use Rattle.rules.specs.Rules.{inScope}
+use Rattle.rules.specs.Table.{entryAt, asVariable, asSlot, environmentOf}
+use Rattle.rules.proofs.TableLaws.{entry-past}
+
+-- What an `else` knows: the entry is one of the first two.
+abbrev pub NotLive : Entry → Type 0
+NotLive e = OneOf (0 ∷ 1 ∷ []) (tagOf the-type e)
+
+module _ (l : List ℕ) (x : ℕ) (e : Entry) (loaded : e ≡ entryAt l x) where
+  pub slot-live : (v : VariableState) → e ≡ entry.Live v → environmentOf l x ≡ live (asVariable v)
+  unfolding environmentOf asSlot
+  slot-live v q = rw (← loaded, q)
+
+  pub in-range : (n : ℕ) (v : VariableState) → length l ≡ n * 8 → e ≡ entry.Live v → x < n
+  in-range n v h q = go (decLt x n)
+    where
+      go : Dec (x < n) → x < n
+      go (yes b) = b
+      go (no b) = let f = entry-past l n x h (omega arith) in let z : _≡_ {A = ℕ} 0 1 = cc in absurd (omega arith)
+
+  pub not-in-scope : (r : Refusal) → NotLive e → inScope (environmentOf l x) r ≡ err r
+  unfolding environmentOf inScope asSlot
+  not-in-scope r h = rw (← loaded) (go e h)
+    where
+      go : (e : Entry) → NotLive e → inScope (asSlot e) r ≡ err r
+      go entry.Free h = refl
+      go entry.Used h = refl
+      go (entry.Live v) h = ⊎-elim (λ z. absurd (omega arith)) (λ z. absurd (omega arith)) h
+
+  pub not-whole : (d : ℕ) → NotLive e → wholeAt (environmentOf l x) d ≡ false
+  unfolding environmentOf wholeAt asSlot
+  not-whole d h = rw (← loaded) (go e h)
+    where
+      go : (e : Entry) → NotLive e → wholeAt (asSlot e) d ≡ false
+      go entry.Free h = refl
+      go entry.Used h = refl
+      go (entry.Live v) h = ⊎-elim (λ z. absurd (omega arith)) (λ z. absurd (omega arith)) h
+
+  same-slot : (b : Borrow) → NotLive e → refilled (environmentOf l x) b ≡ environmentOf l x
+  unfolding environmentOf asSlot
+  same-slot b h = rw (← loaded) (go e h)
+    where
+      go : (e : Entry) → NotLive e → refilled (asSlot e) b ≡ asSlot e
+      go entry.Free h = refl
+      go entry.Used h = refl
+      go (entry.Live v) h = ⊎-elim (λ z. absurd (omega arith)) (λ z. absurd (omega arith)) h
+
+  pub refilled-none : (b : Borrow) → NotLive e → environmentOf l ≡ update (environmentOf l) x (refilled (environmentOf l x) b)
+  unfolding update
+  refilled-none b h = fun-ext λ y. go y (ℕ-discrete x y)
+    where
+      go : (y : ℕ) → Dec (x ≡ y) → environmentOf l y ≡ pick (eqb x y) (refilled (environmentOf l x) b) (environmentOf l y)
+      go y (yes q) = rw (eq-eqb x y q, same-slot b h, q)
+      go y (no q) = rw (ne-eqb x y q)

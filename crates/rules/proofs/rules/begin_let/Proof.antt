@@ -1,0 +1,32 @@
+-- `rules::rules::begin_let` meets its contract. Assumes nothing.
+use borrow.Author.Needs.{needs}
+use borrow.Author.Tests.{not-true, not-false}
+use Rattle.reader.specs.Result.{need, _>>=_}
+use Rattle.rules.specs.Verdicts.{begun}
+use Rattle.rules.proofs.rules.begin_let.Statement.{statement}
+use Rattle.rules.proofs.rules.begin_let.Tie as tie
+
+is-free-requires : tie.Need-is-free-requires
+is-free-requires c κs = search needs
+
+same-length : tie.Need-same-length
+same-length c = search needs
+
+returns : tie.Need-returns
+unfolding begun need _>>=_
+returns c = rw (← c .before .is-free .ensures, not-true (c .before .is-free .result) (c .if1 .taken))
+
+take-number-requires : tie.Need-take-number-requires
+take-number-requires c κs = search needs
+
+same-length-2 : tie.Need-same-length-2
+same-length-2 c = search needs
+
+returns-2 : tie.Need-returns-2
+unfolding begun need _>>=_
+returns-2 c = rw (← c .before .before .before .before .before .is-free .ensures, not-false (c .before .before .before .before .before .is-free .result) (c .before .before .before .before .if1 .left), c .before .before .take-number .ensures)
+
+pub begin-let-spec : {M : Type 1} → statement M
+begin-let-spec =
+    tie.close
+    (tie.spec is-free-requires same-length returns take-number-requires same-length-2 returns-2)

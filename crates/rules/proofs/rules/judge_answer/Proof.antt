@@ -1,0 +1,31 @@
+-- `rules::rules::judge_answer` meets its contract. Assumes nothing.
+use borrow.Author.Needs.{needs}
+use Rattle.reader.specs.Result.{need}
+use Rattle.rules.specs.Verdicts.{asRequirement, asValue}
+use Rattle.rules.proofs.rules.judge_answer.Statement.{statement}
+use Rattle.rules.proofs.rules.judge_answer.Tie as tie
+
+enum-known-answer : tie.Need-enum-known-answer
+enum-known-answer c = search needs
+
+enum-told : tie.Need-enum-told
+enum-told c = search needs
+
+returns : tie.Need-returns
+unfolding asRequirement asValue need
+returns c = λ nv. rw (c .enum-told .given .1)
+
+is-number-requires : tie.Need-is-number-requires
+is-number-requires c κs = search needs
+
+returns-2 : tie.Need-returns-2
+unfolding asRequirement asValue need
+returns-2 c = λ nv. rw (c .before .before .before .answer .given .1, ← c .before .is-number .ensures, c .if1 .taken)
+
+returns-3 : tie.Need-returns-3
+unfolding asRequirement asValue need
+returns-3 c = λ nv. rw (c .before .before .before .answer .given .1, ← c .before .is-number .ensures, c .if1 .left)
+
+pub judge-answer-spec : {M : Type 1} → statement M
+judge-answer-spec =
+    tie.close (tie.spec enum-known-answer enum-told returns is-number-requires returns-2 returns-3)

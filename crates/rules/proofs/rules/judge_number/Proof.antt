@@ -1,0 +1,63 @@
+-- `rules::rules::judge_number` meets its contract. Assumes nothing.
+use borrow.Author.Needs.{needs}
+use Rattle.reader.specs.Result.{need, _>>=_}
+use Rattle.rules.specs.Rules.{judgeNumber}
+use Rattle.rules.specs.Verdicts.{asLocated, asRequirement}
+use Rattle.rules.proofs.rules.judge_number.Statement.{statement}
+use Rattle.rules.proofs.rules.judge_number.Tie as tie
+
+judge-readable-requires : tie.Need-judge-readable-requires
+judge-readable-requires c κs = search needs
+
+enum-known-located : tie.Need-enum-known-located
+enum-known-located c = search needs
+
+enum-known-located-2 : tie.Need-enum-known-located-2
+enum-known-located-2 c = search needs
+
+wide-requires : tie.Need-wide-requires
+wide-requires c κs = search needs
+
+links-from-requires : tie.Need-links-from-requires
+links-from-requires c κs = search needs
+
+is-number-requires : tie.Need-is-number-requires
+is-number-requires c κs = search needs
+
+returns : tie.Need-returns
+unfolding judgeNumber asLocated asRequirement _>>=_
+returns c = rw (← c .before .before .before .judge-readable .ensures, c .before .located .given .1)
+
+returns-2 : tie.Need-returns-2
+unfolding judgeNumber asLocated asRequirement need _>>=_
+returns-2 c =
+    let at-is-number = c .before in
+    let at-links-from = at-is-number .before in
+    let at-wide = at-links-from .before in
+    let at-located2 = at-wide .before .before in
+    let at-judge-readable = at-located2 .before .before in
+    rw (← at-judge-readable .judge-readable .ensures, at-located2 .located2 .given .1, ← at-wide .wide .ensures, ← at-links-from .links-from .ensures, ← at-is-number .is-number .ensures, c .if1 .taken)
+
+returns-3 : tie.Need-returns-3
+unfolding judgeNumber asLocated asRequirement need _>>=_
+returns-3 c =
+    let at-is-number = c .before in
+    let at-links-from = at-is-number .before in
+    let at-wide = at-links-from .before in
+    let at-located2 = at-wide .before .before in
+    let at-judge-readable = at-located2 .before .before in
+    rw (← at-judge-readable .judge-readable .ensures, at-located2 .located2 .given .1, ← at-wide .wide .ensures, ← at-links-from .links-from .ensures, ← at-is-number .is-number .ensures, c .if1 .left)
+
+pub judge-number-spec : {M : Type 1} → statement M
+judge-number-spec =
+    tie.close
+    (tie.spec
+    judge-readable-requires
+    enum-known-located
+    enum-known-located-2
+    wide-requires
+    links-from-requires
+    is-number-requires
+    returns
+    returns-2
+    returns-3)

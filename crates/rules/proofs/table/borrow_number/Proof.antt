@@ -1,0 +1,30 @@
+-- `rules::table::borrow_number` meets its contract. Assumes nothing.
+use borrow.Author.Needs.{needs}
+use Rattle.rules.specs.Table.{borrowNumber}
+use Rattle.rules.proofs.table.borrow_number.Statement.{statement}
+use Rattle.rules.proofs.table.borrow_number.Tie as tie
+
+enum-told : tie.Need-enum-told
+enum-told c = search needs
+
+enum-told-2 : tie.Need-enum-told-2
+enum-told-2 c = search needs
+
+enum-told-3 : tie.Need-enum-told-3
+enum-told-3 c = search needs
+
+returns : tie.Need-returns
+unfolding borrowNumber
+returns c = rw (c .enum-told .given .1)
+
+returns-2 : tie.Need-returns-2
+unfolding borrowNumber
+returns-2 c = rw (c .enum-told2 .given .1)
+
+returns-3 : tie.Need-returns-3
+unfolding borrowNumber
+returns-3 c = rw (c .enum-told3 .given .1)
+
+pub borrow-number-spec : {M : Type 1} → statement M
+borrow-number-spec =
+    tie.close (tie.spec enum-told enum-told-2 enum-told-3 returns returns-2 returns-3)

@@ -1,0 +1,30 @@
+-- `rules::table::borrowed_root` meets its contract. Assumes nothing.
+use borrow.Author.Needs.{needs}
+use Rattle.rules.specs.Table.{borrowedRoot}
+use Rattle.rules.proofs.table.borrowed_root.Statement.{statement}
+use Rattle.rules.proofs.table.borrowed_root.Tie as tie
+
+enum-told : tie.Need-enum-told
+enum-told c = search needs
+
+enum-known-end : tie.Need-enum-known-end
+enum-known-end c = search needs
+
+enum-known-end-2 : tie.Need-enum-known-end-2
+enum-known-end-2 c = search needs
+
+returns : tie.Need-returns
+unfolding borrowedRoot
+returns c = rw (c .enum-told .given .1)
+
+returns-2 : tie.Need-returns-2
+unfolding borrowedRoot
+returns-2 c = rw (c .before .end .given .1)
+
+returns-3 : tie.Need-returns-3
+unfolding borrowedRoot
+returns-3 c = rw (c .before .end2 .given .1)
+
+pub borrowed-root-spec : {M : Type 1} → statement M
+borrowed-root-spec =
+    tie.close (tie.spec enum-told enum-known-end enum-known-end-2 returns returns-2 returns-3)

@@ -1,0 +1,30 @@
+-- `rules::verdicts::longer_value` meets its contract. Assumes nothing.
+use mathlib.Core.Path.{sym, _∙_}
+use borrow.Author.Needs.{needs}
+use borrow.Author.Tests.{not-true, not-false}
+use Rattle.reader.specs.Result.{need, _>>=_}
+use Rattle.rules.specs.Verdicts.{answered}
+use Rattle.rules.proofs.verdicts.longer_value.Statement.{statement}
+use Rattle.rules.proofs.verdicts.longer_value.Tie as tie
+
+one-more-fits-requires : tie.Need-one-more-fits-requires
+one-more-fits-requires c κs = search needs
+
+returns : tie.Need-returns
+unfolding need answered _>>=_
+returns c = λ Γ. rw (← c .before .one-more-fits .ensures, not-true (c .before .one-more-fits .result) (c .if1 .taken))
+
+with-first-requires : tie.Need-with-first-requires
+with-first-requires c κs = (sym (c .before .one-more-fits .ensures) ∙ not-false (c .before .one-more-fits .result) (c .if1 .left), c .before .before .pre .0, c .before .before .pre .1)
+
+value-of-requires : tie.Need-value-of-requires
+value-of-requires c κs = search needs
+
+returns-2 : tie.Need-returns-2
+unfolding need _>>=_
+returns-2 c = λ Γ. rw (← c .before .before .before .one-more-fits .ensures, not-false (c .before .before .before .one-more-fits .result) (c .before .before .if1 .left), ← c .before .with-first .ensures) (c .value-of .ensures Γ)
+
+pub longer-value-spec : {M : Type 1} → statement M
+longer-value-spec =
+    tie.close
+    (tie.spec one-more-fits-requires returns with-first-requires value-of-requires returns-2)

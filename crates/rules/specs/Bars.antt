@@ -1,0 +1,41 @@
+-- Who holds a borrow, and what that bars.
+use Prim.Native.Nat.{ℕ, zero, suc}
+use mathlib.Core.Bool.{Bool, true, false}
+use lib.Dec.{ltb, eqb}
+use Rattle.reader.specs.Result.{pick}
+use Rattle.reader.specs.Script.{Place}
+use Rattle.rules.specs.Links.{leadingBoxes}
+use Rattle.rules.specs.Environment.{Borrow, noBorrow, sharedOf, exclusiveOf, Variable, Slot, free, used, live, Environment}
+
+-- A borrow of a place with the root, of either kind.
+unfoldable pub borrowsAny : Borrow → ℕ → Bool
+borrowsAny noBorrow x = false
+borrowsAny (sharedOf p) x = eqb (p .root) x
+borrowsAny (exclusiveOf p) x = eqb (p .root) x
+
+unfoldable pub borrowsExclusive : Borrow → ℕ → Bool
+borrowsExclusive noBorrow x = false
+borrowsExclusive (sharedOf p) x = false
+borrowsExclusive (exclusiveOf p) x = eqb (p .root) x
+
+-- "A variable holds that place while the link is not moved away."
+unfoldable pub holding : Variable → Bool
+holding v = ltb (leadingBoxes (v .chain)) (v .movedFrom)
+
+unfoldable pub heldBy : (Borrow → ℕ → Bool) → Slot → ℕ → Bool
+heldBy h free x = false
+heldBy h used x = false
+heldBy h (live v) x = pick (holding v) (h (v .borrow) x) false
+
+-- Some variable below n holds such a borrow.
+unfoldable pub held : (Borrow → ℕ → Bool) → ℕ → Environment → ℕ → Bool
+held h zero Γ x = false
+held h (suc n) Γ x = pick (heldBy h (Γ n) x) true (held h n Γ x)
+
+-- "Reading a root is barred while some variable holds an exclusive borrow of a place with that root."
+abbrev pub readBarred : ℕ → Environment → ℕ → Bool
+readBarred nv Γ x = held borrowsExclusive nv Γ x
+
+-- "Writing it is barred while some variable holds any such borrow."
+abbrev pub writeBarred : ℕ → Environment → ℕ → Bool
+writeBarred nv Γ x = held borrowsAny nv Γ x

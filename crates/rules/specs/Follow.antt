@@ -1,0 +1,48 @@
+-- Following a place: to one of a variable's own links, through its boxes, and beyond its borrow link through the borrowed place.
+use Prim.Native.Nat.{ℕ, zero, suc, _+_, _-_}
+use mathlib.Core.Bool.{Bool, true, false}
+use mathlib.Core.Option.{Option, none, some}
+use mathlib.Core.List.{List}
+use lib.ListN.{length}
+use lib.Dec.{leb, ltb}
+use Rattle.reader.specs.Result.{pick}
+use Rattle.reader.specs.Script.{Place}
+use Rattle.rules.specs.Links.{leadingBoxes}
+use Rattle.rules.specs.Environment.{Borrow, noBorrow, sharedOf, exclusiveOf, Variable, Slot, free, used, live, Environment}
+
+abbrev pub Follows : Type 0
+Follows = ℕ → ℕ → Option Place
+
+-- "beyond that link, the borrowed place's own state counts".
+unfoldable pub through : Borrow → ℕ → Follows → Option Place
+through noBorrow r go = none
+through (sharedOf p) r go = go (p .root) (p .follows + r)
+through (exclusiveOf p) r go = go (p .root) (p .follows + r)
+
+unfoldable pub followAt : Slot → ℕ → ℕ → Follows → Option Place
+followAt free x r go = none
+followAt used x r go = none
+followAt (live v) x r go =
+    pick (leb r (leadingBoxes (v .chain)))
+    (pick (leb r (v .movedFrom)) (some (record { root = x; follows = r })) none)
+    (pick (ltb (leadingBoxes (v .chain)) (v .movedFrom)) (through (v .borrow) (r - suc (leadingBoxes (v .chain))) go) none)
+
+-- Where r follows from variable x lead: a variable and one of its own links; none if something on the path is moved away.
+-- The first argument bounds the variables passed. With the number of variables it never runs out in a state that judging reaches.
+unfoldable pub follow : ℕ → Environment → Follows
+follow zero Γ x r = none
+follow (suc n) Γ x r = followAt (Γ x) x r (λ y s. follow n Γ y s)
+
+-- The variable's own link is not moved away.
+unfoldable pub wholeAt : Slot → ℕ → Bool
+wholeAt free d = false
+wholeAt used d = false
+wholeAt (live v) d = ltb d (v .movedFrom)
+
+unfoldable pub wholeThere : Environment → Option Place → Bool
+wholeThere Γ none = false
+wholeThere Γ (some q) = wholeAt (Γ (q .root)) (q .follows)
+
+-- Nothing of the value of variable x is moved away, to the end of its chain.
+unfoldable pub valueWhole : ℕ → Environment → ℕ → Variable → Bool
+valueWhole nv Γ x v = wholeThere Γ (follow nv Γ x (length (v .chain)))

@@ -1,0 +1,46 @@
+-- The judge on trees: a term, a block's terms, and the whole script.
+use Prim.Native.Nat.{ℕ, suc}
+use mathlib.Core.Bool.{Bool, true, false}
+use mathlib.Core.Option.{Option, none, some}
+use Rattle.reader.specs.Result.{Result, ok, err, need, _>>=_}
+use Rattle.reader.specs.Script.{Place, Term, Terms, number, reading, copy, move, borrowShared, borrowExclusive, box, declare, assign, below, block, last, more}
+use Rattle.rules.specs.Links.{isNumber}
+use Rattle.rules.specs.Environment.{Environment, free, used, Ty, update, isFree}
+use Rattle.rules.specs.Rules.{Judged, Out, numberTy, judgeCopy, judgeMove, judgeShared, judgeExclusive, judgeBox, judgeLet, judgeAssign, judgeBelow, judgeBlockEnd}
+
+module _ (nv : ℕ) where
+  -- level is that of the innermost block around the term; a block's own is one more.
+  unfoldable mutual
+    pub judge : Term → ℕ → Environment → Judged Out
+    judge (number i n) level Γ = ok (Γ, some numberTy)
+    judge (reading i n) level Γ = ok (Γ, some numberTy)
+    judge (copy i p) level Γ = judgeCopy nv Γ i p
+    judge (move i p) level Γ = judgeMove nv Γ i p
+    judge (borrowShared i p) level Γ = judgeShared nv Γ i p
+    judge (borrowExclusive i p) level Γ = judgeExclusive nv Γ i p
+    judge (box i t) level Γ = judge t level Γ >>= λ o. judgeBox nv (o .0) i (o .1)
+    -- "number not taken (30), taken from here on but in scope only afterwards".
+    judge (declare i x t) level Γ =
+        need (isFree (Γ x)) (30, i) >>= λ _.
+        judge t level (update Γ x used) >>= λ o.
+        judgeLet nv level (o .0) i x (o .1)
+    -- "right side first".
+    judge (assign i p t) level Γ = judge t level Γ >>= λ o. judgeAssign nv (o .0) i p (o .1)
+    judge (below i p q) level Γ = judgeBelow nv Γ i p q
+    judge (block i ts) level Γ = judges ts (suc level) Γ >>= λ o. judgeBlockEnd nv level (o .0) i (o .1)
+
+    -- "its terms in order"; "a block has its last term's" value.
+    pub judges : Terms → ℕ → Environment → Judged Out
+    judges (last t) level Γ = judge t level Γ
+    judges (more t ts) level Γ = judge t level Γ >>= λ o. judges ts level (o .0)
+
+  abbrev pub isAnswer : Option Ty → Bool
+  isAnswer none = false
+  isAnswer (some t) = isNumber (t .links)
+
+  abbrev pub nothingTaken : Environment
+  nothingTaken = λ x. free
+
+  -- "the whole script: the answer is a number (43, term 0)".
+  unfoldable pub judgeScript : Term → Judged (Unit {0})
+  judgeScript t = judge t 0 nothingTaken >>= λ o. need (isAnswer (o .1)) (43, 0)

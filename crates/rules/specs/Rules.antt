@@ -1,0 +1,147 @@
+-- One definition per ownership rule, its refusals in 01's order. nv is the number of variables, i the term.
+use Prim.Native.Nat.{ℕ}
+use mathlib.Core.Bool.{Bool, true, false, not}
+use mathlib.Core.Option.{Option, none, some}
+use mathlib.Core.List.{List, [], _∷_}
+use lib.ListN.{length, take, drop}
+use lib.Dec.{leb}
+use Rattle.reader.specs.Result.{Result, ok, err, Refusal, need, pick, _>>=_}
+use Rattle.reader.specs.Script.{Place}
+use Rattle.rules.specs.Links.{Link, boxed, shared, exclusive, maxLinks, leadingBoxes, noShared, isNumber, copies, sameLinks}
+use Rattle.rules.specs.Environment.{Borrow, noBorrow, sharedOf, exclusiveOf, Variable, Slot, free, used, live, Environment, Ty, update, fresh, movedAway, refilled, levelOf, borrowOf, livesAt, leave}
+use Rattle.rules.specs.Follow.{follow, valueWhole}
+use Rattle.rules.specs.Bars.{readBarred, writeBarred}
+
+abbrev pub Judged : Type 0 → Type 0
+Judged A = Result Refusal A
+
+-- The environment afterwards, and the value's type, if the term has a value.
+abbrev pub Out : Type 0
+Out = Environment × Option Ty
+
+abbrev pub numberTy : Ty
+numberTy = record { links = []; borrow = noBorrow }
+
+-- 31.
+unfoldable pub inScope : Slot → Refusal → Judged Variable
+inScope free e = err e
+inScope used e = err e
+inScope (live v) e = ok v
+
+-- 33.
+unfoldable pub reached : Option Place → Refusal → Judged Place
+reached none e = err e
+reached (some q) e = ok q
+
+-- 41.
+unfoldable pub valued : Option Ty → Refusal → Judged Ty
+valued none e = err e
+valued (some t) e = ok t
+
+-- The root's variable, and the own link of a variable that the place leads to.
+pub record Located : Type 0 where
+  pub root : Variable
+  pub to : Place
+
+module _ (nv : ℕ) where
+  -- "Judging a place, in order: root in scope (31), long enough chain (32), nothing moved away on the path (33)."
+  unfoldable pub judgePlace : Environment → ℕ → Place → Judged Located
+  judgePlace Γ i p =
+      inScope (Γ (p .root)) (31, i) >>= λ v.
+      need (leb (p .follows) (length (v .chain))) (32, i) >>= λ _.
+      reached (follow nv Γ (p .root) (p .follows)) (33, i) >>= λ q.
+      ok (record { root = v; to = q })
+
+  -- The place of copy, shared borrow and below: "place; value whole (33); reading not barred (34)".
+  unfoldable pub judgeReadable : Environment → ℕ → Place → Judged Located
+  judgeReadable Γ i p =
+      judgePlace Γ i p >>= λ l.
+      need (valueWhole nv Γ (p .root) (l .root)) (33, i) >>= λ _.
+      need (not (readBarred nv Γ (p .root))) (34, i) >>= λ _.
+      ok l
+
+  -- "a number or a first link shared (37)".
+  unfoldable pub judgeCopy : Environment → ℕ → Place → Judged Out
+  judgeCopy Γ i p =
+      judgeReadable Γ i p >>= λ l.
+      let ks = drop (p .follows) (l .root .chain) in
+      need (copies ks) (37, i) >>= λ _.
+      ok (Γ, some (record { links = ks; borrow = pick (isNumber ks) noBorrow (borrowOf (Γ (l .to .root))) }))
+
+  -- "31, 32; no borrow link passed (38); path and value whole (33); writing not barred (35)".
+  unfoldable pub judgeMove : Environment → ℕ → Place → Judged Out
+  judgeMove Γ i p =
+      inScope (Γ (p .root)) (31, i) >>= λ v.
+      need (leb (p .follows) (length (v .chain))) (32, i) >>= λ _.
+      need (leb (p .follows) (leadingBoxes (v .chain))) (38, i) >>= λ _.
+      need (valueWhole nv Γ (p .root) v) (33, i) >>= λ _.
+      need (not (writeBarred nv Γ (p .root))) (35, i) >>= λ _.
+      ok (update Γ (p .root) (live (movedAway v (p .follows))), some (record { links = drop (p .follows) (v .chain); borrow = v .borrow }))
+
+  -- "result at most 8 links (42)".
+  unfoldable pub judgeShared : Environment → ℕ → Place → Judged Out
+  judgeShared Γ i p =
+      judgeReadable Γ i p >>= λ l.
+      let ks = shared ∷ drop (p .follows) (l .root .chain) in
+      need (leb (length ks) maxLinks) (42, i) >>= λ _.
+      ok (Γ, some (record { links = ks; borrow = sharedOf p }))
+
+  -- "place; whole (33); only box and exclusive links passed (36); 35; 42".
+  unfoldable pub judgeExclusive : Environment → ℕ → Place → Judged Out
+  judgeExclusive Γ i p =
+      judgePlace Γ i p >>= λ l.
+      need (valueWhole nv Γ (p .root) (l .root)) (33, i) >>= λ _.
+      need (noShared (take (p .follows) (l .root .chain))) (36, i) >>= λ _.
+      need (not (writeBarred nv Γ (p .root))) (35, i) >>= λ _.
+      let ks = exclusive ∷ drop (p .follows) (l .root .chain) in
+      need (leb (length ks) maxLinks) (42, i) >>= λ _.
+      ok (Γ, some (record { links = ks; borrow = exclusiveOf p }))
+
+  -- "inner term; it has a value (41); 42". o is the inner term's value.
+  unfoldable pub judgeBox : Environment → ℕ → Option Ty → Judged Out
+  judgeBox Γ i o =
+      valued o (41, i) >>= λ t.
+      let ks = boxed ∷ t .links in
+      need (leb (length ks) maxLinks) (42, i) >>= λ _.
+      ok (Γ, some (record { links = ks; borrow = t .borrow }))
+
+  -- After the inner term of a let: "41". The variable is in scope from here on, at the level of the block around it.
+  unfoldable pub judgeLet : ℕ → Environment → ℕ → ℕ → Option Ty → Judged Out
+  judgeLet level Γ i x o =
+      valued o (41, i) >>= λ t.
+      ok (update Γ x (live (fresh (t .links) (t .borrow) level)), none)
+
+  -- After the right side: "41; 31, 32, 33 of the path only; 36; equal link kinds (39); the new value's borrowed root, if any, lives in
+  -- the block of the variable finally written or in one around it (40); with the new value in place, writing the named root not barred (35)".
+  unfoldable pub judgeAssign : Environment → ℕ → Place → Option Ty → Judged Out
+  judgeAssign Γ i p o =
+      valued o (41, i) >>= λ t.
+      judgePlace Γ i p >>= λ l.
+      need (noShared (take (p .follows) (l .root .chain))) (36, i) >>= λ _.
+      need (sameLinks (drop (p .follows) (l .root .chain)) (t .links)) (39, i) >>= λ _.
+      need (livesAt Γ (t .borrow) (levelOf (Γ (l .to .root)))) (40, i) >>= λ _.
+      let Γ′ = update Γ (l .to .root) (refilled (Γ (l .to .root)) (t .borrow)) in
+      need (not (writeBarred nv Γ′ (p .root))) (35, i) >>= λ _.
+      ok (Γ′, none)
+
+  -- A place of below: "judged as copy up to 34, then a number (39)".
+  unfoldable pub judgeNumber : Environment → ℕ → Place → Judged (Unit {0})
+  judgeNumber Γ i p =
+      judgeReadable Γ i p >>= λ l.
+      need (isNumber (drop (p .follows) (l .root .chain))) (39, i)
+
+  unfoldable pub judgeBelow : Environment → ℕ → Place → Place → Judged Out
+  judgeBelow Γ i p q =
+      judgeNumber Γ i p >>= λ _.
+      judgeNumber Γ i q >>= λ _.
+      ok (Γ, some numberTy)
+
+  abbrev pub borrowIn : Option Ty → Borrow
+  borrowIn none = noBorrow
+  borrowIn (some t) = t .borrow
+
+  -- "At its end the value borrows no root living in it (40), and its variables leave scope." level is that of the block around.
+  unfoldable pub judgeBlockEnd : ℕ → Environment → ℕ → Option Ty → Judged Out
+  judgeBlockEnd level Γ i o =
+      need (livesAt Γ (borrowIn o) level) (40, i) >>= λ _.
+      ok (leave level Γ, o)

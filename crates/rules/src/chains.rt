@@ -1,0 +1,113 @@
+// A chain of links in one number: base 3 with the digits 1, 2 and 3, the first link lowest. Each number is exactly
+// one chain, so equal chains are equal numbers, no length is kept, and every number in the table is a chain.
+ghost use mathlib.Core.Path.{_≡_};
+ghost use mathlib.Core.Bool.{true};
+ghost use mathlib.Core.List.{_∷_};
+ghost use Prim.Native.Nat.{_<_, _≤_, _+_, _*_, _-_};
+ghost use lib.ListN.{length, take, drop};
+ghost use Rattle.rules.specs.Links.{leadingBoxes, noShared, isNumber, copies};
+ghost use Rattle.rules.specs.Chains.{linkOf, chainOf, oneMoreFits};
+
+// The digits.
+pub const BOX: u32 = 1;
+
+pub const SHARED: u32 = 2;
+
+pub const EXCLUSIVE: u32 = 3;
+
+// The chains of at most 7 links are the numbers below this.
+const FULL: u32 = 3280;
+
+pub fn is_number(links: u32) -> bool
+    ensures { λ r. ⌜ r ≡ isNumber (chainOf links) ⌝ }
+{
+    links == 0
+}
+
+// A number, or a first link shared.
+pub fn is_copied(links: u32) -> bool
+    ensures { λ r. ⌜ r ≡ copies (chainOf links) ⌝ }
+{
+    if links == 0 {
+        return true;
+    }
+    links % 3 == SHARED
+}
+
+pub fn chain_length(links: u32) -> usize
+    ensures { λ r. ⌜ (r ≡ length (chainOf links)) × (r ≤ links) ⌝ }
+{
+    let mut rest = links;
+    let mut count: usize = 0;
+    while 0 < rest {
+        rest = (rest - 1) / 3;
+        count += 1;
+    }
+    count
+}
+
+// The boxes before the first borrow link.
+pub fn leading_boxes(links: u32) -> usize
+    ensures { λ r. ⌜ (r ≡ leadingBoxes (chainOf links)) × (r * 2 ≤ links + 1) ⌝ }
+{
+    let mut rest = links;
+    let mut count: usize = 0;
+    while rest % 3 == BOX {
+        rest = rest / 3;
+        count += 1;
+    }
+    count
+}
+
+fn without_first(links: u32) -> u32
+    ensures { λ r. ⌜ chainOf r ≡ drop 1 (chainOf links) ⌝ }
+{
+    if 0 < links { (links - 1) / 3 } else { 0 }
+}
+
+// The chain from link k on.
+pub fn links_from(links: u32, k: usize) -> u32
+    ensures { λ r. ⌜ chainOf r ≡ drop k (chainOf links) ⌝ }
+{
+    let mut rest = links;
+    let mut left = k;
+    while 0 < left {
+        rest = without_first(rest);
+        left -= 1;
+    }
+    rest
+}
+
+// Only boxes and exclusive links before link k.
+pub fn no_shared(links: u32, k: usize) -> bool
+    ensures { λ r. ⌜ r ≡ noShared (take k (chainOf links)) ⌝ }
+{
+    let mut rest = links;
+    let mut left = k;
+    while 0 < left {
+        if rest == 0 {
+            return true;
+        }
+        if rest % 3 == SHARED {
+            return false;
+        }
+        rest = without_first(rest);
+        left -= 1;
+    }
+    true
+}
+
+// One more link makes at most 8.
+pub fn one_more_fits(links: u32) -> bool
+    ensures { λ r. ⌜ r ≡ oneMoreFits links ⌝ }
+{
+    links < FULL
+}
+
+// The chain with one more link in front, given as its digit.
+pub fn with_first(link: u32, links: u32) -> u32
+    requires { ⌜ (oneMoreFits links ≡ true) × (0 < link) × (link ≤ 3) ⌝ }
+    ensures { λ r. ⌜ chainOf r ≡ linkOf (link - 1) ∷ chainOf links ⌝ }
+{
+    links * 3 + link
+}

@@ -1,0 +1,118 @@
+// What the rules ask of a variable number, and what they do to it.
+ghost use mathlib.Core.Path.{_≡_};
+ghost use Prim.Native.Nat.{_≤_, _+_, _*_};
+ghost use lib.ListN.{length};
+ghost use Rattle.rules.specs.Environment.{update, fresh, refilled, isFree, levelOf, borrowOf, livesAt, leave};
+ghost use Rattle.rules.specs.Chains.{chainOf};
+ghost use Rattle.rules.specs.Table.{TableFor, environmentOf, asBorrow, asVariable, isDeeper};
+use crate::chains::leading_boxes;
+use crate::table::BorrowEnd;
+use crate::table::Entry;
+use crate::table::LEVEL;
+use crate::table::LIVE;
+use crate::table::STATUS;
+use crate::table::VariableState;
+use crate::table::load;
+use crate::table::store;
+use crate::table::take_number;
+use crate::table::wide;
+use crate::table::word_at;
+
+pub fn is_free(env: &[u32], variables: usize, x: usize) -> bool
+    requires { ⌜ TableFor (now env) variables ⌝ }
+    ensures { λ r. ⌜ r ≡ isFree (environmentOf (now (env .entry)) x) ⌝ }
+{
+    let entry = load(env, variables, x);
+    match entry {
+        Entry::Free => true,
+        Entry::Used => false,
+        Entry::Live(_) => false,
+    }
+}
+
+// The level of the block in which x lives.
+pub fn level_at(env: &[u32], variables: usize, x: usize) -> u32
+    requires { ⌜ TableFor (now env) variables ⌝ }
+    ensures { λ r. ⌜ r ≡ levelOf (environmentOf (now (env .entry)) x) ⌝ }
+{
+    let entry = load(env, variables, x);
+    match entry {
+        Entry::Free => 0,
+        Entry::Used => 0,
+        Entry::Live(state) => state.level,
+    }
+}
+
+pub fn borrow_end_at(env: &[u32], variables: usize, x: usize) -> BorrowEnd
+    requires { ⌜ TableFor (now env) variables ⌝ }
+    ensures { λ r. ⌜ asBorrow r ≡ borrowOf (environmentOf (now (env .entry)) x) ⌝ }
+{
+    let entry = load(env, variables, x);
+    match entry {
+        Entry::Free => BorrowEnd::None,
+        Entry::Used => BorrowEnd::None,
+        Entry::Live(state) => state.borrow_end,
+    }
+}
+
+// The borrowed root, if any, lives in the block of that level or in one around it.
+pub fn lives_at(env: &[u32], variables: usize, end: BorrowEnd, level: u32) -> bool
+    requires { ⌜ TableFor (now env) variables ⌝ }
+    ensures { λ r. ⌜ r ≡ livesAt (environmentOf (now (env .entry))) (asBorrow end) level ⌝ }
+{
+    match end {
+        BorrowEnd::None => true,
+        BorrowEnd::Shared(place) => level_at(env, variables, wide(place.root)) <= level,
+        BorrowEnd::Exclusive(place) => level_at(env, variables, wide(place.root)) <= level,
+    }
+}
+
+// A variable with nothing moved away.
+pub fn fresh_state(links: u32, end: BorrowEnd, level: u32) -> VariableState
+    ensures { λ r. ⌜ asVariable r ≡ fresh (chainOf links) (asBorrow end) level ⌝ }
+{
+    let boxes = leading_boxes(links);
+    VariableState {
+        links: links,
+        moved_from: (boxes + 1) as u32,
+        borrow_end: end,
+        level: level,
+    }
+}
+
+// A value is written to x: whole again, with the new value's borrow end.
+pub fn refill(env: &mut [u32], variables: usize, x: usize, end: BorrowEnd)
+    requires { ⌜ TableFor (now env) variables ⌝ }
+    ensures { λ _. ⌜ environmentOf (now (env .exit)) ≡ update (environmentOf (now (env .entry))) x (refilled (environmentOf (now (env .entry)) x) (asBorrow end)) ⌝ }
+{
+    let entry = load(env, variables, x);
+    if let Entry::Live(state) = entry {
+        let whole = fresh_state(state.links, end, state.level);
+        store(env, variables, x, whole);
+    }
+}
+
+// In scope, in a block inside that of the level.
+fn is_deeper(env: &[u32], x: usize, level: u32) -> bool
+    requires { ⌜ x * 8 + 8 ≤ length (now env) ⌝ }
+    ensures { λ r. ⌜ r ≡ isDeeper (now (env .entry)) x level ⌝ }
+{
+    if word_at(env, x, STATUS) < LIVE {
+        return false;
+    }
+    level < word_at(env, x, LEVEL)
+}
+
+// The variables of the blocks inside that of the level leave scope.
+pub fn leave_blocks(env: &mut [u32], variables: usize, level: u32)
+    requires { ⌜ TableFor (now env) variables ⌝ }
+    ensures { λ _. ⌜ environmentOf (now (env .exit)) ≡ leave level (environmentOf (now (env .entry))) ⌝ }
+{
+    let mut x = variables;
+    while 0 < x {
+        x -= 1;
+        if is_deeper(env, x, level) {
+            take_number(env, variables, x);
+        }
+    }
+}

@@ -1,0 +1,106 @@
+// Following a place: to one of a variable's own links, through its boxes, and beyond its borrow link through the borrowed place.
+ghost use mathlib.Core.Path.{_≡_};
+ghost use Prim.Native.Nat.{_≤_};
+ghost use Rattle.rules.specs.Follow.{follow, valueWhole};
+ghost use Rattle.rules.specs.Table.{TableFor, entryAt, environmentOf, asVariable};
+ghost use Rattle.rules.specs.Steps.{stepOf, stepAt, asFollowed};
+use crate::chains::chain_length;
+use crate::chains::leading_boxes;
+use crate::table::BorrowEnd;
+use crate::table::Entry;
+use crate::table::Place;
+use crate::table::VariableState;
+use crate::table::load;
+use crate::table::wide;
+
+// One variable of the path: the follows end at its own link, there is nothing to follow, or they go on from the
+// borrowed place, with so many follows after that place's own.
+pub enum Step {
+    Here,
+    Nowhere,
+    Through(Place, usize),
+}
+
+// A variable and one of its own links.
+pub enum Followed {
+    At(usize, usize),
+    Nowhere,
+}
+
+fn step_of(state: VariableState, follows: usize) -> Step
+    ensures { λ r. ⌜ r ≡ stepOf state follows ⌝ }
+{
+    let boxes = leading_boxes(state.links);
+    let moved_from = wide(state.moved_from);
+    if follows <= boxes {
+        if follows <= moved_from {
+            return Step::Here;
+        }
+        return Step::Nowhere;
+    }
+    if moved_from <= boxes {
+        return Step::Nowhere;
+    }
+    let end = state.borrow_end;
+    match end {
+        BorrowEnd::None => Step::Nowhere,
+        BorrowEnd::Shared(place) => Step::Through(place, follows - boxes - 1),
+        BorrowEnd::Exclusive(place) => Step::Through(place, follows - boxes - 1),
+    }
+}
+
+fn step_at(env: &[u32], variables: usize, x: usize, follows: usize) -> Step
+    requires { ⌜ TableFor (now env) variables ⌝ }
+    ensures { λ r. ⌜ r ≡ stepAt (entryAt (now (env .entry)) x) follows ⌝ }
+{
+    let entry = load(env, variables, x);
+    match entry {
+        Entry::Free => Step::Nowhere,
+        Entry::Used => Step::Nowhere,
+        Entry::Live(state) => step_of(state, follows),
+    }
+}
+
+// Where the follows lead from variable root. No path passes more variables than there are.
+pub fn follow_place(env: &[u32], variables: usize, root: usize, follows: usize) -> Followed
+    requires { ⌜ TableFor (now env) variables × (follows ≤ 4294967296) ⌝ }
+    ensures { λ r. ⌜ asFollowed r ≡ follow variables (environmentOf (now (env .entry))) root follows ⌝ }
+{
+    let mut x = root;
+    let mut more = follows;
+    let mut left = variables;
+    while 0 < left {
+        let step = step_at(env, variables, x, more);
+        match step {
+            Step::Here => {
+                return Followed::At(x, more);
+            }
+            Step::Nowhere => {
+                return Followed::Nowhere;
+            }
+            Step::Through(place, beyond) => {
+                x = wide(place.root);
+                more = wide(place.follows) + beyond;
+            }
+        }
+        left -= 1;
+    }
+    Followed::Nowhere
+}
+
+// Nothing of the value of x is moved away, to the end of its chain.
+pub fn value_whole(env: &[u32], variables: usize, x: usize, state: VariableState) -> bool
+    requires { ⌜ TableFor (now env) variables ⌝ }
+    ensures { λ r. ⌜ r ≡ valueWhole variables (environmentOf (now (env .entry))) x (asVariable state) ⌝ }
+{
+    let length = chain_length(state.links);
+    let followed = follow_place(env, variables, x, length);
+    let Followed::At(y, link) = followed else {
+        return false;
+    };
+    let entry = load(env, variables, y);
+    let Entry::Live(end) = entry else {
+        return false;
+    };
+    link < wide(end.moved_from)
+}

@@ -1,0 +1,347 @@
+// The ownership rules, one function each: its answer is the rule's definition, and the table afterwards is that
+// definition's environment. A rule about a term with an inner term is given the inner term's value.
+ghost use mathlib.Core.Path.{_≡_};
+ghost use Prim.Native.Nat.{ℕ, _<_};
+ghost use Rattle.rules.specs.Rules.{judgePlace, judgeReadable, judgeCopy, judgeMove, judgeShared, judgeExclusive, judgeLet, judgeAssign, judgeNumber, judgeBelow, judgeBlockEnd};
+ghost use Rattle.rules.specs.Table.{TableFor, environmentOf, asPlace};
+ghost use Rattle.rules.specs.Verdicts.{asLocated, asRequirement, begun, beginLet, asValue, answered, Boxes, judgeAnswer};
+use crate::bars::read_barred;
+use crate::bars::write_barred;
+use crate::chains::BOX;
+use crate::chains::EXCLUSIVE;
+use crate::chains::SHARED;
+use crate::chains::chain_length;
+use crate::chains::is_copied;
+use crate::chains::is_number;
+use crate::chains::leading_boxes;
+use crate::chains::links_from;
+use crate::chains::no_shared;
+use crate::environment::borrow_end_at;
+use crate::environment::fresh_state;
+use crate::environment::is_free;
+use crate::environment::leave_blocks;
+use crate::environment::level_at;
+use crate::environment::lives_at;
+use crate::environment::refill;
+use crate::follow::Followed;
+use crate::follow::follow_place;
+use crate::follow::value_whole;
+use crate::refusals;
+use crate::table::BorrowEnd;
+use crate::table::Entry;
+use crate::table::Place;
+use crate::table::VariableState;
+use crate::table::load;
+use crate::table::store;
+use crate::table::take_number;
+use crate::table::wide;
+use crate::verdicts::Value;
+use crate::verdicts::Verdict;
+use crate::verdicts::borrow_in;
+use crate::verdicts::longer_value;
+use crate::verdicts::number_value;
+use crate::verdicts::value_of;
+
+// The state of the place's root, with the variable and its own link that the place leads to; or the refusal.
+pub enum Located {
+    At(VariableState, usize, usize),
+    Refused(u32, usize),
+}
+
+pub enum Requirement {
+    Met,
+    Refused(u32, usize),
+}
+
+// "Judging a place, in order: root in scope (31), long enough chain (32), nothing moved away on the path (33)."
+pub fn judge_place(env: &[u32], variables: usize, term: usize, place: Place) -> Located
+    requires { ⌜ TableFor (now env) variables ⌝ }
+    ensures { λ r. ⌜ asLocated r ≡ judgePlace variables (environmentOf (now (env .entry))) term (asPlace place) ⌝ }
+{
+    let root = wide(place.root);
+    let follows = wide(place.follows);
+    let entry = load(env, variables, root);
+    let Entry::Live(state) = entry else {
+        return Located::Refused(refusals::NOT_IN_SCOPE, term);
+    };
+    if chain_length(state.links) < follows {
+        return Located::Refused(refusals::CHAIN_TOO_SHORT, term);
+    }
+    let followed = follow_place(env, variables, root, follows);
+    let Followed::At(variable, link) = followed else {
+        return Located::Refused(refusals::MOVED_AWAY, term);
+    };
+    Located::At(state, variable, link)
+}
+
+// The place of copy, shared borrow and below: "place; value whole (33); reading not barred (34)".
+pub fn judge_readable(env: &[u32], variables: usize, term: usize, place: Place) -> Located
+    requires { ⌜ TableFor (now env) variables ⌝ }
+    ensures { λ r. ⌜ asLocated r ≡ judgeReadable variables (environmentOf (now (env .entry))) term (asPlace place) ⌝ }
+{
+    let located = judge_place(env, variables, term, place);
+    let Located::At(state, _, _) = located else {
+        return located;
+    };
+    if !value_whole(env, variables, wide(place.root), state) {
+        return Located::Refused(refusals::MOVED_AWAY, term);
+    }
+    if read_barred(env, variables, place.root) {
+        return Located::Refused(refusals::READING_BARRED, term);
+    }
+    located
+}
+
+// "a number or a first link shared (37)".
+pub fn judge_copy(env: &[u32], variables: usize, term: usize, place: Place) -> Verdict
+    requires { ⌜ TableFor (now env) variables ⌝ }
+    ensures { λ r. ⌜ answered (environmentOf (now (env .entry))) r ≡ judgeCopy variables (environmentOf (now (env .entry))) term (asPlace place) ⌝ }
+{
+    let located = judge_readable(env, variables, term, place);
+    match located {
+        Located::Refused(number, at) => Verdict::Refused(number, at),
+        Located::At(state, variable, _) => {
+            let links = links_from(state.links, wide(place.follows));
+            if !is_copied(links) {
+                return Verdict::Refused(refusals::NOT_COPIED, term);
+            }
+            if is_number(links) {
+                return value_of(links, BorrowEnd::None);
+            }
+            let end = borrow_end_at(env, variables, variable);
+            value_of(links, end)
+        }
+    }
+}
+
+// "31, 32; no borrow link passed (38); path and value whole (33); writing not barred (35)". The value "is then moved
+// away from that link on".
+pub fn judge_move(env: &mut [u32], variables: usize, term: usize, place: Place) -> Verdict
+    requires { ⌜ TableFor (now env) variables ⌝ }
+    ensures { λ r. ⌜ answered (environmentOf (now (env .exit))) r ≡ judgeMove variables (environmentOf (now (env .entry))) term (asPlace place) ⌝ }
+{
+    let root = wide(place.root);
+    let follows = wide(place.follows);
+    let entry = load(env, variables, root);
+    let Entry::Live(state) = entry else {
+        return Verdict::Refused(refusals::NOT_IN_SCOPE, term);
+    };
+    if chain_length(state.links) < follows {
+        return Verdict::Refused(refusals::CHAIN_TOO_SHORT, term);
+    }
+    if leading_boxes(state.links) < follows {
+        return Verdict::Refused(refusals::BORROW_PASSED, term);
+    }
+    if !value_whole(env, variables, root, state) {
+        return Verdict::Refused(refusals::MOVED_AWAY, term);
+    }
+    if write_barred(env, variables, place.root) {
+        return Verdict::Refused(refusals::WRITING_BARRED, term);
+    }
+    let end = state.borrow_end;
+    let moved = VariableState {
+        links: state.links,
+        moved_from: place.follows,
+        borrow_end: end,
+        level: state.level,
+    };
+    store(env, variables, root, moved);
+    value_of(links_from(state.links, follows), end)
+}
+
+// "place; whole (33); 34; result at most 8 links (42)".
+pub fn judge_shared(env: &[u32], variables: usize, term: usize, place: Place) -> Verdict
+    requires { ⌜ TableFor (now env) variables ⌝ }
+    ensures { λ r. ⌜ answered (environmentOf (now (env .entry))) r ≡ judgeShared variables (environmentOf (now (env .entry))) term (asPlace place) ⌝ }
+{
+    let located = judge_readable(env, variables, term, place);
+    match located {
+        Located::Refused(number, at) => Verdict::Refused(number, at),
+        Located::At(state, _, _) => {
+            let links = links_from(state.links, wide(place.follows));
+            longer_value(term, SHARED, links, BorrowEnd::Shared(place))
+        }
+    }
+}
+
+// "place; whole (33); only box and exclusive links passed (36); 35; 42".
+pub fn judge_exclusive(env: &[u32], variables: usize, term: usize, place: Place) -> Verdict
+    requires { ⌜ TableFor (now env) variables ⌝ }
+    ensures { λ r. ⌜ answered (environmentOf (now (env .entry))) r ≡ judgeExclusive variables (environmentOf (now (env .entry))) term (asPlace place) ⌝ }
+{
+    let located = judge_place(env, variables, term, place);
+    match located {
+        Located::Refused(number, at) => Verdict::Refused(number, at),
+        Located::At(state, _, _) => {
+            let follows = wide(place.follows);
+            if !value_whole(env, variables, wide(place.root), state) {
+                return Verdict::Refused(refusals::MOVED_AWAY, term);
+            }
+            if !no_shared(state.links, follows) {
+                return Verdict::Refused(refusals::SHARED_PASSED, term);
+            }
+            if write_barred(env, variables, place.root) {
+                return Verdict::Refused(refusals::WRITING_BARRED, term);
+            }
+            let links = links_from(state.links, follows);
+            longer_value(term, EXCLUSIVE, links, BorrowEnd::Exclusive(place))
+        }
+    }
+}
+
+// "inner term; it has a value (41); 42".
+pub fn judge_box(term: usize, inner: Value) -> Verdict
+    ensures { λ r. ⌜ Boxes term inner r ⌝ }
+{
+    let Value::Of(of) = inner else {
+        return Verdict::Refused(refusals::NO_VALUE, term);
+    };
+    let end = of.borrow_end;
+    longer_value(term, BOX, of.links, end)
+}
+
+// "number not taken (30), taken from here on but in scope only afterwards".
+pub fn begin_let(env: &mut [u32], variables: usize, term: usize, x: usize) -> Requirement
+    requires { ⌜ TableFor (now env) variables × (x < variables) ⌝ }
+    ensures { λ r. ⌜ begun (environmentOf (now (env .exit))) r ≡ beginLet (environmentOf (now (env .entry))) term x ⌝ }
+{
+    if !is_free(env, variables, x) {
+        return Requirement::Refused(refusals::NUMBER_TAKEN, term);
+    }
+    take_number(env, variables, x);
+    Requirement::Met
+}
+
+// After the inner term: "41". Its number x was taken by `begin_let`.
+pub fn judge_let(
+    env: &mut [u32],
+    variables: usize,
+    level: u32,
+    term: usize,
+    x: usize,
+    inner: Value,
+) -> Verdict
+    requires { ⌜ TableFor (now env) variables × (x < variables) ⌝ }
+    ensures { λ r. ⌜ answered (environmentOf (now (env .exit))) r ≡ judgeLet variables level (environmentOf (now (env .entry))) term x (asValue inner) ⌝ }
+{
+    let Value::Of(of) = inner else {
+        return Verdict::Refused(refusals::NO_VALUE, term);
+    };
+    let end = of.borrow_end;
+    let state = fresh_state(of.links, end, level);
+    store(env, variables, x, state);
+    Verdict::Fine(Value::None)
+}
+
+// After the right side: "41; 31, 32, 33 of the path only; 36; equal link kinds (39)"; the new value's borrowed root
+// lives long enough for "the variable finally written" (40); "with the new value in place, writing the named root not
+// barred (35)".
+pub fn judge_assign(
+    env: &mut [u32],
+    variables: usize,
+    term: usize,
+    place: Place,
+    inner: Value,
+) -> Verdict
+    requires { ⌜ TableFor (now env) variables ⌝ }
+    ensures { λ r. ⌜ answered (environmentOf (now (env .exit))) r ≡ judgeAssign variables (environmentOf (now (env .entry))) term (asPlace place) (asValue inner) ⌝ }
+{
+    let Value::Of(of) = inner else {
+        return Verdict::Refused(refusals::NO_VALUE, term);
+    };
+    let located = judge_place(env, variables, term, place);
+    match located {
+        Located::Refused(number, at) => Verdict::Refused(number, at),
+        Located::At(state, written, _) => {
+            let follows = wide(place.follows);
+            if !no_shared(state.links, follows) {
+                return Verdict::Refused(refusals::SHARED_PASSED, term);
+            }
+            if links_from(state.links, follows) != of.links {
+                return Verdict::Refused(refusals::OTHER_LINKS, term);
+            }
+            let end = of.borrow_end;
+            if !lives_at(env, variables, end, level_at(env, variables, written)) {
+                return Verdict::Refused(refusals::LIVES_TOO_SHORT, term);
+            }
+            refill(env, variables, written, end);
+            if write_barred(env, variables, place.root) {
+                return Verdict::Refused(refusals::WRITING_BARRED, term);
+            }
+            Verdict::Fine(Value::None)
+        }
+    }
+}
+
+// A place of below: "judged as copy up to 34, then a number (39)".
+pub fn judge_number(env: &[u32], variables: usize, term: usize, place: Place) -> Requirement
+    requires { ⌜ TableFor (now env) variables ⌝ }
+    ensures { λ r. ⌜ asRequirement r ≡ judgeNumber variables (environmentOf (now (env .entry))) term (asPlace place) ⌝ }
+{
+    let located = judge_readable(env, variables, term, place);
+    match located {
+        Located::Refused(number, at) => Requirement::Refused(number, at),
+        Located::At(state, _, _) => {
+            if is_number(links_from(state.links, wide(place.follows))) {
+                Requirement::Met
+            } else {
+                Requirement::Refused(refusals::OTHER_LINKS, term)
+            }
+        }
+    }
+}
+
+// "the second likewise".
+pub fn judge_below(
+    env: &[u32],
+    variables: usize,
+    term: usize,
+    first: Place,
+    second: Place,
+) -> Verdict
+    requires { ⌜ TableFor (now env) variables ⌝ }
+    ensures { λ r. ⌜ answered (environmentOf (now (env .entry))) r ≡ judgeBelow variables (environmentOf (now (env .entry))) term (asPlace first) (asPlace second) ⌝ }
+{
+    let left = judge_number(env, variables, term, first);
+    if let Requirement::Refused(number, at) = left {
+        return Verdict::Refused(number, at);
+    }
+    let right = judge_number(env, variables, term, second);
+    if let Requirement::Refused(number, at) = right {
+        return Verdict::Refused(number, at);
+    }
+    number_value()
+}
+
+// "At its end the value borrows no root living in it (40), and its variables leave scope." level is that of the block
+// around.
+pub fn judge_block_end(
+    env: &mut [u32],
+    variables: usize,
+    level: u32,
+    term: usize,
+    last: Value,
+) -> Verdict
+    requires { ⌜ TableFor (now env) variables ⌝ }
+    ensures { λ r. ⌜ answered (environmentOf (now (env .exit))) r ≡ judgeBlockEnd variables level (environmentOf (now (env .entry))) term (asValue last) ⌝ }
+{
+    if !lives_at(env, variables, borrow_in(last), level) {
+        return Verdict::Refused(refusals::LIVES_TOO_SHORT, term);
+    }
+    leave_blocks(env, variables, level);
+    Verdict::Fine(last)
+}
+
+// "the whole script: the answer is a number (43, term 0)".
+pub fn judge_answer(answer: Value) -> Requirement
+    ensures { λ r. ⌜ ((nv : ℕ) → asRequirement r ≡ judgeAnswer nv (asValue answer)) ⌝ }
+{
+    let Value::Of(of) = answer else {
+        return Requirement::Refused(refusals::ANSWER_NO_NUMBER, 0);
+    };
+    if is_number(of.links) {
+        Requirement::Met
+    } else {
+        Requirement::Refused(refusals::ANSWER_NO_NUMBER, 0)
+    }
+}

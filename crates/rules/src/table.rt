@@ -1,0 +1,177 @@
+// The table of the variables, 8 words to each, and the state that they hold. No word is ever invalid, so nothing is
+// asked of a table but its length.
+ghost use mathlib.Core.Path.{_≡_};
+ghost use Prim.Native.Nat.{_<_, _≤_, _+_, _*_};
+ghost use lib.ListN.{length};
+ghost use Rattle.rules.specs.Environment.{used, live, update};
+ghost use Rattle.rules.specs.Table.{TableFor, entryWord, borrowEndAt, entryAt, environmentOf, asVariable, borrowNumber, borrowedRoot, borrowedFollows};
+
+pub struct Place {
+    pub root: u32,
+    pub follows: u32,
+}
+
+// The borrow end: which place the first borrow link borrows.
+pub enum BorrowEnd {
+    None,
+    Shared(Place),
+    Exclusive(Place),
+}
+
+// The links from moved_from on are moved away; where nothing is, moved_from is one past the boxes and the borrow link.
+pub struct VariableState {
+    pub links: u32,
+    pub moved_from: u32,
+    pub borrow_end: BorrowEnd,
+    pub level: u32,
+}
+
+pub enum Entry {
+    Free,
+    Used,
+    Live(VariableState),
+}
+
+// The words of a variable. The eighth is not used.
+pub const STATUS: usize = 0;
+
+pub const LINKS: usize = 1;
+
+pub const MOVED_FROM: usize = 2;
+
+pub const BORROW: usize = 3;
+
+pub const BORROWED_ROOT: usize = 4;
+
+pub const BORROWED_FOLLOWS: usize = 5;
+
+pub const LEVEL: usize = 6;
+
+// What STATUS holds; from LIVE on the variable is in scope.
+const FREE: u32 = 0;
+
+const USED: u32 = 1;
+
+pub const LIVE: u32 = 2;
+
+// What BORROW holds; any other number is no borrow.
+pub const SHARED: u32 = 1;
+
+pub const EXCLUSIVE: u32 = 2;
+
+pub fn wide(x: u32) -> usize
+    ensures { λ r. ⌜ r ≡ x ⌝ }
+{
+    x as usize
+}
+
+pub fn word_at(env: &[u32], x: usize, k: usize) -> u32
+    requires { ⌜ (x * 8 + 8 ≤ length (now env)) × (k < 8) ⌝ }
+    ensures { λ r. ⌜ r ≡ entryWord (now (env .entry)) x k ⌝ }
+{
+    let at = x * 8 + k;
+    env[at]
+}
+
+fn borrow_end_of(kind: u32, root: u32, follows: u32) -> BorrowEnd
+    ensures { λ r. ⌜ r ≡ borrowEndAt kind root follows ⌝ }
+{
+    let place = Place {
+        root: root,
+        follows: follows,
+    };
+    if kind == SHARED {
+        return BorrowEnd::Shared(place);
+    }
+    if kind == EXCLUSIVE {
+        return BorrowEnd::Exclusive(place);
+    }
+    BorrowEnd::None
+}
+
+// What is known of number x. A number that the table does not have is free.
+pub fn load(env: &[u32], variables: usize, x: usize) -> Entry
+    requires { ⌜ TableFor (now env) variables ⌝ }
+    ensures { λ r. ⌜ r ≡ entryAt (now (env .entry)) x ⌝ }
+{
+    if x < variables {
+        let status = word_at(env, x, STATUS);
+        if status == FREE {
+            return Entry::Free;
+        }
+        if status == USED {
+            return Entry::Used;
+        }
+        let end = borrow_end_of(
+            word_at(env, x, BORROW),
+            word_at(env, x, BORROWED_ROOT),
+            word_at(env, x, BORROWED_FOLLOWS),
+        );
+        let state = VariableState {
+            links: word_at(env, x, LINKS),
+            moved_from: word_at(env, x, MOVED_FROM),
+            borrow_end: end,
+            level: word_at(env, x, LEVEL),
+        };
+        Entry::Live(state)
+    } else {
+        Entry::Free
+    }
+}
+
+fn borrow_number(end: BorrowEnd) -> u32
+    ensures { λ r. ⌜ r ≡ borrowNumber end ⌝ }
+{
+    match end {
+        BorrowEnd::None => 0,
+        BorrowEnd::Shared(_) => SHARED,
+        BorrowEnd::Exclusive(_) => EXCLUSIVE,
+    }
+}
+
+fn borrowed_root(end: BorrowEnd) -> u32
+    ensures { λ r. ⌜ r ≡ borrowedRoot end ⌝ }
+{
+    match end {
+        BorrowEnd::None => 0,
+        BorrowEnd::Shared(place) => place.root,
+        BorrowEnd::Exclusive(place) => place.root,
+    }
+}
+
+fn borrowed_follows(end: BorrowEnd) -> u32
+    ensures { λ r. ⌜ r ≡ borrowedFollows end ⌝ }
+{
+    match end {
+        BorrowEnd::None => 0,
+        BorrowEnd::Shared(place) => place.follows,
+        BorrowEnd::Exclusive(place) => place.follows,
+    }
+}
+
+// The number x is in scope from here on, with the state.
+pub fn store(env: &mut [u32], variables: usize, x: usize, state: VariableState)
+    requires { ⌜ TableFor (now env) variables × (x < variables) ⌝ }
+    ensures { λ _. ⌜ environmentOf (now (env .exit)) ≡ update (environmentOf (now (env .entry))) x (live (asVariable state)) ⌝ }
+{
+    let end = state.borrow_end;
+    let number = borrow_number(end);
+    let root = borrowed_root(end);
+    let follows = borrowed_follows(end);
+    let row = x * 8;
+    env[row + STATUS] = LIVE;
+    env[row + LINKS] = state.links;
+    env[row + MOVED_FROM] = state.moved_from;
+    env[row + BORROW] = number;
+    env[row + BORROWED_ROOT] = root;
+    env[row + BORROWED_FOLLOWS] = follows;
+    env[row + LEVEL] = state.level;
+}
+
+// The number x is taken, and not in scope.
+pub fn take_number(env: &mut [u32], variables: usize, x: usize)
+    requires { ⌜ TableFor (now env) variables × (x < variables) ⌝ }
+    ensures { λ _. ⌜ environmentOf (now (env .exit)) ≡ update (environmentOf (now (env .entry))) x used ⌝ }
+{
+    env[x * 8 + STATUS] = USED;
+}
