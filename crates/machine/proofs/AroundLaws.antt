@@ -2,21 +2,21 @@
 use Prim.Native.Nat.{ℕ, zero, suc, _+_, _-_, _≤_, _<_}
 use native.Mathlib.Omega.{arith}
 use native.Mathlib.Numerals.{add-one}
-use mathlib.Core.Path.{_≡_, refl, sym, ap, subst, _∙_}
-use mathlib.Core.Bool.{Bool, true, false, not}
+use mathlib.Core.Path.{_≡_, refl, sym, ap, _∙_}
+use mathlib.Core.Bool.{Bool, true, false}
 use mathlib.Core.List.{List, [], _∷_}
 use lib.Dec.{eqb}
 use lib.ListN.{length, getD, set}
 use lib.Seq.{getD-set-same, getD-set-other}
 use borrow.Author.Tests.{eq-eqb, ne-eqb}
-use Rattle.reader.specs.Result.{Result, ok, err, need, pick, _>>=_}
+use Rattle.reader.specs.Result.{ok, err, need, pick, _>>=_}
 use Rattle.machine.specs.Values.{Location, variable, cell, Value, empty, owner, Row, openWith}
-use Rattle.machine.specs.Store.{Store, put, isOpen, valueIn, State, withStore, Ran, fault}
-use Rattle.machine.specs.Drop.{InOrder, dropValue, closeAll}
+use Rattle.machine.specs.Store.{Store, put, isOpen, valueIn, State, Ran, fault}
+use Rattle.machine.specs.Drop.{InOrder, dropValue}
 use Rattle.machine.specs.Run.{Outcome, runBox, runLet, runAssign, runBlockEnd}
 use Rattle.machine.specs.Encode.{locationOf, kindNumber, payload}
-use Rattle.machine.specs.Words.{valueOf, rowFrom, storeOf, Sound, Tidy, Loaded, Written}
-use Rattle.machine.specs.Parts.{stateAt, placeOf, Located, left, Dropped, since, ClosedAll, Wrote, assigned, PlaceAssigned, Stop, seen, Stood, atRow, outcome, stood, sequel, withoutValue, Fine, InnerReady, Went, Boxed, Pushed, Declared, Assigned, BlockClosed}
+use Rattle.machine.specs.Words.{valueOf, rowFrom, storeOf, Tidy, Loaded, Written}
+use Rattle.machine.specs.Parts.{stateAt, placeOf, Located, left, Dropped, since, ClosedAll, Wrote, assigned, PlaceAssigned, seen, Stood, atRow, outcome, stood, sequel, withoutValue, Fine, Boxed, Declared, Assigned, BlockClosed}
 use Rattle.machine.specs.declared.store.Entry.{Entry}
 use Rattle.machine.specs.declared.locate.Found.{Found}
 use Rattle.machine.specs.declared.around.Standing.{Standing}
@@ -126,7 +126,7 @@ box-goes w inner n few w′ q = record {
 
     stand : (opened : List ℕ) (begin : ℕ)
         → _≡_ {A = Stood} (ok ((record { store = storeOf w′; taken = inner .taken + 1; opened = since opened begin (inner .opened - begin) }, valueOf 2 (inner .taken)), inner .next))
-              (ok ((record { store = put (storeOf w) (cell (inner .taken)) (openWith (valueOf (inner .kind) (inner .payload))); taken = suc (inner .taken); opened = since opened begin (inner .opened - begin) }, owner (inner .taken)), inner .next))
+        (ok ((record { store = put (storeOf w) (cell (inner .taken)) (openWith (valueOf (inner .kind) (inner .payload))); taken = suc (inner .taken); opened = since opened begin (inner .opened - begin) }, owner (inner .taken)), inner .next))
     stand opened begin = rw (filled, value-owner 2 (inner .taken) refl, add-one)
 
 -- ---- let
@@ -193,7 +193,7 @@ module _ (w opened : List ℕ) (i x : ℕ) (inner : Standing) (n : inner .fault 
 
       stand : (begin : ℕ) → begin ≤ inner .opened
           → _≡_ {A = Stood} (ok ((record { store = storeOf w′; taken = inner .taken; opened = since opened′ begin (inner .opened + 1 - begin) }, valueOf 0 0), inner .next))
-                (ok ((record { store = put (storeOf w) (variable x) (openWith (valueOf (inner .kind) (inner .payload))); taken = inner .taken; opened = x ∷ since opened begin (inner .opened - begin) }, empty), inner .next))
+          (ok ((record { store = put (storeOf w) (variable x) (openWith (valueOf (inner .kind) (inner .payload))); taken = inner .taken; opened = x ∷ since opened begin (inner .opened - begin) }, empty), inner .next))
       stand begin h = rw (put-is, pushes begin h, empty-is)
 
 -- ---- assign
@@ -212,7 +212,7 @@ unfolding stood withoutValue assigned seen atRow
 without-stood w inner m i opened begin = go (eqb m 0)
   where
     go : (b : Bool) → _≡_ {A = Stood} (pick b (ok ((stateAt w (inner .taken) (since opened begin (inner .opened - begin)), valueOf 0 0), inner .next)) (err (record { number = m; term = i; store = storeOf w })))
-          (atRow (inner .next) (seen (pick b (noValue (stateAt w (inner .taken) (since opened begin (inner .opened - begin)))) (fault m i (stateAt w (inner .taken) (since opened begin (inner .opened - begin)))))))
+        (atRow (inner .next) (seen (pick b (noValue (stateAt w (inner .taken) (since opened begin (inner .opened - begin)))) (fault m i (stateAt w (inner .taken) (since opened begin (inner .opened - begin)))))))
     go true = rw empty-is
     go false = refl
 
@@ -256,6 +256,6 @@ end-goes w opened i begin inner n f w′ m q = record {
   where
     go : (around : ℕ) (b : Bool)
         → _≡_ {A = Stood} (pick b (ok ((stateAt w′ (inner .taken) (since opened around (begin - around)), valueOf (inner .kind) (inner .payload)), inner .next)) (err (record { number = m; term = i; store = storeOf w′ })))
-          (atRow (inner .next) (seen (pick b (ok (stateAt w′ (inner .taken) (since opened begin (inner .opened - begin)))) (fault m i (stateAt w′ (inner .taken) (since opened begin (inner .opened - begin)))) >>= λ s. ending (since opened around (begin - around)) (valueOf (inner .kind) (inner .payload)) s)))
+        (atRow (inner .next) (seen (pick b (ok (stateAt w′ (inner .taken) (since opened begin (inner .opened - begin)))) (fault m i (stateAt w′ (inner .taken) (since opened begin (inner .opened - begin)))) >>= λ s. ending (since opened around (begin - around)) (valueOf (inner .kind) (inner .payload)) s)))
     go around true = refl
     go around false = refl

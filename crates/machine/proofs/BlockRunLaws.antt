@@ -1,23 +1,23 @@
 -- The terms of a block in rows: a turn of its loop, and the block as a term.
-use Prim.Native.Nat.{ℕ, zero, suc, _+_, _-_, _*_, _≤_, _<_}
+use Prim.Native.Nat.{ℕ, zero, suc, _+_, _-_, _≤_, _<_}
 use native.Mathlib.Omega.{arith}
 use native.Mathlib.Decide.{ℕ-discrete}
 use native.Mathlib.Numerals.{sub-one}
-use mathlib.Core.Path.{_≡_, refl, sym, ap, subst, _∙_}
+use mathlib.Core.Path.{_≡_, refl, sym, ap, _∙_}
 use mathlib.Core.List.{List, []}
 use lib.IntN.{ℤ}
-use lib.ListN.{length, getD}
-use Rattle.reader.specs.Result.{Result, ok, err, _>>=_}
-use Rattle.reader.specs.Script.{Term, Terms, last, more}
-use Rattle.reader.specs.Measures.{boxesIn, boxesAll}
-use Rattle.machine.specs.Values.{Value, empty}
-use Rattle.machine.specs.Store.{State, Fault, Ran, fault}
+use lib.ListN.{length}
+use Rattle.reader.specs.Result.{ok, err, _>>=_}
+use Rattle.reader.specs.Script.{Term, Terms, last}
+use Rattle.reader.specs.Measures.{boxesAll}
+use Rattle.machine.specs.Values.{empty}
+use Rattle.machine.specs.Store.{State, Ran}
 use Rattle.machine.specs.Drop.{InOrder, dropValue}
 use Rattle.machine.specs.Run.{Outcome, runBlockEnd, run, runs}
 use Rattle.machine.specs.Answers.{bitsOf}
 use Rattle.machine.specs.RowTrees.{Decoded, tree, broken, Decodeds, trees, brokens, IsTree, IsTrees, endOf, boxesAt, boxesFrom, fieldIn, blockD, lastD, consD, moreD, decodes, someOf, treeAt, IsRest, boxesRest}
-use Rattle.machine.specs.Words.{valueOf, storeOf, Sound, Tidy}
-use Rattle.machine.specs.Parts.{stateAt, left, Dropped, runOn, since, Stop, seen, Stood, atRow, outcome, stood, sequel, withoutValue, Fine, EndReady, BlockClosed, Opened, runAt, Ready, TermReady, TermRan, runsOn, restRun, BlockReady, BlockRan}
+use Rattle.machine.specs.Words.{valueOf, Sound}
+use Rattle.machine.specs.Parts.{stateAt, left, Dropped, runOn, since, Stop, seen, Stood, atRow, outcome, stood, sequel, withoutValue, enteredAt, EndReady, BlockClosed, Opened, runAt, Ready, TermReady, TermRan, runsOn, restRun, BlockReady, BlockRan}
 use Rattle.machine.specs.declared.around.Standing.{Standing}
 use Rattle.machine.proofs.DropLaws.{drop-empty}
 use Rattle.machine.proofs.Kept.{keeps-ok}
@@ -25,8 +25,8 @@ use Rattle.machine.proofs.RunOrder.{runs-ordered}
 use Rattle.machine.proofs.WordLaws.{empty-sound, empty-is}
 use Rattle.machine.proofs.CellLaws.{left-stops, left-goes, drop-ordered}
 use Rattle.machine.proofs.AroundLaws.{stood-stops, stood-goes, since-kept}
-use Rattle.machine.proofs.RowLaws.{has-room, block-is, block-asks}
-use Rattle.machine.proofs.TermLaws.{block-run, block-cells, Went-well, went-well, same-ran, term-fine, term-taken, term-end, term-room, next-ready, next-opened}
+use Rattle.machine.proofs.RowLaws.{block-is, block-asks}
+use Rattle.machine.proofs.TermLaws.{block-run, block-cells, went-well, same-ran, term-fine, term-taken, term-room, next-ready}
 
 -- ---- what is left of a block, in rows
 
@@ -151,37 +151,37 @@ module _ (readings : List ℤ) (i : ℕ) where
 -- ---- a turn of the block's loop
 
 -- Where the loop stands: `left` terms after the term whose outcome `last` tells.
-pub record Going (rows : List ℕ) (i terms levels block : ℕ) (readings : List ℤ) (w₀ opened₀ : List ℕ) (n taken : ℕ) (w opened : List ℕ) (left : ℕ) (last : Standing) : Type 0 where
+pub record Going (rows : List ℕ) (block levels : ℕ) (readings : List ℤ) (w₀ opened₀ : List ℕ) (n taken : ℕ) (w opened : List ℕ) (left : ℕ) (last : Standing) : Type 0 where
   pub fine : last .fault ≡ 0
   pub ready : Ready rows (last .next) readings w opened (last .opened) (last .taken)
   pub sound : Sound (last .kind) (last .payload)
-  pub opens : Opened opened₀ opened n (last .opened) i (last .next)
+  pub opens : Opened opened₀ opened n (last .opened) (block + 1) (last .next)
   pub rest : IsRest (treeAt levels rows) left (last .next)
   pub cells : last .taken + boxesRest (treeAt levels rows) left (last .next) ≤ 64
-  pub is : restRun readings (treeAt levels rows) block left (last .next) (outcome w opened n last) ≡ restRun readings (treeAt levels rows) block terms i (stateAt w₀ taken [], empty)
+  pub is : restRun readings (treeAt levels rows) block left (last .next) (outcome w opened n last) ≡ restRun readings (treeAt levels rows) block (fieldIn rows block 1) (block + 1) (stateAt w₀ taken [], empty)
 
-module _ (rows : List ℕ) (i terms levels block : ℕ) (readings : List ℤ) (w₀ opened₀ : List ℕ) (n taken : ℕ) where
+module _ (rows : List ℕ) (block levels : ℕ) (readings : List ℤ) (w₀ opened₀ : List ℕ) (n taken : ℕ) where
   abbrev first : Standing
-  first = record { fault = 0; term = block; kind = 0; payload = 0; taken = taken; opened = n; next = i }
+  first = record { fault = 0; term = block; kind = 0; payload = 0; taken = taken; opened = n; next = block + 1 }
 
   first-outcome : _≡_ {A = Outcome} (outcome w₀ opened₀ n first) (stateAt w₀ taken [], empty)
   unfolding since
   first-outcome = let z : n - n ≡ 0 = omega arith in rw (z, empty-is)
 
-  pub going-starts : BlockReady rows i terms levels readings w₀ opened₀ n taken
-      → Going rows i terms levels block readings w₀ opened₀ n taken w₀ opened₀ terms (record { fault = 0; term = block; kind = 0; payload = 0; taken = taken; opened = n; next = i })
+  pub going-starts : BlockReady rows block levels readings w₀ opened₀ n taken
+      → Going rows block levels readings w₀ opened₀ n taken w₀ opened₀ (fieldIn rows block 1) (record { fault = 0; term = block; kind = 0; payload = 0; taken = taken; opened = n; next = block + 1 })
   going-starts g = record {
     fine = refl;
     ready = g .ready;
     sound = empty-sound;
-    opens = record { kept = λ k h. refl; more = omega arith; few = omega arith; listed = g .ready .listed; room = g .room };
+    opens = record { kept = λ k h. refl; more = omega arith; few = omega arith; listed = g .ready .listed; room = let z = g .room in omega arith };
     rest = g .is;
     cells = g .cells;
-    is = ap (restRun readings (treeAt levels rows) block terms i) first-outcome;
+    is = ap (restRun readings (treeAt levels rows) block (fieldIn rows block 1) (block + 1)) first-outcome;
   }
 
-  module _ (w opened : List ℕ) (left₁ : ℕ) (last : Standing) (g : Going rows i terms levels block readings w₀ opened₀ n taken w opened left₁ last) where
-    pub going-ends : left₁ ≤ 0 → BlockRan rows i terms levels block readings w₀ opened₀ n taken w opened last
+  module _ (w opened : List ℕ) (left₁ : ℕ) (last : Standing) (g : Going rows block levels readings w₀ opened₀ n taken w opened left₁ last) where
+    pub going-ends : left₁ ≤ 0 → BlockRan rows block levels readings w₀ opened₀ n taken w opened last
     unfolding restRun
     going-ends h = record {
       tidy = g .ready .tidy;
@@ -198,14 +198,14 @@ module _ (rows : List ℕ) (i terms levels block : ℕ) (readings : List ℤ) (w
       drop-is = d .is block (last .taken) (since opened n (last .opened - n)) (g .ready .ordered)
 
       turn : (seen (left w₁ (last .taken) (since opened n (last .opened - n)) block m) >>= λ s. runsOn readings (decodes (treeAt levels rows) (left₁ - 1) (last .next)) block s)
-          ≡ restRun readings (treeAt levels rows) block terms i (stateAt w₀ taken [], empty)
+          ≡ restRun readings (treeAt levels rows) block (fieldIn rows block 1) (block + 1) (stateAt w₀ taken [], empty)
       turn =
           ap (λ (x : Ran State). seen x >>= λ s. runsOn readings (decodes (treeAt levels rows) (left₁ - 1) (last .next)) block s) drop-is
           ∙ sym (rest-drop readings block (treeAt levels rows) left₁ (last .next) (outcome w opened n last) some)
           ∙ g .is
 
       -- The drop faults.
-      pub going-drops : (m ≡ 0 → ⊥) → (r : Standing) → r ≡ withoutValue last m block → BlockRan rows i terms levels block readings w₀ opened₀ n taken w₁ opened r
+      pub going-drops : (m ≡ 0 → ⊥) → (r : Standing) → r ≡ withoutValue last m block → BlockRan rows block levels readings w₀ opened₀ n taken w₁ opened r
       unfolding withoutValue stood seen _>>=_
       going-drops z r e = record {
         tidy = d .tidy;
@@ -219,7 +219,7 @@ module _ (rows : List ℕ) (i terms levels block : ℕ) (readings : List ℤ) (w
 
       module _ (z : m ≡ 0) where
         gone : runsOn readings (decodes (treeAt levels rows) (left₁ - 1) (last .next)) block (stateAt w₁ (last .taken) (since opened n (last .opened - n)))
-            ≡ restRun readings (treeAt levels rows) block terms i (stateAt w₀ taken [], empty)
+            ≡ restRun readings (treeAt levels rows) block (fieldIn rows block 1) (block + 1) (stateAt w₀ taken [], empty)
         unfolding seen _>>=_
         gone =
             sym (ap (λ (x : Ran State). seen x >>= λ s. runsOn readings (decodes (treeAt levels rows) (left₁ - 1) (last .next)) block s) (left-goes w₁ (last .taken) (since opened n (last .opened - n)) block m z))
@@ -244,7 +244,7 @@ module _ (rows : List ℕ) (i terms levels block : ℕ) (readings : List ℤ) (w
           stood-is = t .is n (g .opens .more)
 
           -- The term faults.
-          pub going-stops : (r .fault ≡ 0 → ⊥) → BlockRan rows i terms levels block readings w₀ opened₀ n taken w₂ opened₂ r
+          pub going-stops : (r .fault ≡ 0 → ⊥) → BlockRan rows block levels readings w₀ opened₀ n taken w₂ opened₂ r
           going-stops y = record {
             tidy = t .tidy;
             is =
@@ -256,7 +256,7 @@ module _ (rows : List ℕ) (i terms levels block : ℕ) (readings : List ℤ) (w
           }
 
           -- The term has an outcome.
-          pub going-goes : r .fault ≡ 0 → length opened₂ ≡ 512 → Going rows i terms levels block readings w₀ opened₀ n taken w₂ opened₂ (left₁ - 1) r
+          pub going-goes : r .fault ≡ 0 → length opened₂ ≡ 512 → Going rows block levels readings w₀ opened₀ n taken w₂ opened₂ (left₁ - 1) r
           going-goes y long =
               let o = t .opens y in
               let x = went-well readings (treeAt levels rows (last .next)) (stateAt w₁ (last .taken) (since opened n (last .opened - n))) w₂ opened₂ n r y stood-is in
@@ -282,6 +282,10 @@ module _ (rows : List ℕ) (i terms levels block : ℕ) (readings : List ℤ) (w
                     ∙ gone;
               }
 
+pub going-enters : (rows : List ℕ) (block levels : ℕ) (readings : List ℤ) (w opened : List ℕ) (n taken : ℕ) → BlockReady rows block levels readings w opened n taken → (l : ℕ) → l ≡ fieldIn rows block 1 → (a : Standing) → a ≡ enteredAt block n taken → Going rows block levels readings w opened n taken w opened l a
+unfolding enteredAt
+going-enters rows block levels readings w opened n taken g l el a ea = rw (el, ea) (going-starts rows block levels readings w opened n taken g)
+
 -- ---- the block as a term
 
 some-rest : (f : ℕ → Decoded) (n at : ℕ) → IsTrees (someOf f n at) → IsRest f n at
@@ -305,27 +309,27 @@ unfolding sequel
 any-rule w opened begin r f g n = rw (stood-stops w opened begin r n)
 
 module _ (rows : List ℕ) (i levels : ℕ) (readings : List ℤ) (w opened : List ℕ) (n taken : ℕ) (g : TermReady rows i levels readings w opened n taken)
-         (e : fieldIn rows i 0 ≡ 11) (count : ℕ) (ec : count ≡ fieldIn rows i 1) where
-  asks : IsTrees (someOf (treeAt (levels - 1) rows) count (i + 1))
-  asks = rw ec (block-asks levels rows i (g .is) e)
+    (e : fieldIn rows i 0 ≡ 11) where
+  asks : IsTrees (someOf (treeAt (levels - 1) rows) (fieldIn rows i 1) (i + 1))
+  asks = block-asks levels rows i (g .is) e
 
-  is-block : treeAt levels rows i ≡ blockD i (someOf (treeAt (levels - 1) rows) count (i + 1))
-  is-block = block-is levels rows i (g .is) e ∙ ap (λ (k : ℕ). blockD i (someOf (treeAt (levels - 1) rows) k (i + 1))) (sym ec)
+  is-block : treeAt levels rows i ≡ blockD i (someOf (treeAt (levels - 1) rows) (fieldIn rows i 1) (i + 1))
+  is-block = block-is levels rows i (g .is) e
 
-  pub block-ready : BlockReady rows (i + 1) count (levels - 1) readings w opened n taken
+  pub block-ready : BlockReady rows i (levels - 1) readings w opened n taken
   block-ready = record {
     ready = next-ready rows i readings w opened n taken (g .ready);
-    room = term-room rows i levels readings w opened n taken g;
-    is = some-rest (treeAt (levels - 1) rows) count (i + 1) asks;
+    room = let z = term-room rows i levels readings w opened n taken g in omega arith;
+    is = some-rest (treeAt (levels - 1) rows) (fieldIn rows i 1) (i + 1) asks;
     cells =
         let a = g .cells in
-        let b = ap boxesAt is-block ∙ block-cells i (someOf (treeAt (levels - 1) rows) count (i + 1)) asks ∙ sym (some-cells (treeAt (levels - 1) rows) count (i + 1)) in
+        let b = ap boxesAt is-block ∙ block-cells i (someOf (treeAt (levels - 1) rows) (fieldIn rows i 1) (i + 1)) asks ∙ sym (some-cells (treeAt (levels - 1) rows) (fieldIn rows i 1) (i + 1)) in
         omega arith;
   }
 
-  module _ (w₁ opened₁ : List ℕ) (inner : Standing) (t : BlockRan rows (i + 1) count (levels - 1) i readings w opened n taken w₁ opened₁ inner) where
-    runs-is : stood w₁ opened₁ n inner ≡ runsOn readings (someOf (treeAt (levels - 1) rows) count (i + 1)) i (stateAt w taken [])
-    runs-is = t .is ∙ some-run readings (treeAt (levels - 1) rows) i count (i + 1) (stateAt w taken []) asks
+  module _ (w₁ opened₁ : List ℕ) (inner : Standing) (t : BlockRan rows i (levels - 1) readings w opened n taken w₁ opened₁ inner) where
+    runs-is : stood w₁ opened₁ n inner ≡ runsOn readings (someOf (treeAt (levels - 1) rows) (fieldIn rows i 1) (i + 1)) i (stateAt w taken [])
+    runs-is = t .is ∙ some-run readings (treeAt (levels - 1) rows) i (fieldIn rows i 1) (i + 1) (stateAt w taken []) asks
 
     runs-fine : (ds : Decodeds) → IsTrees ds → inner .fault ≡ 0 → stood w₁ opened₁ n inner ≡ runsOn readings ds i (stateAt w taken []) → InOrder (stateAt w₁ (inner .taken) [])
     unfolding runsOn
@@ -335,7 +339,7 @@ module _ (rows : List ℕ) (i levels : ℕ) (readings : List ℤ) (w opened : Li
 
     pub block-ending : length opened₁ ≡ 512 → EndReady w₁ opened₁ n inner
     block-ending long = record {
-      ready = record { tidy = t .tidy; fine = λ z. record { sound = t .sound z; ordered = runs-fine (someOf (treeAt (levels - 1) rows) count (i + 1)) asks z runs-is } };
+      ready = record { tidy = t .tidy; fine = λ z. record { sound = t .sound z; ordered = runs-fine (someOf (treeAt (levels - 1) rows) (fieldIn rows i 1) (i + 1)) asks z runs-is } };
       listed = λ z. t .opens z .listed;
       begun = λ z. t .opens z .more;
       few = λ z. let o = t .opens z in let a = o .few in let b = o .room in let c = g .ready .few in omega arith;
@@ -347,7 +351,7 @@ module _ (rows : List ℕ) (i levels : ℕ) (readings : List ℤ) (w opened : Li
       is = λ begin h.
           b .is begin ∙ around begin h (ℕ-discrete (inner .fault) 0)
           ∙ ap (λ (m : Stood). sequel m (λ o. runBlockEnd i (since opened begin (n - begin)) o)) runs-is
-          ∙ block-run readings i w taken (since opened begin (n - begin)) (someOf (treeAt (levels - 1) rows) count (i + 1)) asks
+          ∙ block-run readings i w taken (since opened begin (n - begin)) (someOf (treeAt (levels - 1) rows) (fieldIn rows i 1) (i + 1)) asks
           ∙ ap (λ (d : Decoded). runAt readings d (stateAt w taken (since opened begin (n - begin)))) (sym is-block);
       sound = λ z. b .went z .sound;
       opens = λ z.

@@ -1,8 +1,6 @@
 -- Dropping values and closing variables, on the lent numbers.
-use Prim.Native.Nat.{ℕ, zero, suc, _+_, _-_, _≤_, _<_}
+use Prim.Native.Nat.{ℕ, suc, _+_, _-_, _≤_, _<_}
 use native.Mathlib.Omega.{arith}
-use native.Mathlib.Numerals.{sub-one}
-use native.Mathlib.Nat.{add-zero}
 use mathlib.Core.Path.{_≡_, refl, sym, ap, subst, _∙_}
 use mathlib.Core.Bool.{Bool, true, false}
 use mathlib.Core.List.{List, [], _∷_}
@@ -10,15 +8,15 @@ use lib.Dec.{eqb}
 use lib.ListN.{getD}
 use borrow.Author.Tests.{eq-eqb, ne-eqb}
 use Rattle.reader.specs.Result.{Result, ok, err, pick, _>>=_}
-use Rattle.machine.specs.Values.{Location, variable, cell, Value, empty, num, owner, reference, Row, closed, givenBack, openWith}
+use Rattle.machine.specs.Values.{Location, variable, cell, Value, empty, num, reference, Row, closed, givenBack, openWith}
 use Rattle.machine.specs.Store.{Store, put, isOpen, valueIn, State, withStore, Ran, fault}
-use Rattle.machine.specs.Drop.{Dropping, giveBack, dropStep, cellsLeft, InOrder, dropValue, closeAll}
+use Rattle.machine.specs.Drop.{cellsLeft, InOrder, dropValue, closeAll}
 use Rattle.machine.specs.Encode.{locationOf}
-use Rattle.machine.specs.Words.{valueOf, rowFrom, storeOf, Sound, Tidy, Loaded, Written}
-use Rattle.machine.specs.Parts.{stateAt, left, Dropped, ClosedOne, since, Listed, ClosedAll}
+use Rattle.machine.specs.Words.{valueOf, rowFrom, storeOf, Tidy, Loaded, Written}
+use Rattle.machine.specs.Parts.{stateAt, left, Dropped, ClosedOne, since, ClosedAll}
 use Rattle.machine.specs.declared.store.Entry.{Entry}
 use Rattle.machine.proofs.StoreLaws.{put-other}
-use Rattle.machine.proofs.DropLaws.{without, without-in-order, one-fewer, drop-is, drop-owner, drop-empty, drop-num, drop-reference}
+use Rattle.machine.proofs.DropLaws.{without, without-in-order, one-fewer, drop-owner, drop-not-open, drop-empty, drop-num, drop-reference}
 use Rattle.machine.proofs.Kept.{Lasting, keeps-ok, drop-keeps, close-keeps}
 use Rattle.machine.proofs.EncodeLaws.{variable-location, cell-location}
 use Rattle.machine.proofs.WordLaws.{back-is, closed-is, out-cell}
@@ -43,23 +41,16 @@ drop-other w k p n t = record { tidy = t; is = λ i taken opened h. sym (rw (ne-
     go false true i s = drop-reference i s (locationOf 64 p)
     go false false i s = drop-empty i s
 
-shut-back : (i : ℕ) (s : State) (c : ℕ) (q : Row) (f : Dropping) → isOpen q ≡ false → giveBack i s c q f ≡ fault 63 i s
-unfolding giveBack isOpen
-shut-back i s c closed f h = refl
-shut-back i s c givenBack f h = refl
-shut-back i s c (openWith v) f h = let z : _≡_ {A = Bool} true false = h in let y : _≡_ {A = ℕ} 0 1 = cc in absurd (omega arith)
-
 module _ (w : List ℕ) (k p : ℕ) (o : k ≡ 2) (e : Entry) (l : Loaded w (64 + p) e) where
   cell-row : storeOf w (cell p) ≡ storeOf w (locationOf 64 (64 + p))
   cell-row = ap (storeOf w) (sym (cell-location 64 p))
 
   pub drop-shut : (e .state ≡ 1 → ⊥) → Tidy w → Dropped w k p w 63
-  unfolding left dropStep
+  unfolding left
   drop-shut n t = record {
     tidy = t;
     is = λ i taken opened h.
-        sym (ap (dropValue i (stateAt w taken opened)) (value-owner k p o) ∙ drop-is (stateAt w taken opened) h i (owner p)
-             ∙ shut-back i (stateAt w taken opened) p (storeOf w (cell p)) (dropValue i) (ap isOpen cell-row ∙ loaded-shut w (64 + p) e l n));
+        sym (ap (dropValue i (stateAt w taken opened)) (value-owner k p o) ∙ drop-not-open i (stateAt w taken opened) p (ap isOpen cell-row ∙ loaded-shut w (64 + p) e l n));
   }
 
   module _ (n : e .state ≡ 1) (w₁ : List ℕ) (q : Written w (64 + p) 2 0 0 w₁) where
@@ -90,23 +81,20 @@ module _ (w : List ℕ) (k p : ℕ) (o : k ≡ 2) (e : Entry) (l : Loaded w (64 
 
 -- ---- closing
 
-pub in-order-any : (w : List ℕ) (taken : ℕ) (a b : List ℕ) → InOrder (stateAt w taken a) → InOrder (stateAt w taken b)
-in-order-any w taken a b h = h
-
 cell≢variable : {c x : ℕ} → cell c ≡ variable x → ⊥
 cell≢variable e = let z : _≡_ {A = ℕ} 0 1 = cc in omega arith
 
 variable-kept : (s : State) (x : ℕ) (r : Row) → InOrder s → InOrder (withStore s (put (s .store) (variable x) r))
 variable-kept s x r h c l = put-other (s .store) (variable x) r (cell c) cell≢variable ∙ h c l
 
-stable : Lasting InOrder
-stable = record { back = λ s c v e h. without-in-order s h c v e; close = λ s x h. variable-kept s x closed h }
+lasting : Lasting InOrder
+lasting = record { back = λ s c v e h. without-in-order s h c v e; close = λ s x h. variable-kept s x closed h }
 
 pub drop-ordered : (i : ℕ) (s : State) (v : Value) → InOrder s → (s′ : State) → dropValue i s v ≡ ok s′ → InOrder s′
-drop-ordered i s v h s′ e = keeps-ok (drop-keeps stable i s v h) s′ e
+drop-ordered i s v h s′ e = keeps-ok (drop-keeps lasting i s v h) s′ e
 
 pub close-ordered : (i : ℕ) (s : State) (xs : List ℕ) → InOrder s → (s′ : State) → closeAll i s xs ≡ ok s′ → InOrder s′
-close-ordered i s xs h s′ e = keeps-ok (close-keeps stable i xs s h) s′ e
+close-ordered i s xs h s′ e = keeps-ok (close-keeps lasting i xs s h) s′ e
 
 bind-ok : {E A : Type 0} (m : Result E A) → (m >>= λ a. ok a) ≡ m
 unfolding _>>=_
@@ -127,7 +115,7 @@ close-one w x h e l w₁ q w₂ n d = record {
     shut : (taken : ℕ) (opened : List ℕ) → stateAt w₁ taken opened ≡ withStore (stateAt w taken opened) (put (storeOf w) (variable x) closed)
     shut taken opened =
         ap (λ (S : Store). record { store = S; taken = taken; opened = opened })
-           (q .is ∙ ap (λ (m : Location). put (storeOf w) m (rowFrom 0 0 0)) (variable-location 64 x h) ∙ ap (put (storeOf w) (variable x)) closed-is)
+        (q .is ∙ ap (λ (m : Location). put (storeOf w) m (rowFrom 0 0 0)) (variable-location 64 x h) ∙ ap (put (storeOf w) (variable x)) closed-is)
 
 since-last : (opened : List ℕ) (b n : ℕ) → b < n → since opened b (n - b) ≡ getD opened (n - 1) 0 ∷ since opened b (n - 1 - b)
 unfolding since

@@ -31,7 +31,7 @@ use Rattle.machine.proofs.Finding.{along, Found, whole-along, reads, nu
 use Rattle.machine.proofs.Following.{judged-found, is-whole}
 use Rattle.machine.proofs.Progress.{Progress, unchanged}
 use Rattle.machine.proofs.NewValue.{new-value}
-use Rattle.machine.proofs.NumberTerms.{case-number, run-num}
+use Rattle.machine.proofs.Numbers.{case-number, run-num}
 use Rattle.machine.proofs.Borrowing.{from}
 
 module _ {nv : ℕ} {Γ : Environment} {lv : ℕ} {s : State} (I : Invariant nv Γ none lv s empty) where

@@ -3,25 +3,23 @@ use Prim.Native.Nat.{ℕ, zero, suc, _+_, _*_, _≤_, _<_, max}
 use native.Mathlib.Omega.{arith}
 use native.Mathlib.Numerals.{add-one}
 use native.Mathlib.Nat.{add-zero}
-use mathlib.Core.Path.{_≡_, refl, sym, ap, subst, _∙_}
-use mathlib.Core.Bool.{true}
+use mathlib.Core.Path.{_≡_, refl, ap, _∙_}
 use mathlib.Core.Option.{Option, some}
-use mathlib.Core.List.{List, [], _∷_, _++_}
-use lib.Dec.{ltb, leb}
+use mathlib.Core.List.{List}
 use lib.ListN.{length, getD}
 use borrow.Author.Tests.{le-leb, lt-ltb}
 use Rattle.reader.specs.Result.{ok}
-use Rattle.reader.specs.Limits.{Limits, base, rowNumbers}
-use Rattle.reader.specs.Script.{Place, Term, Terms, number, reading, copy, move, borrowShared, borrowExclusive, box, declare, assign, below, block, last, more}
+use Rattle.reader.specs.Limits.{base, rowNumbers}
+use Rattle.reader.specs.Script.{Term, Terms, number, reading, copy, move, borrowShared, borrowExclusive, box, declare, assign, below, block, last, more}
 use Rattle.reader.specs.Kinds.{Kind, kNumber, kReading, kCopy, kMove, kShared, kExclusive, kBox, kLet, kAssign, kBelow, kBlock, byteOf, fields}
 use Rattle.reader.specs.Layout.{inRows, others, lay, lays}
 use Rattle.reader.specs.Reader.{decode}
 use Rattle.reader.specs.Measures.{size, sizes, boxesIn, depth, depths, kindIn}
-use Rattle.reader.specs.Within.{Formed, FormedAll, Within, Under}
+use Rattle.reader.specs.Within.{Formed, FormedAll, Under}
 use Rattle.reader.proofs.View.{Stands, Row, row, in-box, in-let, in-assign, in-block, at-last, at-more, stands, values}
 use Rattle.reader.proofs.RoundTrip.{decoded}
 use Rattle.reader.proofs.Lists.{under-all}
-use Rattle.machine.specs.RowTrees.{Decoded, tree, Decodeds, trees, IsTree, boxesAt, fieldIn, placeIn, rowKind, boxD, letD, assignD, blockD, lastD, consD, moreD, whenD, decodes, someOf, decodeAs, treeAt}
+use Rattle.machine.specs.RowTrees.{Decoded, tree, trees, rowKind, boxD, letD, assignD, blockD, lastD, consD, moreD, decodes, someOf, decodeAs, treeAt}
 
 kind-back : (k : Kind) → rowKind (byteOf k) ≡ some k
 unfolding rowKind byteOf
@@ -43,33 +41,20 @@ max-left a b l h = omega arith
 max-right : (a b l : ℕ) → max a b ≤ l → b ≤ l
 max-right a b l h = omega arith
 
-size-some : (t : Term) → 0 < size t
-unfolding size
-size-some (number i n) = omega arith
-size-some (reading i n) = omega arith
-size-some (copy i p) = omega arith
-size-some (move i p) = omega arith
-size-some (borrowShared i p) = omega arith
-size-some (borrowExclusive i p) = omega arith
-size-some (box i t) = omega arith
-size-some (declare i x t) = omega arith
-size-some (assign i p t) = omega arith
-size-some (below i p q) = omega arith
-size-some (block i ts) = omega arith
-
 module _ (rs : List ℕ) where
   -- A row with its kind known.
   row-as : (t : Term) (l i : ℕ) → Row rs i (byteOf (kindIn t)) (values t) → 5 * i + 5 ≤ length rs → treeAt (suc l) rs i ≡ decodeAs (some (kindIn t)) (treeAt l rs) rs i
   unfolding treeAt
   row-as t l i r h =
       rw (le-leb (5 * i + 5) (length rs) h)
-         (ap (λ (k : Option Kind). decodeAs k (treeAt l rs) rs i) (ap rowKind (ap (λ (k : ℕ). getD rs k 0) (add-zero (5 * i)) ∙ r .kind) ∙ kind-back (kindIn t)))
+      (ap (λ (k : Option Kind). decodeAs k (treeAt l rs) rs i) (ap rowKind (ap (λ (k : ℕ). getD rs k 0) (add-zero (5 * i)) ∙ r .kind) ∙ kind-back (kindIn t)))
 
   next-row : (i : ℕ) (d : ℕ → Decoded) → d (i + 1) ≡ d (suc i)
   next-row i d = ap d (add-one i)
 
   mutual
     unfolding Formed size depth values kindIn fields base decodeAs someOf decodes others
+
     placed : (t : Term) (l i : ℕ) → Stands rs i (lay inRows t) → Formed base i t → depth t ≤ l → 5 * (i + size t) ≤ length rs → treeAt l rs i ≡ tree t (i + size t)
     placed (number j n) zero i s f d h = absurd (omega arith)
     placed (number j n) (suc l) i s f d h =

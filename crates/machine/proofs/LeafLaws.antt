@@ -1,19 +1,19 @@
 -- The terms without an inner term, on the lent numbers.
-use Prim.Native.Nat.{ℕ, suc, _+_, _%_, _≤_, _<_}
+use Prim.Native.Nat.{ℕ, _+_, _%_, _≤_, _<_}
 use native.Mathlib.Omega.{arith}
 use mathlib.Core.Path.{_≡_, refl, sym, ap, subst, _∙_}
 use mathlib.Core.Bool.{Bool, true, false}
 use mathlib.Core.List.{List}
-use lib.Dec.{ltb, eqb}
+use lib.Dec.{eqb}
 use borrow.Author.Tests.{eq-eqb, ne-eqb, lt-ltb, le-ltb}
 use Rattle.reader.specs.Result.{ok, err, pick, _>>=_}
 use Rattle.reader.specs.Script.{Place}
-use Rattle.machine.specs.Values.{Location, variable, Value, empty, num, owner, reference, Row, openWith}
-use Rattle.machine.specs.Store.{Store, put, State, Ran, fault, withStore}
-use Rattle.machine.specs.Locate.{locateFrom, locate, filled, numberIn}
+use Rattle.machine.specs.Values.{Location, Value, empty, num, owner, reference, openWith}
+use Rattle.machine.specs.Store.{Store, put, State, Ran, fault}
+use Rattle.machine.specs.Locate.{locate, filled, numberIn}
 use Rattle.machine.specs.Run.{Outcome, runCopy, runMove, runBorrow, runNumber, less, runBelow}
-use Rattle.machine.specs.Encode.{locationOf, rowOf, kindNumber, payload}
-use Rattle.machine.specs.Words.{valueOf, rowFrom, storeOf, Sound, Tidy, Written}
+use Rattle.machine.specs.Encode.{locationOf, kindNumber, payload}
+use Rattle.machine.specs.Words.{valueOf, storeOf, Sound, Tidy, Written}
 use Rattle.machine.specs.Parts.{stateAt, placeOf, found, Located, held, Filled, gave, Copied, Moved, Borrowed, counted, Numbered, Compared}
 use Rattle.machine.specs.declared.locate.Found.{Found}
 use Rattle.machine.specs.declared.locate.Gave.{Gave}
@@ -163,11 +163,11 @@ no-number s i k p n = rw (ne-eqb k 1 n) (go (eqb k 2) (eqb k 3))
     go false true = refl
     go false false = refl
 
-pub counted-stops : (s : State) (i : ℕ) (g : Gave) → (g .fault ≡ 0 → ⊥) → counted s i g ≡ fault (g .fault) i s
+counted-stops : (s : State) (i : ℕ) (g : Gave) → (g .fault ≡ 0 → ⊥) → counted s i g ≡ fault (g .fault) i s
 unfolding counted
 counted-stops s i g n = rw (ne-eqb (g .fault) 0 n)
 
-pub counted-goes : (s : State) (i : ℕ) (g : Gave) → g .fault ≡ 0 → counted s i g ≡ ok (g .payload)
+counted-goes : (s : State) (i : ℕ) (g : Gave) → g .fault ≡ 0 → counted s i g ≡ ok (g .payload)
 unfolding counted
 counted-goes s i g n = rw (eq-eqb (g .fault) 0 n)
 

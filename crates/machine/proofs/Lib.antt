@@ -22,7 +22,7 @@ pub mod Transfer
 pub mod Naming
 pub mod Pop
 pub mod Push
-pub mod Dropped
+pub mod Dropping
 -- The typing layer, over an environment with one place for each borrow.
 pub mod Ghost
 pub mod Typing
@@ -44,7 +44,7 @@ pub mod Following
 pub mod Progress
 -- The terms: conditions give the result, and the judge gives the conditions.
 pub mod NewValue
-pub mod NumberTerms
+pub mod Numbers
 pub mod Borrowing
 pub mod Copying
 pub mod InFlight

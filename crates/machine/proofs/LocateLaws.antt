@@ -6,7 +6,7 @@ use mathlib.Core.Path.{_≡_, refl, sym, ap, subst, _∙_}
 use mathlib.Core.Bool.{Bool, true, false}
 use mathlib.Core.List.{List}
 use lib.Dec.{ltb, eqb}
-use borrow.Author.Tests.{eq-eqb, ne-eqb, eqb-true, eqb-false, ltb-true, ltb-false}
+use borrow.Author.Tests.{eq-eqb, ne-eqb}
 use Rattle.reader.specs.Result.{ok, pick, need, _>>=_}
 use Rattle.machine.specs.Values.{Location, variable, cell, Value, empty, num, owner, reference, Row, closed, givenBack, openWith}
 use Rattle.machine.specs.Store.{Store, isOpen, State, Ran, fault}
@@ -16,7 +16,6 @@ use Rattle.machine.specs.Words.{valueOf, rowFrom, storeOf, Inside, Leads
 use Rattle.machine.specs.Parts.{stateAt, found, Followed, Located, held, Filled}
 use Rattle.machine.specs.declared.store.Entry.{Entry}
 use Rattle.machine.specs.declared.locate.Found.{Found}
-use Rattle.machine.specs.declared.locate.Gave.{Gave}
 use Rattle.machine.proofs.EncodeLaws.{variable-location, cell-location}
 use Rattle.machine.proofs.WordLaws.{empty-sound}
 
@@ -48,11 +47,11 @@ kind-few (num n) = omega arith
 kind-few (owner c) = omega arith
 kind-few (reference l) = omega arith
 
-pub sound-few : (k p : ℕ) → Sound k p → k < 4
+sound-few : (k p : ℕ) → Sound k p → k < 4
 sound-few k p s = subst (λ (n : ℕ). n < 4) (s .kindIs) (kind-few (valueOf k p))
 
 -- A kind that is none of 0, 2 and 3.
-pub sound-number : (k p : ℕ) → Sound k p → (k ≡ 0 → ⊥) → (k ≡ 2 → ⊥) → (k ≡ 3 → ⊥) → k ≡ 1
+sound-number : (k p : ℕ) → Sound k p → (k ≡ 0 → ⊥) → (k ≡ 2 → ⊥) → (k ≡ 3 → ⊥) → k ≡ 1
 sound-number k p s a b c = let z = sound-few k p s in omega arith
 
 pub value-number : (k p : ℕ) → k ≡ 1 → valueOf k p ≡ num p
@@ -67,7 +66,7 @@ pub value-reference : (k p : ℕ) → k ≡ 3 → valueOf k p ≡ reference (loc
 unfolding valueOf
 value-reference k p e = rw e
 
-pub value-empty : (k p : ℕ) → k ≡ 0 → valueOf k p ≡ empty
+value-empty : (k p : ℕ) → k ≡ 0 → valueOf k p ≡ empty
 unfolding valueOf
 value-empty k p e = rw e
 
@@ -93,7 +92,7 @@ inside-back r h = go (ltb r 64) refl h
 pub owner-inside : (k p : ℕ) → Sound k p → k ≡ 2 → p < 64
 owner-inside k p s e = subst Leads (value-owner k p e) (s .leads)
 
-pub reference-inside : (k p : ℕ) → Sound k p → k ≡ 3 → p < 128
+reference-inside : (k p : ℕ) → Sound k p → k ≡ 3 → p < 128
 reference-inside k p s e = inside-back p (subst Leads (value-reference k p e) (s .leads))
 
 -- ---- following

@@ -8,19 +8,17 @@ use mathlib.Core.Option.{Option, none, some}
 use mathlib.Core.List.{List}
 use lib.Dec.{ltb, leb, eqb}
 use lib.IntN.{ℤ}
-use lib.ListN.{length, getD}
+use lib.ListN.{length}
 use borrow.Author.Tests.{leb-true, ltb-true, ne-eqb}
-use Rattle.reader.specs.Result.{ok, pick}
-use Rattle.reader.specs.Script.{Place, Term, Terms, number, reading, copy, move, borrowShared, borrowExclusive, box, declare, assign, below, block, last, more}
+use Rattle.reader.specs.Result.{pick}
+use Rattle.reader.specs.Script.{Place, reading, copy, move, below}
 use Rattle.reader.specs.Kinds.{Kind, kNumber, kReading, kCopy, kMove, kShared, kExclusive, kBox, kLet, kAssign, kBelow, kBlock}
-use Rattle.reader.specs.Measures.{boxesIn, boxesAll}
-use Rattle.machine.specs.Values.{num}
-use Rattle.machine.specs.Store.{State, Ran}
-use Rattle.machine.specs.Run.{Outcome, runCopy, runMove, runBorrow, runBelow, run}
+use Rattle.machine.specs.Store.{State}
+use Rattle.machine.specs.Run.{runBorrow, run}
 use Rattle.machine.specs.Answers.{bitsOf}
-use Rattle.machine.specs.RowTrees.{Decoded, tree, broken, Decodeds, trees, brokens, IsTree, IsTrees, endOf, boxesAt, boxesFrom, fieldIn, placeIn, rowKind, boxD, letD, assignD, blockD, lastD, consD, moreD, whenD, decodes, someOf, decodeAs, treeAt, leafAt, IsRest, boxesRest}
+use Rattle.machine.specs.RowTrees.{Decoded, tree, broken, Decodeds, trees, brokens, IsTree, IsTrees, endOf, fieldIn, placeIn, rowKind, boxD, letD, assignD, blockD, whenD, decodes, someOf, decodeAs, treeAt, leafAt}
 use Rattle.machine.specs.Words.{Tidy}
-use Rattle.machine.specs.Parts.{stateAt, placeOf, gave, Copied, Moved, Borrowed, Compared, runOn, LeafRan}
+use Rattle.machine.specs.Parts.{stateAt, Copied, Moved, Borrowed, Compared, runOn, LeafRan}
 use Rattle.machine.specs.declared.locate.Gave.{Gave}
 use Rattle.machine.proofs.LeafLaws.{Numbers, numbers-sound, numbers-gave}
 
@@ -127,7 +125,7 @@ leaf-decoded f g rows i k a b c d =
   where
     go : (b1 b2 b3 b4 b10 b5 b6 : Bool)
         → decodeAs (pick b1 (some kNumber) (pick b2 (some kReading) (pick b3 (some kCopy) (pick b4 (some kMove) (pick b10 (some kBelow) (pick b5 (some kShared) (pick b6 (some kExclusive) none))))))) f rows i
-          ≡ decodeAs (pick b1 (some kNumber) (pick b2 (some kReading) (pick b3 (some kCopy) (pick b4 (some kMove) (pick b10 (some kBelow) (pick b5 (some kShared) (pick b6 (some kExclusive) none))))))) g rows i
+        ≡ decodeAs (pick b1 (some kNumber) (pick b2 (some kReading) (pick b3 (some kCopy) (pick b4 (some kMove) (pick b10 (some kBelow) (pick b5 (some kShared) (pick b6 (some kExclusive) none))))))) g rows i
     go true b2 b3 b4 b10 b5 b6 = refl
     go false true b3 b4 b10 b5 b6 = refl
     go false false true b4 b10 b5 b6 = refl

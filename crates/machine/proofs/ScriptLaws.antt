@@ -1,31 +1,29 @@
 -- A whole run: what `run_judged` and `run` answer.
-use Prim.Native.Nat.{ℕ, zero, suc, _+_, _-_, _*_, _≤_, _<_}
+use Prim.Native.Nat.{ℕ, _-_, _<_}
 use native.Mathlib.Omega.{arith}
-use mathlib.Core.Path.{_≡_, refl, sym, ap, subst, _∙_}
-use mathlib.Core.Bool.{Bool, true, false}
+use mathlib.Core.Path.{_≡_, refl, sym, ap, _∙_}
 use mathlib.Core.List.{List, []}
-use lib.Dec.{eqb}
 use lib.IntN.{ℤ}
-use lib.ListN.{length, getD, replicate}
+use lib.ListN.{length, getD}
 use mir.Syntax.{w32}
 use mir.Val.{toZ}
 use borrow.Author.Tests.{eq-eqb, ne-eqb}
-use Rattle.reader.specs.Result.{Result, ok, err, Refusal, need, pick, _>>=_}
+use Rattle.reader.specs.Result.{Result, ok, err, Refusal, need, _>>=_}
 use Rattle.reader.specs.Limits.{base, rowNumbers}
 use Rattle.reader.specs.Script.{Term}
 use Rattle.reader.specs.Layout.{zeros}
-use Rattle.reader.specs.Measures.{size, boxesIn}
+use Rattle.reader.specs.Measures.{size}
 use Rattle.reader.specs.Reader.{decode}
 use Rattle.reader.specs.Answers.{told, rowsTree, judgedOf}
 use Rattle.reader.specs.declared.Outcome.the-variants as judgement
-use Rattle.machine.specs.Values.{cell, Value, num, closed}
-use Rattle.machine.specs.Store.{Store, State, Fault, Ran, fault}
+use Rattle.machine.specs.Values.{cell, closed}
+use Rattle.machine.specs.Store.{Store, State, Ran}
 use Rattle.machine.specs.Locate.{numberIn}
 use Rattle.machine.specs.Run.{Outcome, run, runScript}
 use Rattle.machine.specs.Encode.{encode}
-use Rattle.machine.specs.Answers.{Answer, answered, refused, faulted, Answered′, toldRun, runFits, runnable, bitsOf, ranInto, runInto, runOf}
+use Rattle.machine.specs.Answers.{answered, refused, faulted, AnswerAndStore, toldRun, runFits, runnable, bitsOf, ranInto, runInto, runOf}
 use Rattle.machine.specs.RowTrees.{Decoded, tree, broken, IsTree, endOf, boxesAt, treeAt}
-use Rattle.machine.specs.Words.{valueOf, storeOf, Tidy}
+use Rattle.machine.specs.Words.{valueOf, storeOf}
 use Rattle.machine.specs.Parts.{stateAt, since, Stop, seen, Stood, atRow, outcome, stood, runOn, runAt, TermReady, TermRan, ScriptReady, scriptOn, scriptRan}
 use Rattle.machine.specs.declared.around.Standing.{Standing}
 use Rattle.machine.specs.declared.RunOutcome.the-variants as out
@@ -42,12 +40,12 @@ abbrev start : State
 start = record { store = λ l. closed; taken = 0; opened = [] }
 
 -- What is left in the store after a fault.
-abbrev stopped : Stop → Answered′
+abbrev stopped : Stop → AnswerAndStore
 stopped s = (faulted (s .number) (s .term), encode 64 128 (s .store))
 
 module _ (readings : List ℤ) (t : Term) (w : List ℕ) (words : encode 64 128 (storeOf w) ≡ w) where
   fault-ends : (m : Ran Outcome) (n i j : ℕ) → run (bitsOf readings) t start ≡ m → _≡_ {A = Stood} (err (record { number = n; term = i; store = storeOf w })) (atRow j (seen m))
-      → _≡_ {A = Answered′} (faulted n i, w) (ranInto base (runScript (bitsOf readings) t (λ x. closed)))
+      → _≡_ {A = AnswerAndStore} (faulted n i, w) (ranInto base (runScript (bitsOf readings) t (λ x. closed)))
   unfolding atRow seen runScript ranInto base _>>=_
   fault-ends (ok o) n i j q e = let z : _≡_ {A = ℕ} 0 1 = cc in absurd (omega arith)
   fault-ends (err f) n i j q e =
@@ -55,16 +53,16 @@ module _ (readings : List ℤ) (t : Term) (w : List ℕ) (words : encode 64 128 
       ap (λ (x : List ℕ). (faulted n i, x)) (sym words) ∙ ap stopped p ∙ sym (rw q)
 
   module _ (taken : ℕ) (opened : List ℕ) (k p : ℕ) (q : run (bitsOf readings) t start ≡ ok (stateAt w taken opened, valueOf k p)) where
-    wrong-ends : (k ≡ 1 → ⊥) → _≡_ {A = Answered′} (faulted 61 0, w) (ranInto base (runScript (bitsOf readings) t (λ x. closed)))
+    wrong-ends : (k ≡ 1 → ⊥) → _≡_ {A = AnswerAndStore} (faulted 61 0, w) (ranInto base (runScript (bitsOf readings) t (λ x. closed)))
     unfolding runScript ranInto base _>>=_
     wrong-ends n = ap (λ (x : List ℕ). (faulted 61 0, x)) (sym words) ∙ sym (rw (q, no-number (stateAt w taken opened) 0 k p n))
 
-    number-ends : k ≡ 1 → _≡_ {A = Answered′} (answered (toZ w32 p) taken, w) (ranInto base (runScript (bitsOf readings) t (λ x. closed)))
+    number-ends : k ≡ 1 → _≡_ {A = AnswerAndStore} (answered (toZ w32 p) taken, w) (ranInto base (runScript (bitsOf readings) t (λ x. closed)))
     unfolding runScript ranInto base numberIn _>>=_
     number-ends n = ap (λ (x : List ℕ). (answered (toZ w32 p) taken, x)) (sym words) ∙ sym (rw (q, value-number k p n))
 
 module _ (readings : List ℤ) (t : Term) (j : ℕ) (w : List ℕ) (words : encode 64 128 (storeOf w) ≡ w) where
-  tree-faults : (n i : ℕ) → _≡_ {A = Stood} (err (record { number = n; term = i; store = storeOf w })) (runAt readings (tree t j) start) → _≡_ {A = Answered′} (faulted n i, w) (scriptOn readings (tree t j))
+  tree-faults : (n i : ℕ) → _≡_ {A = Stood} (err (record { number = n; term = i; store = storeOf w })) (runAt readings (tree t j) start) → _≡_ {A = AnswerAndStore} (faulted n i, w) (scriptOn readings (tree t j))
   unfolding runAt runOn endOf scriptOn
   tree-faults n i q = fault-ends readings t w words (run (bitsOf readings) t start) n i j refl q
 
@@ -73,11 +71,11 @@ module _ (readings : List ℤ) (t : Term) (j : ℕ) (w : List ℕ) (words : enco
     unfolding runAt runOn endOf
     tree-ran = same-ran (run (bitsOf readings) t start) (outcome w opened 0 r) (r .next) j q .0
 
-    tree-wrong : (r .kind ≡ 1 → ⊥) → _≡_ {A = Answered′} (faulted 61 0, w) (scriptOn readings (tree t j))
+    tree-wrong : (r .kind ≡ 1 → ⊥) → _≡_ {A = AnswerAndStore} (faulted 61 0, w) (scriptOn readings (tree t j))
     unfolding scriptOn
     tree-wrong k = wrong-ends readings t w words (r .taken) (since opened 0 (r .opened - 0)) (r .kind) (r .payload) tree-ran k
 
-    tree-answers : r .kind ≡ 1 → _≡_ {A = Answered′} (answered (toZ w32 (r .payload)) (r .taken), w) (scriptOn readings (tree t j))
+    tree-answers : r .kind ≡ 1 → _≡_ {A = AnswerAndStore} (answered (toZ w32 (r .payload)) (r .taken), w) (scriptOn readings (tree t j))
     unfolding scriptOn
     tree-answers k = number-ends readings t w words (r .taken) (since opened 0 (r .opened - 0)) (r .kind) (r .payload) tree-ran k
 
@@ -111,38 +109,38 @@ module _ (rows : List ℕ) (readings : List ℤ) (w : List ℕ) (g : ScriptReady
     ran = t .is 0 (omega arith) ∙ ap (λ (S : Store). runAt readings (treeAt 16 rows 0) (record { store = S; taken = 0; opened = [] })) closed-now
 
     -- A fault of a term.
-    pub script-faults : (r .fault ≡ 0 → ⊥) → _≡_ {A = Answered′} (toldRun (out.Faulted (r .fault) (r .term)), w₂) (scriptRan rows readings)
+    pub script-faults : (r .fault ≡ 0 → ⊥) → _≡_ {A = AnswerAndStore} (toldRun (out.Faulted (r .fault) (r .term)), w₂) (scriptRan rows readings)
     unfolding scriptRan toldRun
     script-faults n = go (treeAt 16 rows 0) (g .is) (sym (stood-stops w₂ opened₂ 0 r n) ∙ ran)
       where
         go : (d : Decoded) → IsTree d → _≡_ {A = Stood} (err (record { number = r .fault; term = r .term; store = storeOf w₂ })) (runAt readings d start)
-            → _≡_ {A = Answered′} (faulted (r .fault) (r .term), w₂) (scriptOn readings d)
+            → _≡_ {A = AnswerAndStore} (faulted (r .fault) (r .term), w₂) (scriptOn readings d)
         go (tree x j) h q = tree-faults readings x j w₂ (t .tidy .words) (r .fault) (r .term) q
         go broken h q = absurd h
 
     module _ (n : r .fault ≡ 0) where
       -- The answer is no number.
-      pub script-wrong : (r .kind ≡ 1 → ⊥) → _≡_ {A = Answered′} (toldRun (out.Faulted 61 0), w₂) (scriptRan rows readings)
+      pub script-wrong : (r .kind ≡ 1 → ⊥) → _≡_ {A = AnswerAndStore} (toldRun (out.Faulted 61 0), w₂) (scriptRan rows readings)
       unfolding scriptRan toldRun
       script-wrong k = go (treeAt 16 rows 0) (g .is) (sym (stood-goes w₂ opened₂ 0 r n) ∙ ran)
         where
-          go : (d : Decoded) → IsTree d → _≡_ {A = Stood} (ok (outcome w₂ opened₂ 0 r, r .next)) (runAt readings d start) → _≡_ {A = Answered′} (faulted 61 0, w₂) (scriptOn readings d)
+          go : (d : Decoded) → IsTree d → _≡_ {A = Stood} (ok (outcome w₂ opened₂ 0 r, r .next)) (runAt readings d start) → _≡_ {A = AnswerAndStore} (faulted 61 0, w₂) (scriptOn readings d)
           go (tree x j) h q = tree-wrong readings x j w₂ (t .tidy .words) opened₂ r q k
           go broken h q = absurd h
 
       -- The answer.
-      pub script-answers : r .kind ≡ 1 → (a : ℤ) → a ≡ toZ w32 (r .payload) → _≡_ {A = Answered′} (toldRun (out.Answered a (r .taken)), w₂) (scriptRan rows readings)
+      pub script-answers : r .kind ≡ 1 → (a : ℤ) → a ≡ toZ w32 (r .payload) → _≡_ {A = AnswerAndStore} (toldRun (out.Answered a (r .taken)), w₂) (scriptRan rows readings)
       unfolding scriptRan toldRun
       script-answers k a ea = rw ea (go (treeAt 16 rows 0) (g .is) (sym (stood-goes w₂ opened₂ 0 r n) ∙ ran))
         where
           go : (d : Decoded) → IsTree d → _≡_ {A = Stood} (ok (outcome w₂ opened₂ 0 r, r .next)) (runAt readings d start)
-              → _≡_ {A = Answered′} (answered (toZ w32 (r .payload)) (r .taken), w₂) (scriptOn readings d)
+              → _≡_ {A = AnswerAndStore} (answered (toZ w32 (r .payload)) (r .taken), w₂) (scriptOn readings d)
           go (tree x j) h q = tree-answers readings x j w₂ (t .tidy .words) opened₂ r q k
           go broken h q = absurd h
 
 -- ---- the public function
 
-refused-rows : (readings : List ℤ) (w : List ℕ) (m : Result Refusal Term) (n p : ℕ) → _≡_ {A = Result Refusal ℕ} (err (n, p)) (m >>= λ t. ok (size t)) → _≡_ {A = Answered′} (refused n p, w) (runInto base readings w m)
+refused-rows : (readings : List ℤ) (w : List ℕ) (m : Result Refusal Term) (n p : ℕ) → _≡_ {A = Result Refusal ℕ} (err (n, p)) (m >>= λ t. ok (size t)) → _≡_ {A = AnswerAndStore} (refused n p, w) (runInto base readings w m)
 unfolding runInto _>>=_
 refused-rows readings w (ok t) n p q = let z : _≡_ {A = ℕ} 0 1 = cc in absurd (omega arith)
 refused-rows readings w (err e) n p q = let z : _≡_ {A = Refusal} (n, p) e = cc in ap (λ (x : Refusal). (refused (x .0) (x .1), w)) z
@@ -153,17 +151,17 @@ accepted-rows (ok t) n q = (t, refl)
 accepted-rows (err e) n q = let z : _≡_ {A = ℕ} 0 1 = cc in absurd (omega arith)
 
 module _ (rows : List ℕ) (readings : List ℤ) (w : List ℕ) where
-  pub rows-length : (length rows ≡ 2560 → ⊥) → _≡_ {A = Answered′} (toldRun (out.Refused 2 0), w) (runOf base rows readings w)
+  pub rows-length : (length rows ≡ 2560 → ⊥) → _≡_ {A = AnswerAndStore} (toldRun (out.Refused 2 0), w) (runOf base rows readings w)
   unfolding toldRun runOf runInto runnable runFits rowNumbers base need _>>=_
   rows-length n = rw (ne-eqb (length rows) 2560 n)
 
   module _ (a : length rows ≡ 2560) where
-    pub store-length : (length w ≡ 384 → ⊥) → _≡_ {A = Answered′} (toldRun (out.Refused 3 0), w) (runOf base rows readings w)
+    pub store-length : (length w ≡ 384 → ⊥) → _≡_ {A = AnswerAndStore} (toldRun (out.Refused 3 0), w) (runOf base rows readings w)
     unfolding toldRun runOf runInto runnable runFits rowNumbers base need _>>=_
     store-length n = rw (eq-eqb (length rows) 2560 a, ne-eqb (length w) 384 n)
 
     module _ (b : length w ≡ 384) where
-      pub readings-length : (length readings ≡ 8 → ⊥) → _≡_ {A = Answered′} (toldRun (out.Refused 4 0), w) (runOf base rows readings w)
+      pub readings-length : (length readings ≡ 8 → ⊥) → _≡_ {A = AnswerAndStore} (toldRun (out.Refused 4 0), w) (runOf base rows readings w)
       unfolding toldRun runOf runInto runnable runFits rowNumbers base need _>>=_
       readings-length n = rw (eq-eqb (length rows) 2560 a, eq-eqb (length w) 384 b, ne-eqb (length readings) 8 n)
 
@@ -177,11 +175,11 @@ module _ (rows : List ℕ) (readings : List ℤ) (w : List ℕ) where
         judged-decoded = rw (eq-eqb (length rows) 2560 a)
 
         -- The rows are refused.
-        pub rows-refused : (n p : ℕ) → told (judgement.Refused n p) ≡ judgedOf base rows → _≡_ {A = Answered′} (toldRun (out.Refused n p), w) (runOf base rows readings w)
+        pub rows-refused : (n p : ℕ) → told (judgement.Refused n p) ≡ judgedOf base rows → _≡_ {A = AnswerAndStore} (toldRun (out.Refused n p), w) (runOf base rows readings w)
         unfolding toldRun runOf told
         rows-refused n p q = go (decode base rows) (q ∙ judged-decoded) ∙ ap (runInto base readings w) (sym runs-decoded)
           where
-            go : (m : Result Refusal Term) → _≡_ {A = Result Refusal ℕ} (err (n, p)) (m >>= λ t. ok (size t)) → _≡_ {A = Answered′} (refused n p, w) (runInto base readings w m)
+            go : (m : Result Refusal Term) → _≡_ {A = Result Refusal ℕ} (err (n, p)) (m >>= λ t. ok (size t)) → _≡_ {A = AnswerAndStore} (refused n p, w) (runInto base readings w m)
             go m q = refused-rows readings w m n p q
 
         -- They are accepted.

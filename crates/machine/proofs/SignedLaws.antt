@@ -1,5 +1,5 @@
 -- Signed numbers of 32 bits: by cases on the sign each fact is one of naturals.
-use mathlib.Core.Path.{_≡_, refl, sym}
+use mathlib.Core.Path.{_≡_, refl}
 use mathlib.Core.Bool.{Bool, true, false, cond}
 use Prim.Native.Nat.{ℕ, suc, _-_, _^_, _<_, _≤_}
 use native.Mathlib.Omega.{arith}
@@ -80,6 +80,3 @@ down-small b h k = rw (down-is b h) (record { sfits = omega arith })
 
 pub down-number : (b : ℕ) → b < 4294967296 → 2147483648 ≤ b → pos b -ℤ pos 4294967296 ≡ toZ w32 b
 down-number b h k = rw (down-is b h, high b k)
-
-pub low-number : (b : ℕ) → b < 2147483648 → pos b ≡ toZ w32 b
-low-number b h = sym (low b h)

@@ -18,7 +18,7 @@ use Rattle.machine.proofs.Results.{then, after, needed}
 use Rattle.machine.proofs.Inversion.{was-free, update-same, update-other}
 use Rattle.machine.proofs.Invariant.{Invariant}
 use Rattle.machine.proofs.Progress.{Progress, and-then}
-use Rattle.machine.proofs.NumberTerms.{case-number, case-below}
+use Rattle.machine.proofs.Numbers.{case-number, case-below}
 use Rattle.machine.proofs.Borrowing.{case-shared, case-exclusive}
 use Rattle.machine.proofs.Copying.{case-copy}
 use Rattle.machine.proofs.Moving.{case-move}

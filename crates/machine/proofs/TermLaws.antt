@@ -1,38 +1,37 @@
 -- Terms in rows: what each kind asks of its inner term, and what its answer is then.
-use Prim.Native.Nat.{ℕ, zero, suc, _+_, _-_, _*_, _≤_, _<_}
+use Prim.Native.Nat.{ℕ, suc, _+_, _-_, _≤_, _<_}
 use native.Mathlib.Omega.{arith}
 use native.Mathlib.Decide.{ℕ-discrete}
 use mathlib.Core.Path.{_≡_, refl, sym, ap, subst, _∙_}
 use mathlib.Core.Bool.{Bool, true, false}
-use mathlib.Core.List.{List, [], _∷_}
+use mathlib.Core.List.{List, []}
 use lib.Dec.{eqb}
 use lib.IntN.{ℤ}
 use lib.ListN.{length, getD, set}
 use lib.Seq.{getD-set-same, getD-set-other}
-use Rattle.reader.specs.Result.{Result, ok, err, pick, _>>=_}
-use Rattle.reader.specs.Script.{Place, Term, Terms, box, declare, assign, block}
-use Rattle.reader.specs.Measures.{boxesIn, boxesAll}
-use Rattle.machine.specs.Values.{Value, empty}
-use Rattle.machine.specs.Store.{State, Fault, Ran, fault}
-use Rattle.machine.specs.Drop.{InOrder, dropValue}
+use Rattle.reader.specs.Result.{ok, err, pick, _>>=_}
+use Rattle.reader.specs.Script.{Place}
+use Rattle.reader.specs.Measures.{boxesIn}
+use Rattle.machine.specs.Values.{Value}
+use Rattle.machine.specs.Store.{State, Ran, fault}
+use Rattle.machine.specs.Drop.{InOrder}
 use Rattle.machine.specs.Run.{Outcome, runBox, runLet, runAssign, runBlockEnd, run, runs}
 use Rattle.machine.specs.Answers.{bitsOf}
-use Rattle.machine.specs.RowTrees.{Decoded, tree, broken, Decodeds, trees, brokens, IsTree, IsTrees, endOf, boxesAt, boxesFrom, fieldIn, placeIn, boxD, letD, assignD, blockD, decodes, someOf, treeAt, leafAt, IsRest, boxesRest}
-use Rattle.machine.specs.Words.{valueOf, storeOf, Sound, Tidy}
-use Rattle.machine.specs.Parts.{stateAt, placeOf, gave, runOn, LeafReady, LeafRan, since, Listed, Stop, seen, Stood, atRow, outcome, stood, sequel, Fine, InnerReady, Went, BoxReady, Boxed, LetReady, Pushed, Declared, Assigned, EndReady, BlockClosed, Opened, runAt, Ready, TermReady, TermRan, runsOn, restRun, BlockReady, BlockRan}
+use Rattle.machine.specs.RowTrees.{Decoded, tree, broken, Decodeds, trees, brokens, IsTree, IsTrees, endOf, boxesAt, boxesFrom, fieldIn, placeIn, boxD, letD, assignD, blockD, treeAt, leafAt}
+use Rattle.machine.specs.Words.{valueOf, storeOf}
+use Rattle.machine.specs.Parts.{stateAt, placeOf, gave, runOn, LeafReady, LeafRan, since, seen, Stood, atRow, outcome, stood, sequel, Fine, InnerReady, BoxReady, Boxed, LetReady, Pushed, Declared, Assigned, Opened, runAt, Ready, PlainRan, TermReady, TermRan, runsOn}
 use Rattle.machine.specs.declared.locate.Gave.{Gave}
 use Rattle.machine.specs.declared.around.Standing.{Standing}
-use Rattle.machine.proofs.DropLaws.{drop-empty}
 use Rattle.machine.proofs.Kept.{keeps-ok}
-use Rattle.machine.proofs.RunOrder.{run-ordered, runs-ordered}
+use Rattle.machine.proofs.RunOrder.{run-ordered}
 use Rattle.machine.proofs.Counting.{taken-is, boxes-bound}
-use Rattle.machine.proofs.AroundLaws.{stood-stops, stood-goes, since-kept}
-use Rattle.machine.proofs.RowLaws.{has-room, box-is, box-asks, let-is, let-asks, let-variable, assign-is, assign-asks, block-is, block-asks, leaf-is, leaf-end}
+use Rattle.machine.proofs.AroundLaws.{stood-goes}
+use Rattle.machine.proofs.RowLaws.{has-room, box-is, box-asks, let-is, let-asks, let-variable, assign-is, assign-asks, leaf-is, leaf-end}
 
 -- ---- the outcome of a term, and what follows it
 
 -- A rule after an inner term, on rows.
-pub sequel-bind : (j : ℕ) (m : Ran Outcome) (rule : Outcome → Ran Outcome) → sequel (atRow j (seen m)) rule ≡ atRow j (seen (m >>= rule))
+sequel-bind : (j : ℕ) (m : Ran Outcome) (rule : Outcome → Ran Outcome) → sequel (atRow j (seen m)) rule ≡ atRow j (seen (m >>= rule))
 unfolding sequel atRow seen _>>=_
 sequel-bind j (ok o) rule = refl
 sequel-bind j (err f) rule = refl
@@ -80,12 +79,12 @@ went-well readings d s w opened begin r n e =
     record { ran = p .0; end = p .1 }
 
 module _ (readings : List ℤ) (s : State) (o : Outcome) where
-  pub ran-ordered : (d : Decoded) → IsTree d → InOrder s → runOn readings d s ≡ ok o → InOrder (o .0)
+  ran-ordered : (d : Decoded) → IsTree d → InOrder s → runOn readings d s ≡ ok o → InOrder (o .0)
   unfolding runOn
   ran-ordered (tree t j) h q e = keeps-ok (run-ordered (bitsOf readings) t s q) o e
   ran-ordered broken h q e = absurd h
 
-  pub ran-taken : (d : Decoded) → IsTree d → runOn readings d s ≡ ok o → o .0 .taken ≤ s .taken + boxesAt d
+  ran-taken : (d : Decoded) → IsTree d → runOn readings d s ≡ ok o → o .0 .taken ≤ s .taken + boxesAt d
   unfolding runOn boxesAt
   ran-taken (tree t j) h e =
       let a = taken-is (bitsOf readings) t s (o .0) (o .1) e in
@@ -121,17 +120,14 @@ next-ready rows i readings w opened n taken r =
     let f = r .few in
     record { long = r .long; eight = r .eight; many = r .many; tidy = r .tidy; ordered = r .ordered; few = omega arith; listed = r .listed }
 
-pub next-opened : (before after : List ℕ) (n m i j : ℕ) → Opened before after n m (i + 1) j → Opened before after n m i j
+next-opened : (before after : List ℕ) (n m i j : ℕ) → Opened before after n m (i + 1) j → Opened before after n m i j
 next-opened before after n m i j o = let f = o .few in record { kept = o .kept; more = o .more; few = omega arith; listed = o .listed; room = o .room }
 
 same-opened : (before after : List ℕ) (n m m′ i j j′ : ℕ) → m ≡ m′ → j ≡ j′ → Opened before after n m′ i j′ → Opened before after n m i j
 same-opened before after n m m′ i j j′ p q o = rw (p, q) o
 
 module _ (rows : List ℕ) (i levels : ℕ) (readings : List ℤ) (w opened : List ℕ) (n taken : ℕ) (g : TermReady rows i levels readings w opened n taken)
-         (w₁ opened₁ : List ℕ) (inner : Standing) (t : TermRan rows i levels readings w opened n taken w₁ opened₁ inner) where
-  abbrev term : Decoded
-  term = treeAt levels rows i
-
+    (w₁ opened₁ : List ℕ) (inner : Standing) (t : TermRan rows i levels readings w opened n taken w₁ opened₁ inner) where
   well : inner .fault ≡ 0 → Went-well readings (treeAt levels rows i) (stateAt w taken (since opened n (n - n))) (outcome w₁ opened₁ n inner) (inner .next)
   well z = went-well readings (treeAt levels rows i) (stateAt w taken (since opened n (n - n))) w₁ opened₁ n inner z (t .is n (omega arith))
 
@@ -141,19 +137,13 @@ module _ (rows : List ℕ) (i levels : ℕ) (readings : List ℤ) (w opened : Li
     ordered = ran-ordered readings (stateAt w taken (since opened n (n - n))) (outcome w₁ opened₁ n inner) (treeAt levels rows i) (g .is) (g .ready .ordered) (well z .ran);
   }
 
-  pub inner-ready : InnerReady w₁ inner
+  inner-ready : InnerReady w₁ inner
   inner-ready = record { tidy = t .tidy; fine = term-fine }
 
   pub term-taken : inner .fault ≡ 0 → inner .taken ≤ taken + boxesAt (treeAt levels rows i)
   term-taken z = ran-taken readings (stateAt w taken (since opened n (n - n))) (outcome w₁ opened₁ n inner) (treeAt levels rows i) (g .is) (well z .ran)
 
-  pub term-end : inner .fault ≡ 0 → inner .next ≡ endOf (treeAt levels rows i)
-  term-end z = well z .end
-
 module _ (rows : List ℕ) (i levels : ℕ) (readings : List ℤ) (w opened : List ℕ) (n taken : ℕ) (g : TermReady rows i levels readings w opened n taken) where
-  abbrev sub : Decoded
-  sub = treeAt (levels - 1) rows (i + 1)
-
   pub term-room : i + 1 ≤ 512
   term-room = let a = has-room levels rows i (g .is) in let b = g .ready .long in omega arith
 
@@ -281,10 +271,10 @@ module _ (rows : List ℕ) (i levels : ℕ) (readings : List ℤ) (w opened : Li
     pub leaf-ready : LeafReady rows i readings w
     leaf-ready = record { room = has-room levels rows i (g .is); leaf = subst IsTree tree-leaf (g .is); eight = g .ready .eight; tidy = g .ready .tidy }
 
-    pub leaf-returns : (w₁ : List ℕ) (x : Gave) → LeafRan rows i readings w w₁ x
+    leaf-stands : (w₁ : List ℕ) (x : Gave) → LeafRan rows i readings w w₁ x
         → TermRan rows i levels readings w opened n taken w₁ opened (record { fault = x .fault; term = i; kind = x .kind; payload = x .payload; taken = taken; opened = n; next = i + 1 })
     unfolding stood gave seen atRow runAt
-    leaf-returns w₁ x y = record {
+    leaf-stands w₁ x y = record {
       tidy = y .tidy;
       is = λ begin h.
           go begin (eqb (x .fault) 0)
@@ -297,9 +287,12 @@ module _ (rows : List ℕ) (i levels : ℕ) (readings : List ℤ) (w opened : Li
       where
         go : (begin : ℕ) (p : Bool)
             → _≡_ {A = Stood} (pick p (ok ((stateAt w₁ taken (since opened begin (n - begin)), valueOf (x .kind) (x .payload)), i + 1)) (err (record { number = x .fault; term = i; store = storeOf w₁ })))
-              (atRow (i + 1) (seen (pick p (good-value (stateAt w₁ taken (since opened begin (n - begin))) (valueOf (x .kind) (x .payload))) (fault (x .fault) i (stateAt w₁ taken (since opened begin (n - begin)))))))
+            (atRow (i + 1) (seen (pick p (good-value (stateAt w₁ taken (since opened begin (n - begin))) (valueOf (x .kind) (x .payload))) (fault (x .fault) i (stateAt w₁ taken (since opened begin (n - begin)))))))
         go begin true = refl
         go begin false = refl
 
         whole : (begin : ℕ) → atRow (endOf (leafAt rows i)) (seen (runOn readings (leafAt rows i) (stateAt w taken (since opened begin (n - begin))))) ≡ runAt readings (treeAt levels rows i) (stateAt w taken (since opened begin (n - begin)))
         whole begin = ap (λ (d : Decoded). atRow (endOf d) (seen (runOn readings d (stateAt w taken (since opened begin (n - begin)))))) (sym tree-leaf)
+
+    pub leaf-returns : (w₁ : List ℕ) (r : Standing) → PlainRan rows i readings w n taken w₁ r → TermRan rows i levels readings w opened n taken w₁ opened r
+    leaf-returns w₁ r x = subst (TermRan rows i levels readings w opened n taken w₁ opened) (sym (x .is)) (leaf-stands w₁ (x .gives) (x .ran))

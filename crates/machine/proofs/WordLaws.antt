@@ -4,8 +4,8 @@ use native.Mathlib.Omega.{arith}
 use native.Mathlib.Nat.{add-zero}
 use mathlib.Core.Path.{_≡_, refl, sym, ap, subst, _∙_, fun-ext}
 use mathlib.Core.Bool.{Bool, true, false}
-use mathlib.Core.List.{List, [], _∷_, _++_}
-use lib.Dec.{ltb, eqb, T}
+use mathlib.Core.List.{List, _∷_}
+use lib.Dec.{ltb}
 use lib.ListN.{length, getD, set, replicate}
 use lib.Seq.{ext-getD, getD-set-same, getD-set-other}
 use native.Mathlib.Decide.{ℕ-discrete}
@@ -18,7 +18,7 @@ use Rattle.machine.specs.Encode.{stateNumber, kindNumber, rowOf, locatio
 use Rattle.machine.specs.Words.{valueOf, rowFrom, rowAt, storeOf, Inside, Leads, Sound, IsRow, Tidy, Loaded, Written}
 use Rattle.machine.specs.declared.store.Entry.{Entry}
 use Rattle.machine.proofs.StoreLaws.{same-location}
-use Rattle.machine.proofs.EncodeLaws.{variable-location, cell-location, length-encode, read-field, writeRow, write-row}
+use Rattle.machine.proofs.EncodeLaws.{variable-location, cell-location, length-encode, read-field, write-row}
 
 -- ---- a row's number and its location
 
@@ -30,7 +30,7 @@ inside-row r h = go (ltb r 64) refl
     go true e = ltb-true r 64 e
     go false e = let l = ltb-false r 64 e in let z : r - 64 < 64 = omega arith in z
 
-pub at-row : (w : List ℕ) (r : ℕ) → r < 128 → storeOf w (locationOf 64 r) ≡ rowAt w r
+at-row : (w : List ℕ) (r : ℕ) → r < 128 → storeOf w (locationOf 64 r) ≡ rowAt w r
 unfolding locationOf storeOf
 at-row w r h = go (ltb r 64) refl
   where
@@ -49,7 +49,7 @@ location-back (cell c) h = cell-location 64 c
 
 -- ---- values and rows as numbers
 
-pub value-back : (v : Value) → Leads v → valueOf (kindNumber v) (payload 64 v) ≡ v
+value-back : (v : Value) → Leads v → valueOf (kindNumber v) (payload 64 v) ≡ v
 unfolding valueOf kindNumber payload
 value-back empty h = refl
 value-back (num n) h = refl
@@ -155,7 +155,7 @@ written w r s k p w′ t h i e =
     let S : Store = put (storeOf w) (locationOf 64 r) (rowFrom s k p) in
     let f : Fits (put (storeOf w) (locationOf 64 r) (rowFrom s k p)) = fits-put (storeOf w) (locationOf 64 r) (rowFrom s k p) (fits-tidy w t) (inside-row r h) (i .leads) in
     let z : w′ ≡ encode 64 128 (put (storeOf w) (locationOf 64 r) (rowFrom s k p)) =
-        e ∙ sym (rw (i .stateIs, i .kindIs, i .payloadIs, t .words)) ∙ write-row 64 128 (storeOf w) r (rowFrom s k p) h in
+    e ∙ sym (rw (i .stateIs, i .kindIs, i .payloadIs, t .words)) ∙ write-row 64 128 (storeOf w) r (rowFrom s k p) h in
     record {
       tidy = subst Tidy (sym z) (tidy-encoded (put (storeOf w) (locationOf 64 r) (rowFrom s k p)) f);
       is = ap storeOf z ∙ store-back (put (storeOf w) (locationOf 64 r) (rowFrom s k p)) f;

@@ -30,8 +30,8 @@ toldRun (Refused n p) = refused n p
 toldRun (Faulted n i) = faulted n i
 
 -- The answer, and the store afterwards.
-abbrev pub Answered′ : Type 0
-Answered′ = Answer × List ℕ
+abbrev pub AnswerAndStore : Type 0
+AnswerAndStore = Answer × List ℕ
 
 -- "2 rows not 2,560; 3 store not 384; 4 readings not 8 i32": place 0, "lowest number first".
 unfoldable pub runFits : Limits → List ℕ → List ℤ → List ℕ → Result Refusal (Unit {0})
@@ -51,15 +51,15 @@ unfoldable pub bitsOf : List ℤ → ℕ → ℕ
 bitsOf readings n = ofZ w32 (getD readings n (pos 0))
 
 -- "the store stays as the run rules had it" on a fault.
-unfoldable pub ranInto : Limits → Ran (State × ℕ) → Answered′
+unfoldable pub ranInto : Limits → Ran (State × ℕ) → AnswerAndStore
 ranInto l (ok e) = (answered (toZ w32 (e .1)) (e .0 .taken), encode (l .variables) (l .variables + l .boxes) (e .0 .store))
 ranInto l (err f) = (faulted (f .number) (f .term), encode (l .variables) (l .variables + l .boxes) (f .state .store))
 
 -- A refusal leaves the store unchanged. A run first clears it, so that what it was before does not count: any may be named.
-unfoldable pub runInto : Limits → List ℤ → List ℕ → Result Refusal Term → Answered′
+unfoldable pub runInto : Limits → List ℤ → List ℕ → Result Refusal Term → AnswerAndStore
 runInto l readings store (ok t) = ranInto l (runScript (bitsOf readings) t (λ x. closed))
 runInto l readings store (err e) = (refused (e .0) (e .1), store)
 
 -- `run`: the answer and the store.
-unfoldable pub runOf : Limits → List ℕ → List ℤ → List ℕ → Answered′
+unfoldable pub runOf : Limits → List ℕ → List ℤ → List ℕ → AnswerAndStore
 runOf l rows readings store = runInto l readings store (runnable l rows readings store)

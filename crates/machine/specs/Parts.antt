@@ -2,7 +2,6 @@
 -- is stated here. A fault number 0 is no fault.
 use Prim.Native.Nat.{ℕ, zero, suc, _+_, _-_, _*_, _≤_, _<_}
 use mathlib.Core.Path.{_≡_}
-use mathlib.Core.Bool.{true, false}
 use mathlib.Core.List.{List, [], _∷_}
 use lib.Dec.{eqb}
 use lib.IntN.{ℤ}
@@ -11,18 +10,19 @@ use Rattle.reader.specs.Result.{Result, ok, err, pick, _>>=_}
 use Rattle.reader.specs.Limits.{base}
 use Rattle.reader.specs.Script.{Place, number}
 use Rattle.machine.specs.Values.{Location, variable, Value, empty, openWith, closed}
-use Rattle.machine.specs.Store.{Store, put, isOpen, valueIn, State, Ran, fault}
+use Rattle.machine.specs.Store.{Store, put, isOpen, State, Ran, fault}
 use Rattle.machine.specs.Locate.{followed, locateFrom, filled}
 use Rattle.machine.specs.Drop.{InOrder, dropValue, closeAll}
 use Rattle.machine.specs.Run.{Outcome, runCopy, runMove, runBorrow, runNumber, runBelow, runBox, runLet, runAssign, runBlockEnd, run, runs, runScript}
 use Rattle.machine.specs.Encode.{locationOf}
-use Rattle.machine.specs.Answers.{Answered′, bitsOf, ranInto}
-use Rattle.machine.specs.RowTrees.{Decoded, tree, broken, Decodeds, trees, brokens, IsTree, IsRest, endOf, boxesAt, boxesRest, decodes, treeAt, leafAt}
+use Rattle.machine.specs.Answers.{AnswerAndStore, bitsOf, ranInto}
+use Rattle.machine.specs.RowTrees.{Decoded, tree, broken, Decodeds, trees, brokens, IsTree, IsRest, endOf, boxesAt, boxesRest, fieldIn, decodes, treeAt, leafAt}
 use Rattle.machine.specs.Words.{valueOf, storeOf, Sound, Tidy}
 use Rattle.machine.specs.declared.locate.Found.{Found}
 use Rattle.machine.specs.declared.locate.Gave.{Gave}
 use Rattle.machine.specs.declared.around.Standing.{Standing}
 
+-- The state in the lent numbers.
 abbrev pub stateAt : List ℕ → ℕ → List ℕ → State
 stateAt w taken opened = record { store = storeOf w; taken = taken; opened = opened }
 
@@ -31,6 +31,7 @@ placeOf root follows = record { root = root; follows = follows }
 
 -- ---- locating and reading
 
+-- What an answer of the code says: the row, or the fault of term i in the state s.
 unfoldable pub found : State → ℕ → Found → Ran Location
 found s i f = pick (eqb (f .fault) 0) (ok (locationOf 64 (f .row))) (fault (f .fault) i s)
 
@@ -42,6 +43,7 @@ pub record Located (w : List ℕ) (root follows : ℕ) (f : Found) : Type 0 wher
   pub inside : f .row < 128
   pub is : (i taken : ℕ) (opened : List ℕ) → found (stateAt w taken opened) i f ≡ locateFrom (stateAt w taken opened) i (variable root) follows
 
+-- Likewise: the value read.
 unfoldable pub held : State → ℕ → Gave → Ran Value
 held s i g = pick (eqb (g .fault) 0) (ok (valueOf (g .kind) (g .payload))) (fault (g .fault) i s)
 
@@ -51,6 +53,7 @@ pub record Filled (w : List ℕ) (row : ℕ) (g : Gave) : Type 0 where
 
 -- ---- the terms without an inner term
 
+-- Likewise: the state afterwards and the term's value. i is the term that acts, here and below.
 unfoldable pub gave : List ℕ → ℕ → List ℕ → ℕ → Gave → Ran Outcome
 gave w taken opened i g = pick (eqb (g .fault) 0) (ok (stateAt w taken opened, valueOf (g .kind) (g .payload))) (fault (g .fault) i (stateAt w taken opened))
 
@@ -67,6 +70,7 @@ pub record Borrowed (w : List ℕ) (root follows : ℕ) (g : Gave) : Type 0 wher
   pub sound : Sound (g .kind) (g .payload)
   pub is : (i taken : ℕ) (opened : List ℕ) → gave w taken opened i g ≡ runBorrow (stateAt w taken opened) i (placeOf root follows)
 
+-- Likewise: the number read.
 unfoldable pub counted : State → ℕ → Gave → Ran ℕ
 counted s i g = pick (eqb (g .fault) 0) (ok (g .payload)) (fault (g .fault) i s)
 
@@ -96,6 +100,7 @@ pub record LeafRan (rows : List ℕ) (i : ℕ) (readings : List ℤ) (w w′ : L
 
 -- ---- dropping and closing
 
+-- Likewise: the state that dropping or closing leaves, or its fault n.
 unfoldable pub left : List ℕ → ℕ → List ℕ → ℕ → ℕ → Ran State
 left w taken opened i n = pick (eqb n 0) (ok (stateAt w taken opened)) (fault n i (stateAt w taken opened))
 
@@ -128,6 +133,7 @@ pub record Wrote (w : List ℕ) (row k p : ℕ) (w′ : List ℕ) : Type 0 where
   pub tidy : Tidy w′
   pub is : storeOf w′ ≡ pick (isOpen (storeOf w (locationOf 64 row))) (put (storeOf w) (locationOf 64 row) (openWith (valueOf k p))) (storeOf w)
 
+-- Likewise: the state that an assign leaves, or its fault n.
 unfoldable pub assigned : List ℕ → ℕ → List ℕ → ℕ → ℕ → Ran Outcome
 assigned w taken opened i n = pick (eqb n 0) (ok (stateAt w taken opened, empty)) (fault n i (stateAt w taken opened))
 
@@ -158,6 +164,7 @@ atRow j (err e) = err e
 abbrev pub outcome : List ℕ → List ℕ → ℕ → Standing → Outcome
 outcome w opened begin r = (stateAt w (r .taken) (since opened begin (r .opened - begin)), valueOf (r .kind) (r .payload))
 
+-- What is known where a run stands: the outcome and the next row, or the fault.
 unfoldable pub stood : List ℕ → List ℕ → ℕ → Standing → Stood
 stood w opened begin r =
     pick (eqb (r .fault) 0) (ok (outcome w opened begin r, r .next)) (err (record { number = r .fault; term = r .term; store = storeOf w }))
@@ -167,14 +174,20 @@ unfoldable pub sequel : Stood → (Outcome → Ran Outcome) → Stood
 sequel (ok o) rule = atRow (o .1) (seen (rule (o .0)))
 sequel (err e) rule = err e
 
+-- The same with no value, and with the fault n of term i.
 unfoldable pub withoutValue : Standing → ℕ → ℕ → Standing
 withoutValue r n i = record { fault = n; term = i; kind = 0; payload = 0; taken = r .taken; opened = r .opened; next = r .next }
+
+-- Before the first term of a block, which stands in the next row.
+unfoldable pub enteredAt : ℕ → ℕ → ℕ → Standing
+enteredAt block n taken = record { fault = 0; term = block; kind = 0; payload = 0; taken = taken; opened = n; next = block + 1 }
 
 -- What holds after an inner term that meets no fault.
 pub record Fine (w : List ℕ) (r : Standing) : Type 0 where
   pub sound : Sound (r .kind) (r .payload)
   pub ordered : InOrder (stateAt w (r .taken) [])
 
+-- What a rule after an inner term asks.
 pub record InnerReady (w : List ℕ) (inner : Standing) : Type 0 where
   pub tidy : Tidy w
   pub fine : inner .fault ≡ 0 → Fine w inner
@@ -232,6 +245,12 @@ pub record BlockClosed (w opened : List ℕ) (i begin : ℕ) (inner : Standing) 
 
 -- ---- terms and blocks
 
+-- A term without an inner term, after n variables opened and so many cells taken.
+pub record PlainRan (rows : List ℕ) (i : ℕ) (readings : List ℤ) (w : List ℕ) (n taken : ℕ) (w′ : List ℕ) (r : Standing) : Type 0 where
+  pub gives : Gave
+  pub ran : LeafRan rows i readings w w′ gives
+  pub is : r ≡ record { fault = gives .fault; term = i; kind = gives .kind; payload = gives .payload; taken = taken; opened = n; next = i + 1 }
+
 -- The variables opened, n before and m after rows i to j: those before stay, and each row opened one at most.
 pub record Opened (before after : List ℕ) (n m i j : ℕ) : Type 0 where
   pub kept : (k : ℕ) → k < n → getD after k 0 ≡ getD before k 0
@@ -240,6 +259,7 @@ pub record Opened (before after : List ℕ) (n m i j : ℕ) : Type 0 where
   pub listed : Listed after m
   pub room : j ≤ 512
 
+-- The run of a term that stands in rows, and the row after it.
 unfoldable pub runAt : List ℤ → Decoded → State → Stood
 runAt readings d s = atRow (endOf d) (seen (runOn readings d s))
 
@@ -264,6 +284,7 @@ pub record TermRan (rows : List ℕ) (i levels : ℕ) (readings : List ℤ) (w o
   pub sound : r .fault ≡ 0 → Sound (r .kind) (r .payload)
   pub opens : r .fault ≡ 0 → Opened opened opened′ n (r .opened) i (r .next)
 
+-- Likewise of a block's terms.
 unfoldable pub runsOn : List ℤ → Decodeds → ℕ → State → Stood
 runsOn readings (trees ts j) i s = atRow j (seen (runs (bitsOf readings) ts i s))
 runsOn readings brokens i s = err (record { number = 0; term = 0; store = s .store })
@@ -273,17 +294,18 @@ unfoldable pub restRun : List ℤ → (ℕ → Decoded) → ℕ → ℕ → ℕ 
 restRun readings f i zero j o = ok (o, j)
 restRun readings f i (suc n) j o = seen (dropValue i (o .0) (o .1)) >>= λ s. runsOn readings (decodes f n j) i s
 
-pub record BlockReady (rows : List ℕ) (i terms levels : ℕ) (readings : List ℤ) (w opened : List ℕ) (n taken : ℕ) : Type 0 where
-  pub ready : Ready rows i readings w opened n taken
-  pub room : i ≤ 512
-  pub is : IsRest (treeAt levels rows) terms i
-  pub cells : taken + boxesRest (treeAt levels rows) terms i ≤ 64
+-- The terms of the block at row i, from the next row on.
+pub record BlockReady (rows : List ℕ) (i levels : ℕ) (readings : List ℤ) (w opened : List ℕ) (n taken : ℕ) : Type 0 where
+  pub ready : Ready rows (i + 1) readings w opened n taken
+  pub room : i < 512
+  pub is : IsRest (treeAt levels rows) (fieldIn rows i 1) (i + 1)
+  pub cells : taken + boxesRest (treeAt levels rows) (fieldIn rows i 1) (i + 1) ≤ 64
 
-pub record BlockRan (rows : List ℕ) (i terms levels block : ℕ) (readings : List ℤ) (w opened : List ℕ) (n taken : ℕ) (w′ opened′ : List ℕ) (r : Standing) : Type 0 where
+pub record BlockRan (rows : List ℕ) (i levels : ℕ) (readings : List ℤ) (w opened : List ℕ) (n taken : ℕ) (w′ opened′ : List ℕ) (r : Standing) : Type 0 where
   pub tidy : Tidy w′
-  pub is : stood w′ opened′ n r ≡ restRun readings (treeAt levels rows) block terms i (stateAt w taken [], empty)
+  pub is : stood w′ opened′ n r ≡ restRun readings (treeAt levels rows) i (fieldIn rows i 1) (i + 1) (stateAt w taken [], empty)
   pub sound : r .fault ≡ 0 → Sound (r .kind) (r .payload)
-  pub opens : r .fault ≡ 0 → Opened opened opened′ n (r .opened) i (r .next)
+  pub opens : r .fault ≡ 0 → Opened opened opened′ n (r .opened) (i + 1) (r .next)
 
 -- ---- a whole script
 
@@ -294,9 +316,9 @@ pub record ScriptReady (rows : List ℕ) (readings : List ℤ) (w : List ℕ) : 
   pub is : IsTree (treeAt 16 rows 0)
   pub cells : boxesAt (treeAt 16 rows 0) ≤ 64
 
-unfoldable pub scriptOn : List ℤ → Decoded → Answered′
+unfoldable pub scriptOn : List ℤ → Decoded → AnswerAndStore
 scriptOn readings (tree t j) = ranInto base (runScript (bitsOf readings) t (λ x. closed))
 scriptOn readings broken = ranInto base (runScript (bitsOf readings) (number 0 0) (λ x. closed))
 
-unfoldable pub scriptRan : List ℕ → List ℤ → Answered′
+unfoldable pub scriptRan : List ℕ → List ℤ → AnswerAndStore
 scriptRan rows readings = scriptOn readings (treeAt 16 rows 0)

@@ -1,7 +1,6 @@
 -- The lent numbers as the store of the rules, for the contracts inside the machine. No rule of 01 is stated here.
 use Prim.Native.Nat.{ℕ, _+_, _*_, _<_}
 use mathlib.Core.Path.{_≡_}
-use mathlib.Core.Bool.{true, false}
 use mathlib.Core.List.{List}
 use lib.Dec.{ltb, eqb}
 use lib.ListN.{length, getD}

@@ -2,11 +2,12 @@
 ghost use mathlib.Core.Path.{_≡_};
 ghost use Prim.Native.Nat.{_<_, _≤_};
 ghost use Rattle.machine.specs.Words.{Tidy, Sound};
-ghost use Rattle.machine.specs.Parts.{withoutValue, Wrote, PlaceAssigned, InnerReady, BoxReady, Boxed, LetReady, Declared, Assigned, EndReady, BlockClosed};
-use crate::dropping::close_variables;
-use crate::dropping::drop_value;
+ghost use Rattle.machine.specs.Parts.{withoutValue, enteredAt, Wrote, PlaceAssigned, InnerReady, BoxReady, Boxed, LetReady, Declared, Assigned, EndReady, BlockClosed};
+use crate::drops::close_variables;
+use crate::drops::drop_value;
 use crate::limits;
 use crate::locate::locate;
+use crate::operands::wide;
 use crate::store::load;
 use crate::store::put_row;
 
@@ -37,6 +38,22 @@ pub fn without_value(ran: Standing, fault: u32, i: usize) -> Standing
     }
 }
 
+// Before the first term of a block: no value yet.
+pub fn entered(block: usize, count: usize, taken: usize) -> Standing
+    requires { ⌜ block < 512 ⌝ }
+    ensures { λ r. ⌜ r ≡ enteredAt block count taken ⌝ }
+{
+    Standing {
+        fault: limits::NO_FAULT,
+        term: block,
+        kind: limits::EMPTY,
+        payload: 0,
+        taken: taken,
+        opened: count,
+        next: block + 1,
+    }
+}
+
 // "Box runs its inner term, then fills the new cell."
 pub fn run_box(store: &mut [u32], inner: Standing) -> Standing
     requires { ⌜ BoxReady (now store) inner ⌝ }
@@ -45,7 +62,13 @@ pub fn run_box(store: &mut [u32], inner: Standing) -> Standing
     if inner.fault != limits::NO_FAULT {
         return inner;
     }
-    put_row(store, limits::FIRST_CELL + inner.taken, limits::OPEN, inner.kind, inner.payload);
+    put_row(
+        store,
+        limits::FIRST_CELL + inner.taken,
+        limits::OPEN,
+        inner.kind,
+        inner.payload,
+    );
     Standing {
         fault: limits::NO_FAULT,
         term: inner.term,
@@ -115,19 +138,25 @@ pub fn assign_place(store: &mut [u32], root: usize, follows: usize, kind: u32, p
 }
 
 // "Assign runs its right side", and then assigns.
-pub fn run_assign(store: &mut [u32], i: usize, root: usize, follows: usize, inner: Standing) -> Standing
+pub fn run_assign(store: &mut [u32], i: usize, root: u32, follows: u32, inner: Standing) -> Standing
     requires { ⌜ InnerReady (now store) inner × (root < 64) ⌝ }
     ensures { λ r. ⌜ Assigned (now (store .entry)) i root follows inner (now (store .exit)) r ⌝ }
 {
     if inner.fault != limits::NO_FAULT {
         return inner;
     }
-    let fault = assign_place(store, root, follows, inner.kind, inner.payload);
+    let fault = assign_place(store, wide(root), wide(follows), inner.kind, inner.payload);
     without_value(inner, fault, i)
 }
 
 // "At its end it closes its variables": those opened from `begin` on.
-pub fn close_block(store: &mut [u32], opened: &[u32], i: usize, begin: usize, inner: Standing) -> Standing
+pub fn close_block(
+    store: &mut [u32],
+    opened: &[u32],
+    i: usize,
+    begin: usize,
+    inner: Standing,
+) -> Standing
     requires { ⌜ EndReady (now store) (now opened) begin inner ⌝ }
     ensures { λ r. ⌜ BlockClosed (now (store .entry)) (now (opened .entry)) i begin inner (now (store .exit)) r ⌝ }
 {

@@ -7,14 +7,14 @@ ghost use Rattle.machine.specs.Parts.{ScriptReady, scriptRan};
 mod limits; // limits.rt: 01's sizes and numbers
 mod store; // store.rt: the rows of the lent store
 mod locate; // locate.rt: locating a place and reading rows
-mod dropping; // dropping.rt: dropping values and closing variables
-pub mod numbers; // numbers.rt: signed numbers and their bits
+mod drops; // drops.rt: dropping values and closing variables
+pub mod signed; // signed.rt: signed numbers and their bits
 mod operands; // operands.rt: the operands of the term rows
-mod leaves; // leaves.rt: the terms without an inner term
+mod plain; // plain.rt: the terms without an inner term
 mod around; // around.rt: what follows an inner term
 mod terms; // terms.rt: terms and blocks
 
-use crate::numbers::number_of;
+use crate::signed::number_of;
 use crate::store::clear;
 use crate::terms::run_term;
 

@@ -1,16 +1,42 @@
 // Terms and blocks, which call each other. The store and the variables opened are lent down.
-ghost use Rattle.machine.specs.Parts.{TermReady, TermRan, BlockReady, BlockRan};
+ghost use Prim.Native.Nat.{_<_};
+ghost use Rattle.machine.specs.Parts.{LeafReady, PlainRan, TermReady, TermRan, BlockReady, BlockRan};
 use crate::around::Standing;
 use crate::around::close_block;
+use crate::around::entered;
 use crate::around::run_assign;
 use crate::around::run_box;
 use crate::around::run_let;
 use crate::around::without_value;
-use crate::dropping::drop_value;
-use crate::leaves::run_leaf;
+use crate::drops::drop_value;
 use crate::limits;
 use crate::operands::operand;
 use crate::operands::wide;
+use crate::plain::run_leaf;
+
+// The term at row i, if it has no inner term: it opens no variable and takes no cell.
+fn run_plain(
+    rows: &[u32],
+    i: usize,
+    readings: &[i32],
+    store: &mut [u32],
+    count: usize,
+    taken: usize,
+) -> Standing
+    requires { ⌜ LeafReady (now rows) i (now readings) (now store) × (i < 512) ⌝ }
+    ensures { λ r. ⌜ PlainRan (now (rows .entry)) i (now (readings .entry)) (now (store .entry)) count taken (now (store .exit)) r ⌝ }
+{
+    let gave = run_leaf(rows, i, readings, store);
+    Standing {
+        fault: gave.fault,
+        term: i,
+        kind: gave.kind,
+        payload: gave.payload,
+        taken: taken,
+        opened: count,
+        next: i + 1,
+    }
+}
 
 // The term at row i, nested at most as deep as levels says, after `count` variables opened and so many cells taken.
 pub fn run_term(
@@ -35,73 +61,57 @@ pub fn run_term(
             run_box(store, inner)
         }
         8 => {
-            let x = operand(rows, i, 1);
             let inner = run_term(rows, next, deeper, readings, store, opened, count, taken);
-            run_let(store, opened, i, x, inner)
+            run_let(store, opened, i, operand(rows, i, 1), inner)
         }
         9 => {
-            let root = wide(operand(rows, i, 1));
-            let follows = wide(operand(rows, i, 2));
             let inner = run_term(rows, next, deeper, readings, store, opened, count, taken);
-            run_assign(store, i, root, follows, inner)
+            run_assign(store, i, operand(rows, i, 1), operand(rows, i, 2), inner)
         }
         11 => {
-            let terms = wide(operand(rows, i, 1));
-            let inner = run_block(rows, next, terms, deeper, i, readings, store, opened, count, taken);
+            let inner = run_block(rows, i, deeper, readings, store, opened, count, taken);
             close_block(store, opened, i, count, inner)
         }
-        _ => {
-            let gave = run_leaf(rows, i, readings, store);
-            Standing {
-                fault: gave.fault,
-                term: i,
-                kind: gave.kind,
-                payload: gave.payload,
-                taken: taken,
-                opened: count,
-                next: next,
-            }
-        }
+        _ => run_plain(rows, i, readings, store, count, taken),
     }
 }
 
-// The terms of a block, `terms` of them from row i on: it "drops every value but the last, after its term".
+// The terms of the block at row `block`, from the next row on: it "drops every value but the last, after its term".
 pub fn run_block(
     rows: &[u32],
-    i: usize,
-    terms: usize,
-    levels: usize,
     block: usize,
+    levels: usize,
     readings: &[i32],
     store: &mut [u32],
     opened: &mut [u32],
     count: usize,
     taken: usize,
 ) -> Standing
-    requires { ⌜ BlockReady (now rows) i terms levels (now readings) (now store) (now opened) count taken ⌝ }
-    ensures { λ r. ⌜ BlockRan (now (rows .entry)) i terms levels block (now (readings .entry)) (now (store .entry)) (now (opened .entry)) count taken (now (store .exit)) (now (opened .exit)) r ⌝ }
+    requires { ⌜ BlockReady (now rows) block levels (now readings) (now store) (now opened) count taken ⌝ }
+    ensures { λ r. ⌜ BlockRan (now (rows .entry)) block levels (now (readings .entry)) (now (store .entry)) (now (opened .entry)) count taken (now (store .exit)) (now (opened .exit)) r ⌝ }
 {
-    let mut left = terms;
-    let mut last = Standing {
-        fault: limits::NO_FAULT,
-        term: block,
-        kind: limits::EMPTY,
-        payload: 0,
-        taken: taken,
-        opened: count,
-        next: i,
-    };
+    let mut left = wide(operand(rows, block, 1));
+    let mut at = entered(block, count, taken);
     while 0 < left {
-        let fault = drop_value(store, last.kind, last.payload);
+        let fault = drop_value(store, at.kind, at.payload);
         if fault != limits::NO_FAULT {
-            return without_value(last, fault, block);
+            return without_value(at, fault, block);
         }
-        let ran = run_term(rows, last.next, levels, readings, store, opened, last.opened, last.taken);
+        let ran = run_term(
+            rows,
+            at.next,
+            levels,
+            readings,
+            store,
+            opened,
+            at.opened,
+            at.taken,
+        );
         if ran.fault != limits::NO_FAULT {
             return ran;
         }
-        last = ran;
+        at = ran;
         left -= 1;
     }
-    last
+    at
 }

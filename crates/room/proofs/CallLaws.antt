@@ -1,5 +1,5 @@
 -- The answers of reading, checking and running, put together, are what a call answers.
-use Prim.Native.Nat.{ℕ, zero, suc, _+_, _≤_}
+use Prim.Native.Nat.{ℕ, zero, suc, _+_}
 use native.Mathlib.Omega.{arith}
 use mathlib.Core.Path.{_≡_, refl, sym, ap, ap₂, _∙_, subst}
 use mathlib.Core.Bool.{Bool, true, false}
@@ -8,15 +8,15 @@ use lib.IntN.{ℤ}
 use mir.Syntax.{w32}
 use mir.Val.{toZ}
 use lib.ListN.{length}
-use lib.Dec.{leb, ltb, eqb}
-use borrow.Author.Tests.{ltb-true, ltb-false, le-leb, lt-leb, eqb-true, eqb-false, eq-eqb}
+use lib.Dec.{ltb, eqb}
+use borrow.Author.Tests.{ltb-true, ltb-false, le-leb, lt-leb, eqb-true, eq-eqb}
 use Rattle.reader.specs.Result.{Result, ok, err, need, pick, Refusal, _>>=_}
 use Rattle.reader.specs.Limits.{base, maxBytes, rowNumbers}
 use Rattle.reader.specs.Script.{Term}
 use Rattle.reader.specs.Layout.{rowsOf, zeros}
 use Rattle.reader.specs.Reader.{parse, decode}
 use Rattle.reader.specs.Measures.{size}
-use Rattle.reader.specs.Within.{Under, Within}
+use Rattle.reader.specs.Within.{Under}
 use Rattle.reader.specs.Answers.{told, Answered, lengthsFit, parsedInto, onFit, readOf, rowsTree}
 use Rattle.reader.specs.declared.Outcome.{Outcome}
 use Rattle.reader.specs.declared.Outcome.the-variants as read
@@ -28,7 +28,7 @@ use Rattle.machine.specs.Store.{State, Ran}
 use Rattle.machine.specs.Run.{runScript}
 use Rattle.machine.specs.Encode.{encode}
 use Rattle.machine.specs.Answers.{Answer, runFits, runnable, bitsOf, ranInto, runInto, runOf}
-use Rattle.room.specs.Calling.{CallAnswer, called, refused, toldCall, CallMade, callFits, runCalled, judgedCalled, parsedCalled, fitCalled, callOf}
+use Rattle.room.specs.Calling.{CallAnswer, called, refused, toldCall, callFits, runCalled, judgedCalled, parsedCalled, fitCalled, callOf}
 use Rattle.room.specs.Parts.{ofRun, ifAccepted, checkedRun, fitNumber}
 use Rattle.room.specs.declared.Called.{Called}
 use Rattle.room.specs.declared.Called.the-variants as room
@@ -76,6 +76,7 @@ module _ (script : List ℕ) (readings : List ℤ) (rows store : List ℕ) where
         where
           s : (err (m, p), rows₁) ≡ parsedInto base (parse base script)
           s = ap (λ (x : Outcome). (told x, rows₁)) (sym r) ∙ q ∙ fit-read
+
           go : (t : Result Refusal Term) → parse base script ≡ t → (toldCall (room.Refused m p), (rows₁, store)) ≡ callOf base script readings rows store
           go (ok t) w =
               let k : _≡_ {A = Answered} (err (m, p), rows₁) (ok (size t), rowsOf base t) = s ∙ ap (parsedInto base) w in
@@ -125,6 +126,7 @@ module _ (script : List ℕ) (readings : List ℤ) (rows store : List ℕ) where
             where
               h : _≡_ {A = CallAnswer × List ℕ} (toldCall r, store₁) (ifAccepted (judgeScript (base .variables) t >>= λ _. ok (size t)) terms store (ranInto base (runScript (bitsOf readings) t (λ x. closed))))
               h = v ∙ ap₂ (λ (x : Result Refusal ℕ) (y : Answer × List ℕ). ifAccepted x terms store y) check-is run-is
+
               go : (j : Result Refusal (Unit {0})) → _≡_ {A = CallAnswer × List ℕ} (toldCall r, store₁) (ifAccepted (j >>= λ _. ok (size t)) terms store (ranInto base (runScript (bitsOf readings) t (λ x. closed))))
                   → (toldCall r, (rows₁, store₁)) ≡ judgedCalled base readings store t j
               go (ok x) k = as-run (runScript (bitsOf readings) t (λ x. closed)) k

@@ -8,17 +8,17 @@ use Rattle.reader.specs.Result.{Result, ok, err, Refusal}
 use Rattle.reader.specs.Limits.{base}
 use Rattle.reader.specs.Script.{Term}
 use Rattle.reader.specs.Reader.{parse}
-use Rattle.reader.specs.Within.{Under, Within}
+use Rattle.reader.specs.Within.{Under}
 use Rattle.reader.proofs.RoundTrip.{parsed}
 use Rattle.rules.specs.Judge.{judgeScript}
 use Rattle.machine.specs.Values.{closed}
-use Rattle.machine.specs.Store.{State, Ran, Fault}
+use Rattle.machine.specs.Store.{State, Ran}
 use Rattle.machine.specs.Run.{runScript}
 use Rattle.machine.specs.Encode.{encode}
 use Rattle.machine.specs.Safety.{Safe, closedRows, givenRows}
 use Rattle.machine.specs.Answers.{bitsOf}
 use Rattle.machine.proofs.Demand3.{demand-three}
-use Rattle.room.specs.Calling.{CallAnswer, called, refused, toldCall, CallMade, callFits, runCalled, judgedCalled, parsedCalled, fitCalled, callOf, SafeCall}
+use Rattle.room.specs.Calling.{called, refused, toldCall, CallMade, callFits, runCalled, judgedCalled, parsedCalled, fitCalled, callOf, SafeCall}
 use Rattle.room.specs.declared.Called.{Called}
 
 called-refused : {A : Type 0} {n c m p : ℕ} {a : ℤ} → called n a c ≡ refused m p → A
@@ -46,10 +46,11 @@ module _ (script : List ℕ) (readings : List ℤ) (rows store : List ℕ) (u : 
         let z : r .0 ≡ safely .final = ap (λ (k : State × ℕ). k .0) s in
         record {
           tidy = λ n a c k.
-            let y : r .0 .taken ≡ c = cc in
-            ap (λ (x : State). encode (base .variables) (base .variables + base .boxes) (x .store)) z ∙ safely .numbers
-            ∙ ap (λ (x : ℕ). closedRows (base .variables) ++ (givenRows x ++ closedRows (base .boxes - x))) (ap (λ (x : State). x .taken) (sym z) ∙ y);
-          untouched = λ n p k. called-refused k }
+              let y : r .0 .taken ≡ c = cc in
+              ap (λ (x : State). encode (base .variables) (base .variables + base .boxes) (x .store)) z ∙ safely .numbers
+              ∙ ap (λ (x : ℕ). closedRows (base .variables) ++ (givenRows x ++ closedRows (base .boxes - x))) (ap (λ (x : State). x .taken) (sym z) ∙ y);
+          untouched = λ n p k. called-refused k;
+        }
 
   left : Left (callOf base script readings rows store)
   unfolding callOf fitCalled parsedCalled judgedCalled
@@ -58,9 +59,11 @@ module _ (script : List ℕ) (readings : List ℤ) (rows store : List ℕ) (u : 
       judged : (t : Term) → parse base script ≡ ok t → (j : Result Refusal (Unit {0})) → judgeScript (base .variables) t ≡ j → Left (judgedCalled base readings store t j)
       judged t w (ok x) e = ran t w e (runScript (bitsOf readings) t (λ x. closed)) refl
       judged t w (err f) e = unchanged (f .0) (f .1) _
+
       read : (t : Result Refusal Term) → parse base script ≡ t → Left (parsedCalled base readings store t)
       read (ok t) e = judged t e (judgeScript (base .variables) t) refl
       read (err f) e = unchanged (f .0) (f .1) _
+
       fit : (f : Result Refusal (Unit {0})) → Left (fitCalled f rows store (parsedCalled base readings store (parse base script)))
       fit (ok x) = read (parse base script) refl
       fit (err f) = unchanged (f .0) (f .1) rows

@@ -1,6 +1,6 @@
 -- The check, and the run of what it accepts.
 use Prim.Native.Nat.{ℕ}
-use mathlib.Core.Path.{_≡_, sym, ap, ap₂, _∙_}
+use mathlib.Core.Path.{_≡_, sym, ap, _∙_}
 use mathlib.Core.List.{List}
 use lib.IntN.{ℤ}
 use Rattle.reader.specs.Result.{Result, ok, err, Refusal}
@@ -11,9 +11,8 @@ use Rattle.ownership.specs.declared.Checked.the-variants as checked
 use Rattle.machine.specs.Answers.{Answer, toldRun, runOf}
 use Rattle.machine.specs.declared.RunOutcome.{RunOutcome}
 use Rattle.machine.specs.declared.RunOutcome.the-variants as machine
-use Rattle.room.specs.Calling.{CallAnswer, toldCall}
+use Rattle.room.specs.Calling.{toldCall}
 use Rattle.room.specs.Parts.{ofRun, ifAccepted, checkedRun}
-use Rattle.room.specs.declared.Called.{Called}
 use Rattle.room.specs.declared.Called.the-variants as room
 
 module _ (terms : ℕ) (rows : List ℕ) (readings : List ℤ) (store : List ℕ) (k : Checked) (h : toldChecked k ≡ checkOf base rows) where

@@ -5,7 +5,7 @@ ghost use Rattle.reader.specs.Limits.{base};
 ghost use Rattle.room.specs.Calling.{toldCall, callOf, SafeCall, readingAt};
 ghost use Rattle.room.specs.Parts.{fitNumber, checkedRun};
 use machine::RunOutcome;
-use machine::numbers::number_of;
+use machine::signed::number_of;
 use ownership::Checked;
 use reader::Outcome;
 

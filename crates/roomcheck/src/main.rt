@@ -4,7 +4,7 @@ use libc::STDOUT_FILENO;
 use room::Called;
 
 fn print_signed(n: i32) {
-    let bits = machine::numbers::bits_of(n) as u64;
+    let bits = machine::signed::bits_of(n) as u64;
     if bits < 2147483648 {
         io::print_decimal(STDOUT_FILENO, bits);
     } else {

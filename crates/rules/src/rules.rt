@@ -261,7 +261,8 @@ pub fn judge_assign(
                 return Verdict::Refused(refusals::OTHER_LINKS, term);
             }
             let end = of.borrow_end;
-            if !lives_at(env, variables, end, level_at(env, variables, written)) {
+            let level = level_at(env, variables, written);
+            if !lives_at(env, variables, end, level) {
                 return Verdict::Refused(refusals::LIVES_TOO_SHORT, term);
             }
             refill(env, variables, written, end);

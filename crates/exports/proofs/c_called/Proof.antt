@@ -1,3 +1,4 @@
+-- `exports::c_called` meets its contract. Assumes nothing.
 use mathlib.Core.Path.{refl}
 use mir.Facts.{toZ-ofZ}
 use mir.Syntax.{w32}
@@ -7,25 +8,19 @@ use Rattle.exports.specs.Answers.{tellsCalled}
 use borrow.Author.Needs.{needs}
 use Rattle.exports.proofs.c_called.Statement.{statement}
 use Rattle.exports.proofs.c_called.Tie as tie
-use Rattle.exports.proofs.c_called.Reads as reads
-use Rattle.exports.proofs.c_called.Lts as lts
 
--- src/lib.rt:142:26
 enum-known-called : tie.Need-enum-known-called
 enum-known-called c = search needs
 
--- src/lib.rt:150:25
 enum-known-called-2 : tie.Need-enum-known-called-2
 enum-known-called-2 c = search needs
 
--- src/lib.rt:138:1
 returns : tie.Need-returns
 unfolding tellsCalled toldCall
 returns c =
     let h : SFits w32 (c .before .called .given .0 .1 .0) = search needs in
     rw (c .before .called .given .1, toZ-ofZ h) refl
 
--- src/lib.rt:138:1
 returns-2 : tie.Need-returns-2
 unfolding tellsCalled toldCall
 returns-2 c = rw (c .before .called2 .given .1) refl

@@ -1,26 +1,21 @@
+-- `exports::c_checked` meets its contract. Assumes nothing.
 use mathlib.Core.Path.{refl}
 use Rattle.ownership.specs.Answers.{toldChecked}
 use Rattle.exports.specs.Answers.{tells}
 use borrow.Author.Needs.{needs}
 use Rattle.exports.proofs.c_checked.Statement.{statement}
 use Rattle.exports.proofs.c_checked.Tie as tie
-use Rattle.exports.proofs.c_checked.Reads as reads
-use Rattle.exports.proofs.c_checked.Lts as lts
 
--- src/lib.rt:72:27
 enum-known-checked : tie.Need-enum-known-checked
 enum-known-checked c = search needs
 
--- src/lib.rt:77:26
 enum-known-checked-2 : tie.Need-enum-known-checked-2
 enum-known-checked-2 c = search needs
 
--- src/lib.rt:68:1
 returns : tie.Need-returns
 unfolding tells toldChecked
 returns c = rw (c .before .checked .given .1) refl
 
--- src/lib.rt:68:1
 returns-2 : tie.Need-returns-2
 unfolding tells toldChecked
 returns-2 c = rw (c .before .checked2 .given .1) refl

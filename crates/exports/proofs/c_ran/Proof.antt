@@ -1,3 +1,4 @@
+-- `exports::c_ran` meets its contract. Assumes nothing.
 use mathlib.Core.Path.{refl}
 use mir.Facts.{toZ-ofZ}
 use mir.Syntax.{w32}
@@ -7,34 +8,26 @@ use Rattle.exports.specs.Answers.{tellsRan}
 use borrow.Author.Needs.{needs}
 use Rattle.exports.proofs.c_ran.Statement.{statement}
 use Rattle.exports.proofs.c_ran.Tie as tie
-use Rattle.exports.proofs.c_ran.Reads as reads
-use Rattle.exports.proofs.c_ran.Lts as lts
 
--- src/lib.rt:99:30
 enum-known-ran : tie.Need-enum-known-ran
 enum-known-ran c = search needs
 
--- src/lib.rt:105:29
 enum-known-ran-2 : tie.Need-enum-known-ran-2
 enum-known-ran-2 c = search needs
 
--- src/lib.rt:111:29
 enum-known-ran-3 : tie.Need-enum-known-ran-3
 enum-known-ran-3 c = search needs
 
--- src/lib.rt:95:1
 returns : tie.Need-returns
 unfolding tellsRan toldRun
 returns c =
     let h : SFits w32 (c .before .ran .given .0 .0) = search needs in
     rw (c .before .ran .given .1, toZ-ofZ h) refl
 
--- src/lib.rt:95:1
 returns-2 : tie.Need-returns-2
 unfolding tellsRan toldRun
 returns-2 c = rw (c .before .ran2 .given .1) refl
 
--- src/lib.rt:95:1
 returns-3 : tie.Need-returns-3
 unfolding tellsRan toldRun
 returns-3 c = rw (c .before .ran3 .given .1) refl

@@ -6,10 +6,6 @@ use native.Mathlib.Omega.{arith}
 use mathlib.Core.Path.{sym, ap, _∙_}
 use Rattle.machine.proofs.run.Statement.{statement}
 use Rattle.machine.proofs.run.Tie as tie
-use Rattle.machine.proofs.run.Reads as reads
-use Rattle.machine.proofs.run.Lts as lts
-use Rattle.machine.proofs.run_judged.Reads as run-judged-reads
-use Rattle.reader.proofs.judge_rows.Reads as judge-rows-reads
 
 returns : tie.Need-returns
 returns c = rows-length _ _ _ (c .if1 .taken)

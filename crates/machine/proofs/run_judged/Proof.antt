@@ -8,11 +8,6 @@ use mir.Val.{SFits}
 use mir.Syntax.{w32}
 use Rattle.machine.proofs.run_judged.Statement.{statement}
 use Rattle.machine.proofs.run_judged.Tie as tie
-use Rattle.machine.proofs.run_judged.Reads as reads
-use Rattle.machine.proofs.run_judged.Lts as lts
-use Rattle.machine.proofs.numbers.number_of.Reads as number-of-reads
-use Rattle.machine.proofs.store.clear.Reads as clear-reads
-use Rattle.machine.proofs.terms.run_term.Reads as run-term-reads
 
 clear-requires : tie.Need-clear-requires
 clear-requires c κs = search needs

@@ -1,3 +1,4 @@
+-- `room::reading_at` meets its contract. Assumes nothing.
 use Prim.Native.Nat.{_+_}
 use native.Mathlib.Omega.{arith}
 use mathlib.Core.Path.{refl, _∙_}
@@ -10,98 +11,72 @@ use Rattle.room.specs.Calling.{readingAt}
 use borrow.Author.Needs.{needs}
 use Rattle.room.proofs.reading_at.Statement.{statement}
 use Rattle.room.proofs.reading_at.Tie as tie
-use Rattle.room.proofs.reading_at.Reads as reads
-use Rattle.room.proofs.reading_at.Lts as lts
-use Rattle.machine.proofs.numbers.number_of.Reads as number-of-reads
-use Rattle.room.proofs.wide.Reads as wide-reads
 
--- src/lib.rt:77:9
 returns : tie.Need-returns
 unfolding readingAt
 returns c = rw (lt-leb (c .before .before .args .at + 4) (length (c .before .before .args .input .now)) (omega (arith, c .if1 .taken))) refl
 
--- src/lib.rt:79:8
 sub-if2 : tie.Need-sub-if2
 sub-if2 c = search needs
 
--- src/lib.rt:80:9
 returns-2 : tie.Need-returns-2
 unfolding readingAt
 returns-2 c = rw (lt-leb (c .before .before .before .args .at + 4) (length (c .before .before .before .args .input .now)) (omega (arith, c .before .if1 .left, c .if2 .taken))) refl
 
--- src/lib.rt:82:18
 shared-slice-read-wide : tie.Need-shared-slice-read-wide
 shared-slice-read-wide c = search needs
 
--- src/lib.rt:82:9
 wide-requires : tie.Need-wide-requires
 wide-requires c κs = search needs
 
--- src/lib.rt:83:24
 add-wide : tie.Need-add-wide
 add-wide c = search needs
 
--- src/lib.rt:83:18
 shared-slice-read-wide-2 : tie.Need-shared-slice-read-wide-2
 shared-slice-read-wide-2 c = search needs
 
--- src/lib.rt:83:9
 wide-requires-2 : tie.Need-wide-requires-2
 wide-requires-2 c κs = search needs
 
--- src/lib.rt:84:24
 add-wide-2 : tie.Need-add-wide-2
 add-wide-2 c = search needs
 
--- src/lib.rt:84:18
 shared-slice-read-wide-3 : tie.Need-shared-slice-read-wide-3
 shared-slice-read-wide-3 c = search needs
 
--- src/lib.rt:84:9
 wide-requires-3 : tie.Need-wide-requires-3
 wide-requires-3 c κs = search needs
 
--- src/lib.rt:85:24
 add-wide-3 : tie.Need-add-wide-3
 add-wide-3 c = search needs
 
--- src/lib.rt:85:18
 shared-slice-read-wide-4 : tie.Need-shared-slice-read-wide-4
 shared-slice-read-wide-4 c = search needs
 
--- src/lib.rt:85:9
 wide-requires-4 : tie.Need-wide-requires-4
 wide-requires-4 c κs = search needs
 
--- src/lib.rt:86:15
 mul-number-of : tie.Need-mul-number-of
 mul-number-of c = search needs
 
--- src/lib.rt:86:30
 mul-number-of-2 : tie.Need-mul-number-of-2
 mul-number-of-2 c = search needs
 
--- src/lib.rt:86:15
 add-number-of : tie.Need-add-number-of
 add-number-of c = search needs
 
--- src/lib.rt:86:42
 mul-number-of-3 : tie.Need-mul-number-of-3
 mul-number-of-3 c = search needs
 
--- src/lib.rt:86:15
 add-number-of-2 : tie.Need-add-number-of-2
 add-number-of-2 c = search needs
 
--- src/lib.rt:86:15
 add-number-of-3 : tie.Need-add-number-of-3
 add-number-of-3 c = search needs
 
--- src/lib.rt:86:5
 number-of-requires : tie.Need-number-of-requires
 number-of-requires c κs = search needs
 
--- src/lib.rt:73:1
 returns-3 : tie.Need-returns-3
 unfolding readingAt
 returns-3 c =

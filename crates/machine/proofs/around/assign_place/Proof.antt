@@ -4,12 +4,6 @@ use borrow.Author.Needs.{needs}
 use mathlib.Core.Path.{_∙_}
 use Rattle.machine.proofs.around.assign_place.Statement.{statement}
 use Rattle.machine.proofs.around.assign_place.Tie as tie
-use Rattle.machine.proofs.around.assign_place.Reads as reads
-use Rattle.machine.proofs.around.assign_place.Lts as lts
-use Rattle.machine.proofs.around.write_open.Reads as write-open-reads
-use Rattle.machine.proofs.dropping.drop_value.Reads as drop-value-reads
-use Rattle.machine.proofs.locate.locate.Reads as locate-reads
-use Rattle.machine.proofs.store.load.Reads as load-reads
 
 locate-requires : tie.Need-locate-requires
 locate-requires c κs = search needs

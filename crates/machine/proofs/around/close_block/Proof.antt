@@ -2,9 +2,6 @@
 use Rattle.machine.proofs.AroundLaws.{end-stops, end-goes}
 use Rattle.machine.proofs.around.close_block.Statement.{statement}
 use Rattle.machine.proofs.around.close_block.Tie as tie
-use Rattle.machine.proofs.around.close_block.Reads as reads
-use Rattle.machine.proofs.around.close_block.Lts as lts
-use Rattle.machine.proofs.dropping.close_variables.Reads as close-variables-reads
 
 returns : tie.Need-returns
 returns c = end-stops _ _ _ _ _ (c .if1 .taken) (c .before .before .before .before .pre .ready .tidy)

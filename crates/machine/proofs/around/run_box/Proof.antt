@@ -4,9 +4,6 @@ use Rattle.machine.proofs.WordLaws.{open-row}
 use native.Mathlib.Omega.{arith}
 use Rattle.machine.proofs.around.run_box.Statement.{statement}
 use Rattle.machine.proofs.around.run_box.Tie as tie
-use Rattle.machine.proofs.around.run_box.Reads as reads
-use Rattle.machine.proofs.around.run_box.Lts as lts
-use Rattle.machine.proofs.store.put_row.Reads as put-row-reads
 
 returns : tie.Need-returns
 returns c = box-stops _ _ (c .if1 .taken) (c .before .before .before .pre .ready .tidy)

@@ -6,11 +6,6 @@ use native.Mathlib.Omega.{arith}
 use mathlib.Core.Path.{refl}
 use Rattle.machine.proofs.around.run_let.Statement.{statement}
 use Rattle.machine.proofs.around.run_let.Tie as tie
-use Rattle.machine.proofs.around.run_let.Reads as reads
-use Rattle.machine.proofs.around.run_let.Lts as lts
-use Rattle.machine.proofs.around.without_value.Reads as without-value-reads
-use Rattle.machine.proofs.store.load.Reads as load-reads
-use Rattle.machine.proofs.store.put_row.Reads as put-row-reads
 
 returns : tie.Need-returns
 returns c = let-stops _ _ _ _ _ (c .if1 .taken) (c .before .before .before .before .pre .ready .tidy)

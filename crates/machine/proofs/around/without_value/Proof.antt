@@ -3,8 +3,6 @@ use Rattle.machine.specs.Parts.{withoutValue}
 use mathlib.Core.Path.{refl}
 use Rattle.machine.proofs.around.without_value.Statement.{statement}
 use Rattle.machine.proofs.around.without_value.Tie as tie
-use Rattle.machine.proofs.around.without_value.Reads as reads
-use Rattle.machine.proofs.around.without_value.Lts as lts
 
 returns : tie.Need-returns
 unfolding withoutValue

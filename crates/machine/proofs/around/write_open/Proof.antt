@@ -4,10 +4,6 @@ use Rattle.machine.proofs.WordLaws.{open-row}
 use borrow.Author.Needs.{needs}
 use Rattle.machine.proofs.around.write_open.Statement.{statement}
 use Rattle.machine.proofs.around.write_open.Tie as tie
-use Rattle.machine.proofs.around.write_open.Reads as reads
-use Rattle.machine.proofs.around.write_open.Lts as lts
-use Rattle.machine.proofs.store.load.Reads as load-reads
-use Rattle.machine.proofs.store.put_row.Reads as put-row-reads
 
 load-requires : tie.Need-load-requires
 load-requires c κs = search needs

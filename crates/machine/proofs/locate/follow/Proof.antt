@@ -3,9 +3,6 @@ use Rattle.machine.proofs.LocateLaws.{follow-shut, follow-owner, follow
 use borrow.Author.Needs.{needs}
 use Rattle.machine.proofs.locate.follow.Statement.{statement}
 use Rattle.machine.proofs.locate.follow.Tie as tie
-use Rattle.machine.proofs.locate.follow.Reads as reads
-use Rattle.machine.proofs.locate.follow.Lts as lts
-use Rattle.machine.proofs.store.load.Reads as load-reads
 
 load-requires : tie.Need-load-requires
 load-requires c κs = search needs

@@ -4,10 +4,6 @@ use native.Mathlib.Omega.{arith}
 use Prim.Native.Nat.{_<_}
 use Rattle.machine.proofs.locate.locate.Statement.{statement}
 use Rattle.machine.proofs.locate.locate.Tie as tie
-use Rattle.machine.proofs.locate.locate.Reads as reads
-use Rattle.machine.proofs.locate.locate.Lts as lts
-use Rattle.machine.proofs.locate.follow.Reads as follow-reads
-use Rattle.machine.proofs.store.load.Reads as load-reads
 
 abbrev Inv-loop : tie.InvT-loop
 Inv-loop store root follows row₀ left₀ row left = (row < 128) × Leading store root follows row left

@@ -3,9 +3,6 @@ use Rattle.machine.proofs.LocateLaws.{read-shut, read-empty, read-fille
 use borrow.Author.Needs.{needs}
 use Rattle.machine.proofs.locate.read_row.Statement.{statement}
 use Rattle.machine.proofs.locate.read_row.Tie as tie
-use Rattle.machine.proofs.locate.read_row.Reads as reads
-use Rattle.machine.proofs.locate.read_row.Lts as lts
-use Rattle.machine.proofs.store.load.Reads as load-reads
 
 load-requires : tie.Need-load-requires
 load-requires c κs = search needs

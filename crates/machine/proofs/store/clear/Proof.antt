@@ -7,8 +7,6 @@ use Prim.Native.Nat.{ℕ, _-_, _<_, _≤_}
 use lib.ListN.{length, length-set, getD}
 use Rattle.machine.proofs.store.clear.Statement.{statement}
 use Rattle.machine.proofs.store.clear.Tie as tie
-use Rattle.machine.proofs.store.clear.Reads as reads
-use Rattle.machine.proofs.store.clear.Lts as lts
 
 abbrev Inv-loop : tie.InvT-loop
 Inv-loop store₀ i₀ store i = (i ≤ length store) × (length store ≡ length store₀) × ((k : ℕ) → k < i → _≡_ {A = ℕ} (getD store k 0) 0)

@@ -4,8 +4,6 @@ use borrow.Author.Needs.{needs}
 use mathlib.Core.Path.{refl}
 use Rattle.machine.proofs.store.load.Statement.{statement}
 use Rattle.machine.proofs.store.load.Tie as tie
-use Rattle.machine.proofs.store.load.Reads as reads
-use Rattle.machine.proofs.store.load.Lts as lts
 
 mul-at : tie.Need-mul-at
 mul-at c = search needs

@@ -6,8 +6,6 @@ use mathlib.Core.Path.{refl}
 use lib.ListN.{length-set}
 use Rattle.machine.proofs.store.put_row.Statement.{statement}
 use Rattle.machine.proofs.store.put_row.Tie as tie
-use Rattle.machine.proofs.store.put_row.Reads as reads
-use Rattle.machine.proofs.store.put_row.Lts as lts
 
 mul-at : tie.Need-mul-at
 mul-at c = search needs

@@ -119,7 +119,10 @@ judge-term-number-at-requires : (t : ℕ) → judge-term-lts.Need-number-at-requ
 judge-term-number-at-requires t c κs = (tree-room _ _ _ _ (c .before .before .pre .1 .0), omega arith)
 
 judge-term-judge-term-requires : (t : ℕ) → judge-term-lts.Need-judge-term-requires (judge-term-claims t) (judge-term-at t) judge-term.Post
-judge-term-judge-term-requires t c κs = (omega (arith, c .before .before .before .before .before .pre .0, tree-level _ _ _ _ (c .before .before .before .before .before .pre .1 .0)), (box-inner _ _ _ _ (c .before .before .before .before .before .pre .1 .0) (sym (c .before .before .number-at .ensures) ∙ c .before .match .keys1), c .before .before .before .before .before .pre .1 .1, omega (arith, c .before .before .before .before .before .pre .1 .2)))
+judge-term-judge-term-requires t c κs =
+    let p = c .before .before .before .before .before .pre in
+    let k = sym (c .before .before .number-at .ensures) ∙ c .before .match .keys1 in
+    (omega (arith, p .0, tree-level _ _ _ _ (p .1 .0)), (box-inner _ _ _ _ (p .1 .0) k, p .1 .1, omega (arith, p .1 .2)))
 
 judge-term-enum-known-verdict : (t : ℕ) → judge-term-lts.Need-enum-known-verdict (judge-term-claims t) (judge-term-at t) judge-term.Post
 judge-term-enum-known-verdict t c = search needs
@@ -132,11 +135,8 @@ judge-term-same-length t c = c .before .before .before .before .judge-term .kept
 
 judge-term-returns : (t : ℕ) → judge-term-lts.Need-returns (judge-term-claims t) (judge-term-at t) judge-term.Post
 judge-term-returns t c =
-    let at-judge-term = c .before .before .before .before in
-    let at-match = at-judge-term .before .before in
-    let at-number-at = at-match .before in
-    let start = at-number-at .before .before .before in
-    box-refused _ _ _ _ (start .pre .1 .0) _ _ _ _ (at-judge-term .judge-term .ensures) (sym (at-number-at .number-at .ensures) ∙ at-match .match .keys1) _ _ (c .enum-told .given .1)
+    let k = sym (c .before .before .before .before .before .before .before .number-at .ensures) ∙ c .before .before .before .before .before .before .match .keys1 in
+    box-refused _ _ _ _ (c .before .before .before .before .before .before .before .before .before .before .pre .1 .0) _ _ _ _ (c .before .before .before .before .judge-term .ensures) k _ _ (c .enum-told .given .1)
 
 judge-term-judge-box-requires : (t : ℕ) → judge-term-lts.Need-judge-box-requires (judge-term-claims t) (judge-term-at t) judge-term.Post
 judge-term-judge-box-requires t c κs = search needs
@@ -145,7 +145,10 @@ judge-term-index-at-requires : (t : ℕ) → judge-term-lts.Need-index-at-requir
 judge-term-index-at-requires t c κs = (tree-room _ _ _ _ (c .before .before .before .before .pre .1 .0), omega arith)
 
 judge-term-begin-let-requires : (t : ℕ) → judge-term-lts.Need-begin-let-requires (judge-term-claims t) (judge-term-at t) judge-term.Post
-judge-term-begin-let-requires t c κs = (c .before .before .before .before .before .before .pre .1 .1, omega (arith, c .before .index-at .ensures, let-number _ _ _ _ (c .before .before .before .before .before .before .pre .1 .0) (sym (c .before .before .before .number-at .ensures) ∙ c .before .before .match .keys2)))
+judge-term-begin-let-requires t c κs =
+    let p = c .before .before .before .before .before .before .pre in
+    let k = sym (c .before .before .before .number-at .ensures) ∙ c .before .before .match .keys2 in
+    (p .1 .1, omega (arith, c .before .index-at .ensures, let-number _ _ _ _ (p .1 .0) k))
 
 judge-term-enum-known-begun : (t : ℕ) → judge-term-lts.Need-enum-known-begun (judge-term-claims t) (judge-term-at t) judge-term.Post
 judge-term-enum-known-begun t c = search needs
@@ -161,13 +164,17 @@ judge-term-returns-2 t c =
     let at-match = at-index-at .before in
     let at-number-at = at-match .before in
     let start = at-number-at .before .before .before in
-    let-taken _ _ _ _ (start .pre .1 .0) _ _ (sym (at-number-at .number-at .ensures) ∙ at-match .match .keys2) _ (at-index-at .index-at .ensures) _ _ (at-begin-let .begin-let .ensures) _ _ (at-begun .begun .given .1) _ _
+    let k = sym (at-number-at .number-at .ensures) ∙ at-match .match .keys2 in
+    let-taken _ _ _ _ (start .pre .1 .0) _ _ k _ (at-index-at .index-at .ensures) _ _ (at-begin-let .begin-let .ensures) _ _ (at-begun .begun .given .1) _ _
 
 judge-term-enum-told-2 : (t : ℕ) → judge-term-lts.Need-enum-told-2 (judge-term-claims t) (judge-term-at t) judge-term.Post
 judge-term-enum-told-2 t c = search needs
 
 judge-term-judge-term-requires-2 : (t : ℕ) → judge-term-lts.Need-judge-term-requires-2 (judge-term-claims t) (judge-term-at t) judge-term.Post
-judge-term-judge-term-requires-2 t c κs = (omega (arith, c .before .before .before .before .before .before .before .before .before .before .before .before .pre .0, tree-level _ _ _ _ (c .before .before .before .before .before .before .before .before .before .before .before .before .pre .1 .0)), (let-inner _ _ _ _ (c .before .before .before .before .before .before .before .before .before .before .before .before .pre .1 .0) (sym (c .before .before .before .before .before .before .before .before .before .number-at .ensures) ∙ c .before .before .before .before .before .before .before .before .match .keys2), (c .before .before .before .before .before .begin-let .kept .0 ∙ c .before .before .before .before .before .before .before .before .before .before .before .before .pre .1 .1 .0, c .before .before .before .before .before .before .before .before .before .before .before .before .pre .1 .1 .1), omega (arith, c .before .before .before .before .before .before .before .before .before .before .before .before .pre .1 .2)))
+judge-term-judge-term-requires-2 t c κs =
+    let p = c .before .before .before .before .before .before .before .before .before .before .before .before .pre in
+    let k = sym (c .before .before .before .before .before .before .before .before .before .number-at .ensures) ∙ c .before .before .before .before .before .before .before .before .match .keys2 in
+    (omega (arith, p .0, tree-level _ _ _ _ (p .1 .0)), (let-inner _ _ _ _ (p .1 .0) k, (c .before .before .before .before .before .begin-let .kept .0 ∙ p .1 .1 .0, p .1 .1 .1), omega (arith, p .1 .2)))
 
 judge-term-enum-known-verdict-2 : (t : ℕ) → judge-term-lts.Need-enum-known-verdict-2 (judge-term-claims t) (judge-term-at t) judge-term.Post
 judge-term-enum-known-verdict-2 t c = search needs
@@ -187,16 +194,29 @@ judge-term-returns-3 t c =
     let at-match = at-index-at .before in
     let at-number-at = at-match .before in
     let start = at-number-at .before .before .before in
-    let-refused _ _ _ _ (start .pre .1 .0) _ _ (sym (at-number-at .number-at .ensures) ∙ at-match .match .keys2) _ (at-index-at .index-at .ensures) _ _ (at-begin-let .begin-let .ensures) (at-enum-told2 .enum-told2 .given .1) _ _ (at-judge-term2 .judge-term2 .ensures) _ _ (c .enum-told3 .given .1)
+    let k = sym (at-number-at .number-at .ensures) ∙ at-match .match .keys2 in
+    let-refused _ _ _ _ (start .pre .1 .0) _ _ k _ (at-index-at .index-at .ensures) _ _ (at-begin-let .begin-let .ensures) (at-enum-told2 .enum-told2 .given .1) _ _ (at-judge-term2 .judge-term2 .ensures) _ _ (c .enum-told3 .given .1)
 
 judge-term-judge-let-requires : (t : ℕ) → judge-term-lts.Need-judge-let-requires (judge-term-claims t) (judge-term-at t) judge-term.Post
-judge-term-judge-let-requires t c κs = ((c .before .before .before .before .before .before .judge-term2 .kept .1 .1 .1 .0 ∙ c .before .before .before .before .before .before .before .before .before .before .before .before .begin-let .kept .0 ∙ c .before .before .before .before .before .before .before .before .before .before .before .before .before .before .before .before .before .before .before .pre .1 .1 .0, c .before .before .before .before .before .before .before .before .before .before .before .before .before .before .before .before .before .before .before .pre .1 .1 .1), omega (arith, c .before .before .before .before .before .before .before .before .before .before .before .before .before .before .index-at .ensures, let-number _ _ _ _ (c .before .before .before .before .before .before .before .before .before .before .before .before .before .before .before .before .before .before .before .pre .1 .0) (sym (c .before .before .before .before .before .before .before .before .before .before .before .before .before .before .before .before .number-at .ensures) ∙ c .before .before .before .before .before .before .before .before .before .before .before .before .before .before .before .match .keys2)))
+judge-term-judge-let-requires t c κs =
+    let at-judge-term2 = c .before .before .before .before .before .before in
+    let at-begin-let = at-judge-term2 .before .before .before .before .before .before in
+    let at-index-at = at-begin-let .before .before in
+    let at-match = at-index-at .before in
+    let at-number-at = at-match .before in
+    let start = at-number-at .before .before .before in
+    let p = start .pre in
+    let k = sym (at-number-at .number-at .ensures) ∙ at-match .match .keys2 in
+    ((at-judge-term2 .judge-term2 .kept .1 .1 .1 .0 ∙ at-begin-let .begin-let .kept .0 ∙ p .1 .1 .0, p .1 .1 .1), omega (arith, at-index-at .index-at .ensures, let-number _ _ _ _ (p .1 .0) k))
 
 judge-term-place-at-requires : (t : ℕ) → judge-term-lts.Need-place-at-requires (judge-term-claims t) (judge-term-at t) judge-term.Post
 judge-term-place-at-requires t c κs = (tree-room _ _ _ _ (c .before .before .before .before .pre .1 .0), omega arith)
 
 judge-term-judge-term-requires-3 : (t : ℕ) → judge-term-lts.Need-judge-term-requires-3 (judge-term-claims t) (judge-term-at t) judge-term.Post
-judge-term-judge-term-requires-3 t c κs = (omega (arith, c .before .before .before .before .before .before .pre .0, tree-level _ _ _ _ (c .before .before .before .before .before .before .pre .1 .0)), (assign-inner _ _ _ _ (c .before .before .before .before .before .before .pre .1 .0) (sym (c .before .before .before .number-at .ensures) ∙ c .before .before .match .keys3), c .before .before .before .before .before .before .pre .1 .1, omega (arith, c .before .before .before .before .before .before .pre .1 .2)))
+judge-term-judge-term-requires-3 t c κs =
+    let p = c .before .before .before .before .before .before .pre in
+    let k = sym (c .before .before .before .number-at .ensures) ∙ c .before .before .match .keys3 in
+    (omega (arith, p .0, tree-level _ _ _ _ (p .1 .0)), (assign-inner _ _ _ _ (p .1 .0) k, p .1 .1, omega (arith, p .1 .2)))
 
 judge-term-enum-known-verdict-3 : (t : ℕ) → judge-term-lts.Need-enum-known-verdict-3 (judge-term-claims t) (judge-term-at t) judge-term.Post
 judge-term-enum-known-verdict-3 t c = search needs
@@ -209,26 +229,27 @@ judge-term-same-length-4 t c = c .before .before .before .before .judge-term3 .k
 
 judge-term-returns-4 : (t : ℕ) → judge-term-lts.Need-returns-4 (judge-term-claims t) (judge-term-at t) judge-term.Post
 judge-term-returns-4 t c =
-    let at-judge-term3 = c .before .before .before .before in
-    let at-match = at-judge-term3 .before .before .before in
-    let at-number-at = at-match .before in
-    let start = at-number-at .before .before .before in
-    assign-refused _ _ _ _ (start .pre .1 .0) _ _ _ _ (at-judge-term3 .judge-term3 .ensures) (sym (at-number-at .number-at .ensures) ∙ at-match .match .keys3) _ _ (c .enum-told4 .given .1)
+    let k = sym (c .before .before .before .before .before .before .before .before .number-at .ensures) ∙ c .before .before .before .before .before .before .before .match .keys3 in
+    assign-refused _ _ _ _ (c .before .before .before .before .before .before .before .before .before .before .before .pre .1 .0) _ _ _ _ (c .before .before .before .before .judge-term3 .ensures) k _ _ (c .enum-told4 .given .1)
 
 judge-term-judge-assign-requires : (t : ℕ) → judge-term-lts.Need-judge-assign-requires (judge-term-claims t) (judge-term-at t) judge-term.Post
 judge-term-judge-assign-requires t c κs =
-    let at-judge-term3 = c .before .before .before .before .before .before in
-    let start = at-judge-term3 .before .before .before .before .before .before .before in
-    (at-judge-term3 .judge-term3 .kept .1 .1 .1 .0 ∙ start .pre .1 .1 .0, start .pre .1 .1 .1)
+    let p = c .before .before .before .before .before .before .before .before .before .before .before .before .before .pre in
+    (c .before .before .before .before .before .before .judge-term3 .kept .1 .1 .1 .0 ∙ p .1 .1 .0, p .1 .1 .1)
 
 judge-term-index-at-requires-2 : (t : ℕ) → judge-term-lts.Need-index-at-requires-2 (judge-term-claims t) (judge-term-at t) judge-term.Post
 judge-term-index-at-requires-2 t c κs = (tree-room _ _ _ _ (c .before .before .before .before .pre .1 .0), omega arith)
 
 judge-term-add-judge-block : (t : ℕ) → judge-term-lts.Need-add-judge-block (judge-term-claims t) (judge-term-at t) judge-term.Post
-judge-term-add-judge-block t c = omega (arith, c .before .before .before .before .before .before .pre .1 .2, tree-level _ _ _ _ (c .before .before .before .before .before .before .pre .1 .0))
+judge-term-add-judge-block t c =
+    let p = c .before .before .before .before .before .before .pre in
+    omega (arith, p .1 .2, tree-level _ _ _ _ (p .1 .0))
 
 judge-term-judge-block-requires : (t : ℕ) → judge-term-lts.Need-judge-block-requires (judge-term-claims t) (judge-term-at t) judge-term.Post
-judge-term-judge-block-requires t c κs = (omega (arith, c .before .before .before .before .before .before .pre .0, tree-level _ _ _ _ (c .before .before .before .before .before .before .pre .1 .0)), (block-rest _ _ _ _ (c .before .before .before .before .before .before .pre .1 .0) (sym (c .before .before .before .number-at .ensures) ∙ c .before .before .match .keys4) _ (c .before .index-at2 .ensures), c .before .before .before .before .before .before .pre .1 .1, omega (arith, c .before .before .before .before .before .before .pre .1 .2, tree-level _ _ _ _ (c .before .before .before .before .before .before .pre .1 .0))))
+judge-term-judge-block-requires t c κs =
+    let p = c .before .before .before .before .before .before .pre in
+    let k = sym (c .before .before .before .number-at .ensures) ∙ c .before .before .match .keys4 in
+    (omega (arith, p .0, tree-level _ _ _ _ (p .1 .0)), (block-rest _ _ _ _ (p .1 .0) k _ (c .before .index-at2 .ensures), p .1 .1, omega (arith, p .1 .2, tree-level _ _ _ _ (p .1 .0))))
 
 judge-term-enum-known-verdict-4 : (t : ℕ) → judge-term-lts.Need-enum-known-verdict-4 (judge-term-claims t) (judge-term-at t) judge-term.Post
 judge-term-enum-known-verdict-4 t c = search needs
@@ -246,13 +267,13 @@ judge-term-returns-5 t c =
     let at-match = at-index-at2 .before in
     let at-number-at = at-match .before in
     let start = at-number-at .before .before .before in
-    block-refused _ _ _ _ (start .pre .1 .0) _ _ (sym (at-number-at .number-at .ensures) ∙ at-match .match .keys4) _ (at-index-at2 .index-at2 .ensures) _ _ _ (at-judge-block .judge-block .ensures) _ _ (c .enum-told5 .given .1)
+    let k = sym (at-number-at .number-at .ensures) ∙ at-match .match .keys4 in
+    block-refused _ _ _ _ (start .pre .1 .0) _ _ k _ (at-index-at2 .index-at2 .ensures) _ _ _ (at-judge-block .judge-block .ensures) _ _ (c .enum-told5 .given .1)
 
 judge-term-judge-block-end-requires : (t : ℕ) → judge-term-lts.Need-judge-block-end-requires (judge-term-claims t) (judge-term-at t) judge-term.Post
 judge-term-judge-block-end-requires t c κs =
-    let at-judge-block = c .before .before .before .before .before .before in
-    let start = at-judge-block .before .before .before .before .before .before .before in
-    (at-judge-block .judge-block .kept .1 .1 .1 .1 .0 ∙ start .pre .1 .1 .0, start .pre .1 .1 .1)
+    let p = c .before .before .before .before .before .before .before .before .before .before .before .before .before .pre in
+    (c .before .before .before .before .before .before .judge-block .kept .1 .1 .1 .1 .0 ∙ p .1 .1 .0, p .1 .1 .1)
 
 judge-term-place-at-requires-2 : (t : ℕ) → judge-term-lts.Need-place-at-requires-2 (judge-term-claims t) (judge-term-at t) judge-term.Post
 judge-term-place-at-requires-2 t c κs = (tree-room _ _ _ _ (c .before .before .before .before .pre .1 .0), omega arith)
@@ -273,7 +294,8 @@ judge-term-returns-6 t c =
     let at-match = at-judge-term .before .before in
     let at-number-at = at-match .before in
     let start = at-number-at .before .before .before in
-    box-fine _ _ _ _ (start .pre .1 .0) _ _ _ _ (at-judge-term .judge-term .ensures) (sym (at-number-at .number-at .ensures) ∙ at-match .match .keys1) _ (at-verdict .verdict .given .1) _ (c .judge-box .ensures _ _)
+    let k = sym (at-number-at .number-at .ensures) ∙ at-match .match .keys1 in
+    box-fine _ _ _ _ (start .pre .1 .0) _ _ _ _ (at-judge-term .judge-term .ensures) k _ (at-verdict .verdict .given .1) _ (c .judge-box .ensures _ _)
 
 judge-term-same-length-7 : (t : ℕ) → judge-term-lts.Need-same-length-7 (judge-term-claims t) (judge-term-at t) judge-term.Post
 judge-term-same-length-7 t c =
@@ -293,7 +315,8 @@ judge-term-returns-7 t c =
     let at-match = at-index-at .before in
     let at-number-at = at-match .before in
     let start = at-number-at .before .before .before in
-    let-fine _ _ _ _ (start .pre .1 .0) _ _ (sym (at-number-at .number-at .ensures) ∙ at-match .match .keys2) _ (at-index-at .index-at .ensures) _ _ (at-begin-let .begin-let .ensures) (at-enum-told2 .enum-told2 .given .1) _ _ (at-judge-term2 .judge-term2 .ensures) _ (at-verdict2 .verdict2 .given .1) _ _ (at-judge-let .judge-let .ensures)
+    let k = sym (at-number-at .number-at .ensures) ∙ at-match .match .keys2 in
+    let-fine _ _ _ _ (start .pre .1 .0) _ _ k _ (at-index-at .index-at .ensures) _ _ (at-begin-let .begin-let .ensures) (at-enum-told2 .enum-told2 .given .1) _ _ (at-judge-term2 .judge-term2 .ensures) _ (at-verdict2 .verdict2 .given .1) _ _ (at-judge-let .judge-let .ensures)
 
 judge-term-same-length-8 : (t : ℕ) → judge-term-lts.Need-same-length-8 (judge-term-claims t) (judge-term-at t) judge-term.Post
 judge-term-same-length-8 t c = c .before .before .judge-assign .kept .0 ∙ c .before .before .before .before .before .before .before .before .before .judge-term3 .kept .1 .1 .1 .0
@@ -307,7 +330,8 @@ judge-term-returns-8 t c =
     let at-match = at-place-at .before in
     let at-number-at = at-match .before in
     let start = at-number-at .before .before .before in
-    assign-fine _ _ _ _ (start .pre .1 .0) _ _ _ _ (at-judge-term3 .judge-term3 .ensures) (sym (at-number-at .number-at .ensures) ∙ at-match .match .keys3) _ (at-verdict3 .verdict3 .given .1) _ (at-place-at .place-at .ensures) _ _ (at-judge-assign .judge-assign .ensures)
+    let k = sym (at-number-at .number-at .ensures) ∙ at-match .match .keys3 in
+    assign-fine _ _ _ _ (start .pre .1 .0) _ _ _ _ (at-judge-term3 .judge-term3 .ensures) k _ (at-verdict3 .verdict3 .given .1) _ (at-place-at .place-at .ensures) _ _ (at-judge-assign .judge-assign .ensures)
 
 judge-term-same-length-9 : (t : ℕ) → judge-term-lts.Need-same-length-9 (judge-term-claims t) (judge-term-at t) judge-term.Post
 judge-term-same-length-9 t c = c .before .before .judge-block-end .kept .0 ∙ c .before .before .before .before .before .before .before .before .before .judge-block .kept .1 .1 .1 .1 .0
@@ -321,7 +345,8 @@ judge-term-returns-9 t c =
     let at-match = at-index-at2 .before in
     let at-number-at = at-match .before in
     let start = at-number-at .before .before .before in
-    block-fine _ _ _ _ (start .pre .1 .0) _ _ (sym (at-number-at .number-at .ensures) ∙ at-match .match .keys4) _ (at-index-at2 .index-at2 .ensures) _ _ _ (at-judge-block .judge-block .ensures) _ (at-verdict4 .verdict4 .given .1) _ _ (at-judge-block-end .judge-block-end .ensures)
+    let k = sym (at-number-at .number-at .ensures) ∙ at-match .match .keys4 in
+    block-fine _ _ _ _ (start .pre .1 .0) _ _ k _ (at-index-at2 .index-at2 .ensures) _ _ _ (at-judge-block .judge-block .ensures) _ (at-verdict4 .verdict4 .given .1) _ _ (at-judge-block-end .judge-block-end .ensures)
 
 judge-term-same-length-10 : (t : ℕ) → judge-term-lts.Need-same-length-10 (judge-term-claims t) (judge-term-at t) judge-term.Post
 judge-term-same-length-10 t c = c .before .before .judge-leaf .kept .0

@@ -78,7 +78,7 @@ returns-4 : tie.Need-returns-4
 unfolding judgeAssign answered asValue asLocated valued need _>>=_
 returns-4 c =
     let at-lives-at = c .before in
-    let at-level-at = at-lives-at .before in
+    let at-level-at = at-lives-at .before .before in
     let at-if2 = at-level-at .before .before in
     let at-links-from = at-if2 .before .before in
     let at-if1 = at-links-from .before in
@@ -95,7 +95,7 @@ refill-requires c κs = search needs
 write-barred-requires : tie.Need-write-barred-requires
 write-barred-requires c κs =
     let at-refill = c .before .before .before in
-    let start = at-refill .before .before .before .before .before .before .before .before .before .before .before .before .before .before .before .before .before .before .before .before .before in
+    let start = at-refill .before .before .before .before .before .before .before .before .before .before .before .before .before .before .before .before .before .before .before .before .before .before in
     (at-refill .refill .kept .0 ∙ start .pre .0, start .pre .1)
 
 same-length-4 : tie.Need-same-length-4
@@ -108,7 +108,7 @@ returns-5 c =
     let at-refill = at-write-barred .before .before .before .before in
     let at-if3 = at-refill .before .before in
     let at-lives-at = at-if3 .before in
-    let at-level-at = at-lives-at .before in
+    let at-level-at = at-lives-at .before .before in
     let at-if2 = at-level-at .before .before in
     let at-links-from = at-if2 .before .before in
     let at-if1 = at-links-from .before in
@@ -136,7 +136,7 @@ returns-7 c =
     let at-refill = at-write-barred .before .before .before .before in
     let at-if3 = at-refill .before .before in
     let at-lives-at = at-if3 .before in
-    let at-level-at = at-lives-at .before in
+    let at-level-at = at-lives-at .before .before in
     let at-if2 = at-level-at .before .before in
     let at-links-from = at-if2 .before .before in
     let at-if1 = at-links-from .before in

@@ -1,0 +1,69 @@
+-- `machine::drops::close_variables` meets its contract. Assumes nothing.
+use Rattle.machine.proofs.CellLaws.{Closing, closing-starts, closing-stops, closing-goes, closing-ends}
+use borrow.Author.Needs.{needs}
+use native.Mathlib.Omega.{arith}
+use mathlib.Core.Path.{refl, sym, _∙_}
+use Prim.Native.Nat.{_-_}
+use Rattle.machine.proofs.drops.close_variables.Statement.{statement}
+use Rattle.machine.proofs.drops.close_variables.Tie as tie
+
+abbrev Inv-loop : tie.InvT-loop
+Inv-loop store₀ opened begin end left₀ store left = Closing store₀ opened begin end store left
+
+abbrev μ-loop : tie.MeasureT-loop
+μ-loop store₀ opened begin end left₀ store left = left
+
+loop-holds : tie.Need-loop-holds Inv-loop μ-loop
+loop-holds c = closing-starts _ _ _ _ (c .before .before .pre .0) (c .before .before .pre .1)
+
+sub-left : tie.Need-sub-left Inv-loop μ-loop
+sub-left c = omega arith
+
+mul-x : tie.Need-mul-x Inv-loop μ-loop
+mul-x c = search needs
+
+shared-slice-read-x : tie.Need-shared-slice-read-x Inv-loop μ-loop
+shared-slice-read-x c = search needs
+
+cast-x : tie.Need-cast-x Inv-loop μ-loop
+cast-x c = omega (arith, c .shared-slice-known2 .given (c .before .before .loop .left - 1))
+
+close-variable-requires : tie.Need-close-variable-requires Inv-loop μ-loop
+close-variable-requires c κs = (c .before .before .before .loop .inv .tidy, c .before .before .before .before .before .before .pre .3 (c .before .before .before .loop .left - 1) (omega (arith, c .before .before .before .loop .inv .few)))
+
+same-length : tie.Need-same-length Inv-loop μ-loop
+same-length c = c .before .before .before .close-variable .ensures .tidy .long ∙ sym (c .before .before .before .before .before .before .before .before .before .before .pre .0 .long)
+
+returns : tie.Need-returns Inv-loop μ-loop
+returns c = closing-stops _ _ _ _ _ _ (c .before .before .before .before .before .before .before .loop .inv) (c .before .before .before .before .before .before .loop-test .taken) _ refl _ _ (c .before .before .before .close-variable .ensures) (c .if1 .taken)
+
+loop-less : tie.Need-loop-less Inv-loop μ-loop
+loop-less c = omega arith
+
+loop-again : tie.Need-loop-again Inv-loop μ-loop
+loop-again c = closing-goes _ _ _ _ _ _ (c .before .before .before .before .before .before .before .loop .inv) (c .before .before .before .before .before .before .loop-test .taken) _ refl _ _ (c .before .before .before .close-variable .ensures) (c .if1 .left)
+
+same-length-2 : tie.Need-same-length-2 Inv-loop μ-loop
+same-length-2 c = c .before .loop .inv .tidy .long ∙ sym (c .before .before .before .before .pre .0 .long)
+
+returns-2 : tie.Need-returns-2 Inv-loop μ-loop
+returns-2 c = closing-ends _ _ _ _ _ _ (c .before .loop .inv) (c .loop-test .left)
+
+pub close-variables-spec : {M : Type 1} → statement M
+close-variables-spec =
+    tie.close
+    (tie.spec
+    Inv-loop
+    μ-loop
+    loop-holds
+    sub-left
+    mul-x
+    shared-slice-read-x
+    cast-x
+    close-variable-requires
+    same-length
+    returns
+    loop-less
+    loop-again
+    same-length-2
+    returns-2)

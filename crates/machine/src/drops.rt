@@ -1,0 +1,53 @@
+// Dropping a value, and closing variables.
+ghost use Prim.Native.Nat.{_<_, _≤_};
+ghost use lib.ListN.{length};
+ghost use Rattle.machine.specs.Words.{Tidy, Sound};
+ghost use Rattle.machine.specs.Parts.{Dropped, ClosedOne, ClosedAll, Listed};
+use crate::limits;
+use crate::store::load;
+use crate::store::put_row;
+
+// "Dropping an owner marks its cell given back and empties it, then drops what it held": along the cells, of
+// which each time one fewer is not given back. The fault, 0 for none.
+pub fn drop_value(store: &mut [u32], kind: u32, payload: u32) -> u32
+    requires { ⌜ Tidy (now store) × Sound kind payload ⌝ }
+    ensures { λ r. ⌜ Dropped (now (store .entry)) kind payload (now (store .exit)) r ⌝ }
+{
+    if kind != limits::OWNER {
+        return limits::NO_FAULT;
+    }
+    let row = limits::FIRST_CELL + payload as usize;
+    let held = load(store, row);
+    if held.state != limits::OPEN {
+        return limits::BACK_ALREADY;
+    }
+    put_row(store, row, limits::GIVEN_BACK, limits::EMPTY, 0);
+    drop_value(store, held.kind, held.payload)
+}
+
+// "the row is set to 0, then the value dropped".
+pub fn close_variable(store: &mut [u32], x: usize) -> u32
+    requires { ⌜ Tidy (now store) × (x < 64) ⌝ }
+    ensures { λ r. ⌜ ClosedOne (now (store .entry)) x (now (store .exit)) r ⌝ }
+{
+    let value = load(store, x);
+    put_row(store, x, limits::CLOSED, limits::EMPTY, 0);
+    drop_value(store, value.kind, value.payload)
+}
+
+// "it closes its variables, last opened first": those of `opened` from `end` down to `begin`.
+pub fn close_variables(store: &mut [u32], opened: &[u32], begin: usize, end: usize) -> u32
+    requires { ⌜ Tidy (now store) × (begin ≤ end) × (end ≤ length (now opened)) × Listed (now opened) end ⌝ }
+    ensures { λ r. ⌜ ClosedAll (now (store .entry)) (now (opened .entry)) begin end (now (store .exit)) r ⌝ }
+{
+    let mut left = end;
+    while begin < left {
+        left -= 1;
+        let x = opened[left] as usize;
+        let fault = close_variable(store, x);
+        if fault != limits::NO_FAULT {
+            return fault;
+        }
+    }
+    limits::NO_FAULT
+}
