@@ -6,4 +6,4 @@ pub mod EntryLaws
 pub mod HoldingLaws
 pub mod LeavingLaws
 pub mod FollowLaws
-pub mod Examples
+pub mod RightSideFirst

@@ -9,4 +9,3 @@ pub mod Chains
 pub mod Table
 pub mod Steps
 pub mod Verdicts
-pub mod Examples
