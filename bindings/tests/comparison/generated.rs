@@ -20,49 +20,63 @@ fn extreme(random: &mut Random) -> [i32; READINGS_LEN] {
     [(); READINGS_LEN].map(|()| random.pick(&EXTREMES))
 }
 
-#[test]
-fn accepted_scripts_are_checked_and_run_alike() {
+/// Both programs check and run the rows that are made, with each set of
+/// readings that is given for them. The random numbers are a sequence of their
+/// own, so that the rows depend on nothing else.
+fn compare(
+    layers: &mut Layers,
+    make: impl Fn(&mut Generator, u64, &mut Vec<u32>),
+    give: impl Fn(&mut Generator, &mut Random) -> Vec<Vec<i32>>,
+    length: fn(&mut Random) -> usize,
+) -> Settings {
     let settings = Settings::from_environment();
     let mut generator = Generator::new(settings.seed);
-    // A sequence of its own, so that the rows depend on nothing else.
     let mut random = Random::new(!settings.seed);
-    let mut layers = Layers::new("check, steered", "run, steered");
     let mut rows = Vec::new();
     for number in 0..settings.cases {
-        generator.accepted_rows(&mut rows);
-        for readings in [ordinary, extreme] {
-            let given = readings(&mut random);
+        make(&mut generator, number, &mut rows);
+        for given in give(&mut generator, &mut random) {
             let case = Case {
                 seed: Some(settings.seed),
                 number,
                 input: Input::Run(&rows, &given),
             };
-            let room = Room::whole(random.bits() as u32);
+            let room = Room {
+                length: length(&mut random),
+                junk: random.bits() as u32,
+            };
             layers.check_and_run(&case, &rows, &given, room);
         }
     }
+    settings
+}
+
+fn whole(_: &mut Random) -> usize {
+    STORE_LEN
+}
+
+#[test]
+fn accepted_scripts_are_checked_and_run_alike() {
+    let mut layers = Layers::new("check, steered", "run, steered");
+    let settings = compare(
+        &mut layers,
+        |generator, _, rows| generator.accepted_rows(rows),
+        |_, random| vec![ordinary(random).to_vec(), extreme(random).to_vec()],
+        whole,
+    );
     // All of them are accepted, and no fault is met.
     layers.checked.report(&settings, &[0]);
     layers.ran.report(&settings, &[0]);
 }
 
 /// Rows of the right form, checked and then run unchecked.
-fn compare(make: fn(&mut Generator, &mut Vec<u32>), mut layers: Layers) {
-    let settings = Settings::from_environment();
-    let mut generator = Generator::new(settings.seed);
-    let mut random = Random::new(!settings.seed);
-    let mut rows = Vec::new();
-    for number in 0..settings.cases {
-        make(&mut generator, &mut rows);
-        let given = generator.readings();
-        let case = Case {
-            seed: Some(settings.seed),
-            number,
-            input: Input::Run(&rows, &given),
-        };
-        let room = Room::whole(random.bits() as u32);
-        layers.check_and_run(&case, &rows, &given, room);
-    }
+fn compare_formed(make: fn(&mut Generator, &mut Vec<u32>), mut layers: Layers) {
+    let settings = compare(
+        &mut layers,
+        |generator, _, rows| make(generator, rows),
+        |generator, _| vec![generator.readings().to_vec()],
+        whole,
+    );
     layers.checked.report(&settings, &AUTHOR);
     layers.ran.report(&settings, &FAULTS);
 }
@@ -70,13 +84,13 @@ fn compare(make: fn(&mut Generator, &mut Vec<u32>), mut layers: Layers) {
 #[test]
 fn near_misses_are_checked_and_run_alike() {
     let layers = Layers::new("check, near misses", "run, near misses");
-    compare(Generator::near_miss_rows, layers);
+    compare_formed(Generator::near_miss_rows, layers);
 }
 
 #[test]
 fn wild_rows_are_checked_and_run_alike() {
     let layers = Layers::new("check, wild rows", "run, wild rows");
-    compare(Generator::wild_rows, layers);
+    compare_formed(Generator::wild_rows, layers);
 }
 
 /// Seldom a length that is refused.
@@ -98,28 +112,16 @@ fn any_readings(random: &mut Random) -> Vec<i32> {
 
 #[test]
 fn any_rows_are_checked_and_run_alike() {
-    let settings = Settings::from_environment();
-    let mut generator = Generator::new(settings.seed);
-    let mut random = Random::new(!settings.seed);
     let mut layers = Layers::new("check, any rows", "run, any rows");
-    let mut rows = Vec::new();
-    for number in 0..settings.cases {
-        match number % 2 {
-            0 => generator.rows_any_length(&mut rows),
-            _ => generator.mixed_rows(&mut rows),
-        }
-        let given = any_readings(&mut random);
-        let case = Case {
-            seed: Some(settings.seed),
-            number,
-            input: Input::Run(&rows, &given),
-        };
-        let room = Room {
-            length: store_length(&mut random),
-            junk: random.bits() as u32,
-        };
-        layers.check_and_run(&case, &rows, &given, room);
-    }
+    let settings = compare(
+        &mut layers,
+        |generator, number, rows| match number % 2 {
+            0 => generator.rows_any_length(rows),
+            _ => generator.mixed_rows(rows),
+        },
+        |_, random| vec![any_readings(random)],
+        store_length,
+    );
     let checked = [&AUTHOR[..], &FORM].concat();
     layers.checked.report(&settings, &checked);
     let ran = [&FAULTS[..], &FORM, &[3, 4]].concat();
