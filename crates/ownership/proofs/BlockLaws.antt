@@ -77,7 +77,7 @@ module _ (nv : ℕ) (f : ℕ → RowTree Term) (level n i : ℕ) (some : 0 < n) 
       go (suc zero) b h = (tt, sym fine ∙ e ∙ sym (last-judged nv level Γ (f i)))
       go (suc (suc n)) b h = rw sub-one (more-fine nv level Γ Γ₁ r (f i) (severalAt f n) h e v′ q)
 
-pub rest-none : (nv : ℕ) (f : ℕ → RowTree Term) (level n i : ℕ) (v : Value) (Γ : Environment) → n ≤ 0 → ended Γ (record { next = i; verdict = verdict.Fine v }) ≡ restAt nv f level n i v Γ
+pub rest-none : (nv : ℕ) (f : ℕ → RowTree Term) (level n : ℕ) (r : JudgedTerm) (v : Value) (Γ : Environment) → n ≤ 0 → r .verdict ≡ verdict.Fine v → ended Γ r ≡ restAt nv f level n (r .next) v Γ
 unfolding restAt ended answered _>>=_
-rest-none nv f level zero i v Γ h = refl
-rest-none nv f level (suc n) i v Γ h = absurd (omega arith)
+rest-none nv f level zero r v Γ h q = rw q
+rest-none nv f level (suc n) r v Γ h q = absurd (omega arith)

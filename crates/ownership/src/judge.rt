@@ -44,7 +44,7 @@ fn judge_leaf(
     second: Place,
 ) -> Verdict
     requires { ⌜ TableFor (now env) variables ⌝ }
-    ensures { λ r. ⌜ answered (environmentOf (now (env .exit))) r ≡ judgeLeaf variables (kindOf 1 kind) i (asPlace first) (asPlace second) (environmentOf (now (env .entry))) ⌝ }
+    ensures { λ r. ⌜ (answered (environmentOf (now (env .exit))) r ≡ judgeLeaf variables (kindOf 1 kind) i (asPlace first) (asPlace second) (environmentOf (now (env .entry)))) × TableFor (now (env .exit)) variables ⌝ }
 {
     match kind {
         row::COPY => judge_copy(env, variables, i, first),
@@ -66,7 +66,7 @@ fn judge_term(
     level: u32,
 ) -> JudgedTerm
     requires { ⌜ IsTree (treeAt variables levels (now rows) i) × TableFor (now env) variables × (level + levels < 4294967296) ⌝ }
-    ensures { λ r. ⌜ ended (environmentOf (now (env .exit))) r ≡ judgeAt variables (treeAt variables levels (now (rows .entry)) i) level (environmentOf (now (env .entry))) ⌝ }
+    ensures { λ r. ⌜ (ended (environmentOf (now (env .exit))) r ≡ judgeAt variables (treeAt variables levels (now (rows .entry)) i) level (environmentOf (now (env .entry)))) × TableFor (now (env .exit)) variables ⌝ }
 {
     let next = i + 1;
     let deeper = levels - 1;
@@ -148,25 +148,22 @@ fn judge_block(
     level: u32,
 ) -> JudgedTerm
     requires { ⌜ IsRest (treeAt variables levels (now rows)) count i × TableFor (now env) variables × (level + levels < 4294967296) ⌝ }
-    ensures { λ r. ⌜ ended (environmentOf (now (env .exit))) r ≡ restAt variables (treeAt variables levels (now (rows .entry))) level count i Value.None (environmentOf (now (env .entry))) ⌝ }
+    ensures { λ r. ⌜ (ended (environmentOf (now (env .exit))) r ≡ restAt variables (treeAt variables levels (now (rows .entry))) level count i Value.None (environmentOf (now (env .entry)))) × TableFor (now (env .exit)) variables ⌝ }
 {
-    let mut at = i;
+    let mut judged = JudgedTerm {
+        next: i,
+        verdict: Verdict::Fine(Value::None),
+    };
     let mut left = count;
-    let mut last = Value::None;
     while 0 < left {
-        let judged = judge_term(rows, at, levels, env, variables, level);
+        judged = judge_term(rows, judged.next, levels, env, variables, level);
         let verdict = judged.verdict;
-        let Verdict::Fine(value) = verdict else {
+        let Verdict::Fine(_) = verdict else {
             return judged;
         };
-        last = value;
-        at = judged.next;
         left -= 1;
     }
-    JudgedTerm {
-        next: at,
-        verdict: Verdict::Fine(last),
-    }
+    judged
 }
 
 // The whole script, with no number taken before it.

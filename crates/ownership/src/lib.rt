@@ -17,10 +17,7 @@ pub enum Checked {
     Refused(u32, usize),
 }
 
-// Variables, and words of the table of the variables.
 const VARIABLES: usize = 64;
-
-const WORDS: usize = 512;
 
 const LEVELS: usize = 16;
 
@@ -32,7 +29,8 @@ pub fn check(rows: &[u32]) -> Checked
     match outcome {
         Outcome::Refused(number, row) => Checked::Refused(number, row),
         Outcome::Count(terms) => {
-            let mut env: [u32; 512] = [0; 512];
+            // The table of the variables: 8 words to each, and two rows of notes.
+            let mut env: [u32; 528] = [0; 528];
             let verdict = judge_script(rows, LEVELS, &mut env, VARIABLES);
             match verdict {
                 Requirement::Met => Checked::Accepted(terms),

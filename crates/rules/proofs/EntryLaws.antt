@@ -1,5 +1,5 @@
 -- An entry that the code has loaded, in the rules' terms: in scope, or not.
-use Prim.Native.Nat.{ℕ, _*_, _<_}
+use Prim.Native.Nat.{ℕ, _<_}
 use native.Mathlib.Omega.{arith}
 use native.Mathlib.Decide.{ℕ-discrete, decLt}
 use mathlib.Core.Path.{_≡_, refl, fun-ext}
@@ -7,7 +7,6 @@ use mathlib.Core.Logic.{⊎-elim}
 use mathlib.Core.Bool.{false}
 use mathlib.Core.List.{List, [], _∷_}
 use lib.Dec.{eqb}
-use lib.ListN.{length}
 use borrow.Author.Tests.{eq-eqb, ne-eqb}
 use types.Run.{OneOf}
 use denote.Enum.Declared.{tagOf}
@@ -19,8 +18,8 @@ use Rattle.rules.proofs.table.Entry.{the-type}
 use Rattle.rules.specs.Environment.{Borrow, live, update, refilled}
 use Rattle.rules.specs.Follow.{wholeAt}
 use Rattle.rules.specs.Rules.{inScope}
-use Rattle.rules.specs.Table.{entryAt, asVariable, asSlot, environmentOf}
-use Rattle.rules.proofs.TableLaws.{entry-past}
+use Rattle.rules.specs.Table.{entryAt, asVariable, asSlot, environmentOf, TableFor}
+use Rattle.rules.proofs.NotedLaws.{entry-past}
 
 -- What an `else` knows: the entry is one of the first two.
 abbrev pub NotLive : Entry → Type 0
@@ -31,12 +30,12 @@ module _ (l : List ℕ) (x : ℕ) (e : Entry) (loaded : e ≡ entryAt l x) where
   unfolding environmentOf asSlot
   slot-live v q = rw (← loaded, q)
 
-  pub in-range : (n : ℕ) (v : VariableState) → length l ≡ n * 8 → e ≡ entry.Live v → x < n
-  in-range n v h q = go (decLt x n)
+  pub in-range : (n : ℕ) (v : VariableState) → TableFor l n → e ≡ entry.Live v → x < n
+  in-range n v T q = go (decLt x n)
     where
       go : Dec (x < n) → x < n
       go (yes b) = b
-      go (no b) = let f = entry-past l n x h (omega arith) in let z : _≡_ {A = ℕ} 0 1 = cc in absurd (omega arith)
+      go (no b) = let f = entry-past l n T x (omega arith) in let z : _≡_ {A = ℕ} 0 1 = cc in absurd (omega arith)
 
   pub not-in-scope : (r : Refusal) → NotLive e → inScope (environmentOf l x) r ≡ err r
   unfolding environmentOf inScope asSlot

@@ -1,5 +1,5 @@
 -- A block's variables leave scope, from the last number down.
-use Prim.Native.Nat.{ℕ, _-_, _*_, _<_, _≤_}
+use Prim.Native.Nat.{ℕ, _-_, _<_, _≤_}
 use native.Mathlib.Omega.{arith}
 use native.Mathlib.Decide.{ℕ-discrete, decLt}
 use mathlib.Core.Path.{_≡_, refl, sym, _∙_, fun-ext}
@@ -7,13 +7,13 @@ use mathlib.Core.Logic.{⊎-elim}
 use mathlib.Core.Bool.{Bool, true, false}
 use mathlib.Core.List.{List}
 use lib.Dec.{leb, ltb}
-use lib.ListN.{length}
 use borrow.Author.Tests.{le-leb, lt-leb, leb-true, leb-false}
 use Rattle.reader.specs.Result.{pick}
 use Rattle.rules.specs.declared.table.VariableState.{VariableState}
+use Rattle.rules.specs.declared.table.Entry.the-variants as entry
 use Rattle.rules.specs.Environment.{Slot, used, live, Environment, update, leaveSlot, leave}
 use Rattle.rules.specs.Table.{entryWord, stateAt, entryAs, entryAt, asVariable, asSlot, environmentOf, isDeeper}
-use Rattle.rules.proofs.TableLaws.{update-same, update-other, entry-live, entry-past, not-live}
+use Rattle.rules.proofs.TableLaws.{update-same, update-other, entry-live, not-live}
 
 -- The numbers from n on have left.
 abbrev pub leftFrom : ℕ → ℕ → Environment → ℕ → Slot
@@ -51,13 +51,13 @@ other-stays l x level e = go (leb 2 (entryWord l x 0)) refl (ltb level (entryWor
     go true p false q e = rw (live-slot l x (leb-true 2 (entryWord l x 0) p), q)
     go false p b q e = dead-slot l x level (leb-false 2 (entryWord l x 0) p)
 
-pub left-start : (l : List ℕ) (n level : ℕ) → length l ≡ n * 8 → (x : ℕ) → environmentOf l x ≡ leftFrom n level (environmentOf l) x
+pub left-start : (l : List ℕ) (n level : ℕ) → ((x : ℕ) → n ≤ x → entryAt l x ≡ entry.Free) → (x : ℕ) → environmentOf l x ≡ leftFrom n level (environmentOf l) x
 unfolding environmentOf asSlot leaveSlot
 left-start l n level e x = go (decLt x n)
   where
     go : Dec (x < n) → asSlot (entryAt l x) ≡ leftFrom n level (λ y. asSlot (entryAt l y)) x
     go (yes h) = rw (lt-leb n x h)
-    go (no h) = rw (le-leb n x (omega arith), entry-past l n x e (omega arith))
+    go (no h) = rw (le-leb n x (omega arith), e x (omega arith))
 
 pub left-end : (l : List ℕ) (Γ : Environment) (n level : ℕ) → n ≤ 0 → ((x : ℕ) → environmentOf l x ≡ leftFrom n level Γ x) → environmentOf l ≡ leave level Γ
 unfolding leave

@@ -4,6 +4,10 @@ pub mod EqualChains
 pub mod TableLaws
 pub mod EntryLaws
 pub mod HoldingLaws
+pub mod HolderLaws
+pub mod NoteLaws
+pub mod NotedLaws
 pub mod LeavingLaws
 pub mod FollowLaws
-pub mod RightSideFirst
+pub mod PlaceLaws
+pub mod ErrorScripts

@@ -1,4 +1,4 @@
--- The table and the environment: an entry is its words, a store and a taken number are updates, a number past the end is free.
+-- The table and the environment: an entry is its words, and words that are put are updates.
 use Prim.Native.Nat.{ℕ, zero, suc, _+_, _*_, _<_, _≤_}
 use native.Mathlib.Omega.{arith}
 use native.Mathlib.Nat.{add-zero}
@@ -6,7 +6,7 @@ use native.Mathlib.Decide.{ℕ-discrete, decLt}
 use mathlib.Core.Path.{_≡_, refl, _∙_, fun-ext}
 use mathlib.Core.Logic.{_⊎_, inl, inr, ⊎-elim}
 use mathlib.Core.List.{List, [], _∷_}
-use lib.ListN.{length, getD, set, length-set, List·getD-eq-default}
+use lib.ListN.{length, getD, set, length-set}
 use lib.Seq.{sets, getD-set-same, getD-set-other}
 use borrow.Author.Tests.{eq-eqb, ne-eqb}
 use Rattle.rules.specs.declared.table.BorrowEnd.{BorrowEnd}
@@ -14,7 +14,7 @@ use Rattle.rules.specs.declared.table.BorrowEnd.the-variants as end
 use Rattle.rules.specs.declared.table.VariableState.{VariableState}
 use Rattle.rules.specs.declared.table.Entry.the-variants as entry
 use Rattle.rules.specs.Environment.{Slot, used, live, Environment, update}
-use Rattle.rules.specs.Table.{entryWord, borrowEndAt, stateAt, entryAs, entryAt, asVariable, asSlot, environmentOf, borrowNumber, borrowedRoot, borrowedFollows}
+use Rattle.rules.specs.Table.{entryWord, borrowEndAt, stateAt, entryAs, entryAt, asVariable, asSlot, environmentOf, borrowNumber, borrowedRoot, borrowedFollows, noteAt}
 
 -- A run of stores.
 sets-out : (vs l : List ℕ) (i j : ℕ) → (j < i) ⊎ (i + length vs ≤ j) → getD (sets l i vs) j 0 ≡ getD l j 0
@@ -28,7 +28,7 @@ sets-in [] l i k j e h b = absurd (omega arith)
 sets-in (v ∷ vs) l i zero j e h b = sets-out vs (set l i v) (suc i) j (inl (omega arith)) ∙ rw e (rw add-zero (getD-set-same l i v 0 (omega arith)))
 sets-in (v ∷ vs) l i (suc k) j e h b = sets-in vs (set l i v) (suc i) k j (omega arith) (simp length-set (omega arith)) (omega arith)
 
-same-words : (l m : List ℕ) (x : ℕ) → ((k : ℕ) → k < 8 → entryWord l x k ≡ entryWord m x k) → entryAt l x ≡ entryAt m x
+pub same-words : (l m : List ℕ) (x : ℕ) → ((k : ℕ) → k < 7 → entryWord l x k ≡ entryWord m x k) → entryAt l x ≡ entryAt m x
 unfolding entryAt stateAt
 same-words l m x h =
     rw (h 0 (omega arith), h 1 (omega arith), h 2 (omega arith), h 3 (omega arith), h 4 (omega arith), h 5 (omega arith), h 6 (omega arith))
@@ -64,7 +64,7 @@ module _ (l : List ℕ) (x : ℕ) (room : x * 8 + 8 ≤ length l) where
   other-entry : (v : VariableState) (y : ℕ) → (x ≡ y → ⊥) → entryAt (sets l (x * 8) (wordsOf v)) y ≡ entryAt l y
   other-entry v y n = same-words (sets l (x * 8) (wordsOf v)) l y (λ k b. sets-out (wordsOf v) l (x * 8) (y * 8 + k) (side k b (decLt y x)))
     where
-      side : (k : ℕ) → k < 8 → Dec (y < x) → (y * 8 + k < x * 8) ⊎ (x * 8 + 7 ≤ y * 8 + k)
+      side : (k : ℕ) → k < 7 → Dec (y < x) → (y * 8 + k < x * 8) ⊎ (x * 8 + 7 ≤ y * 8 + k)
       side k b (yes h) = inl (omega arith)
       side k b (no h) = inr (omega arith)
 
@@ -91,6 +91,17 @@ module _ (l : List ℕ) (x : ℕ) (room : x * 8 + 8 ≤ length l) where
       go y (yes e) = rw (update-same (λ z. asSlot (entryAt l z)) x y used e, ← e, used-entry)
       go y (no e) = rw (update-other (λ z. asSlot (entryAt l z)) x y used e, kept-entry y e)
 
+  -- No note is among the words.
+  pub stored-notes : (v : VariableState) (y : ℕ) → noteAt (sets l (x * 8) (wordsOf v)) y ≡ noteAt l y
+  stored-notes v y = sets-out (wordsOf v) l (x * 8) (y * 8 + 7) (side (decLt y x))
+    where
+      side : Dec (y < x) → (y * 8 + 7 < x * 8) ⊎ (x * 8 + 7 ≤ y * 8 + 7)
+      side (yes h) = inl (omega arith)
+      side (no h) = inr (omega arith)
+
+  pub taken-notes : (y : ℕ) → noteAt (set l (x * 8) 1) y ≡ noteAt l y
+  taken-notes y = getD-set-other l (x * 8) (y * 8 + 7) 1 0 (λ e. absurd (omega arith))
+
 -- The status.
 pub entry-free : (l : List ℕ) (x : ℕ) → entryWord l x 0 ≡ 0 → entryAt l x ≡ entry.Free
 unfolding entryAt entryAs
@@ -103,9 +114,6 @@ entry-used l x e = rw e
 pub entry-live : (l : List ℕ) (x : ℕ) → 2 ≤ entryWord l x 0 → entryAt l x ≡ entry.Live (stateAt l x)
 unfolding entryAt entryAs
 entry-live l x h = rw (ne-eqb (entryWord l x 0) 0 (omega arith), ne-eqb (entryWord l x 0) 1 (omega arith))
-
-pub entry-past : (l : List ℕ) (n x : ℕ) → length l ≡ n * 8 → n ≤ x → entryAt l x ≡ entry.Free
-entry-past l n x e h = entry-free l x (List·getD-eq-default l 0 (omega arith))
 
 -- A number out of scope.
 pub not-live : (s : ℕ) (v : VariableState) → s < 2 → (entryAs s v ≡ entry.Free) ⊎ (entryAs s v ≡ entry.Used)

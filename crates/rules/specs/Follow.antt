@@ -7,7 +7,7 @@ use lib.ListN.{length}
 use lib.Dec.{leb, ltb}
 use Rattle.reader.specs.Result.{pick}
 use Rattle.reader.specs.Script.{Place}
-use Rattle.rules.specs.Links.{leadingBoxes}
+use Rattle.rules.specs.Links.{Link, leadingBoxes}
 use Rattle.rules.specs.Environment.{Borrow, noBorrow, sharedOf, exclusiveOf, Variable, Slot, free, used, live, Environment}
 
 abbrev pub Follows : Type 0
@@ -43,6 +43,10 @@ unfoldable pub wholeThere : Environment → Option Place → Bool
 wholeThere Γ none = false
 wholeThere Γ (some q) = wholeAt (Γ (q .root)) (q .follows)
 
+-- Nothing is moved away of what the links of variable x lead to, to their end.
+abbrev pub wholeTo : ℕ → Environment → ℕ → List Link → Bool
+wholeTo nv Γ x ks = wholeThere Γ (follow nv Γ x (length ks))
+
 -- Nothing of the value of variable x is moved away, to the end of its chain.
 unfoldable pub valueWhole : ℕ → Environment → ℕ → Variable → Bool
-valueWhole nv Γ x v = wholeThere Γ (follow nv Γ x (length (v .chain)))
+valueWhole nv Γ x v = wholeTo nv Γ x (v .chain)

@@ -1,5 +1,6 @@
--- The table of the variables, 8 words to each, and what it says in the rules' terms. Every list of words says something, so nothing is asked of it but its length.
-use Prim.Native.Nat.{ℕ, _+_, _*_, _≤_}
+-- The table of the variables, 8 words to each, and what it says in the rules' terms. Seven words are a variable's entry: every seven
+-- words say something. The eighth is a note, which must be right.
+use Prim.Native.Nat.{ℕ, zero, suc, _+_, _*_, _<_, _≤_}
 use mathlib.Core.Path.{_≡_}
 use mathlib.Core.Bool.{Bool, true, false}
 use mathlib.Core.List.{List}
@@ -13,13 +14,9 @@ use Rattle.rules.specs.declared.table.BorrowEnd.the-variants as end
 use Rattle.rules.specs.declared.table.VariableState.{VariableState}
 use Rattle.rules.specs.declared.table.Entry.{Entry}
 use Rattle.rules.specs.declared.table.Entry.the-variants as entry
-use Rattle.rules.specs.Environment.{Borrow, noBorrow, sharedOf, exclusiveOf, Variable, Slot, free, used, live, Environment}
-use Rattle.rules.specs.Bars.{borrowsAny, borrowsExclusive}
+use Rattle.rules.specs.Environment.{Borrow, noBorrow, sharedOf, exclusiveOf, Variable, Slot, free, used, live, Environment, levelOf}
+use Rattle.rules.specs.Bars.{borrowsAny, borrowsExclusive, heldBy}
 use Rattle.rules.specs.Chains.{chainOf}
-
--- With at most 128 variables no sum of follows along a path wraps.
-abbrev pub TableFor : List ℕ → ℕ → Type 0
-TableFor env variables = (length env ≡ variables * 8) × (variables ≤ 128)
 
 abbrev pub entryWord : List ℕ → ℕ → ℕ → ℕ
 entryWord env x k = getD env (x * 8 + k) 0
@@ -87,3 +84,34 @@ borrowsBy false = borrowsExclusive
 -- In scope, in a block inside that of the level.
 abbrev pub isDeeper : List ℕ → ℕ → ℕ → Bool
 isDeeper env x level = pick (leb 2 (entryWord env x 0)) (ltb level (entryWord env x 6)) false
+
+-- The note of a row.
+abbrev pub noteAt : List ℕ → ℕ → ℕ
+noteAt env y = entryWord env y 7
+
+-- What a variable adds to the note of a root: 1 for a shared borrow that it holds, 65536 for an exclusive one.
+unfoldable pub weightOf : Slot → ℕ → ℕ
+weightOf s r = pick (heldBy borrowsExclusive s r) 65536 (pick (heldBy borrowsAny s r) 1 0)
+
+-- The rows from n on are no roots.
+unfoldable pub weightBelow : ℕ → Slot → ℕ → ℕ
+weightBelow n s r = pick (ltb r n) (weightOf s r) 0
+
+unfoldable pub holders : ℕ → Environment → ℕ → ℕ
+holders zero Γ r = 0
+holders (suc n) Γ r = weightOf (Γ n) r + holders n Γ r
+
+unfoldable pub raisedAt : ℕ → ℕ → (ℕ → ℕ) → ℕ → ℕ
+raisedAt y least f r = pick (eqb y r) (pick (ltb (f r) least) least (f r)) (f r)
+
+-- The notes are right. Two rows follow those of the n variables: the note of the first is no less than any variable's level, that of
+-- the second than any number taken.
+pub record Noted (env : List ℕ) (n : ℕ) : Type 0 where
+  pub held : (r : ℕ) → r < n → noteAt env r ≡ holders n (environmentOf env) r
+  pub levels : (x : ℕ) → levelOf (environmentOf env x) ≤ noteAt env n
+  pub most : noteAt env (suc n) ≤ n
+  pub untaken : (x : ℕ) → noteAt env (suc n) ≤ x → entryAt env x ≡ entry.Free
+
+-- With at most 128 variables no sum of follows along a path wraps, and the holders of shared borrows stay below 65536.
+abbrev pub TableFor : List ℕ → ℕ → Type 0
+TableFor env n = (length env ≡ n * 8 + 16) × (n ≤ 128) × Noted env n

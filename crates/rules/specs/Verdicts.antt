@@ -6,6 +6,7 @@ use mathlib.Core.List.{List}
 use lib.ListN.{length}
 use lib.Dec.{leb}
 use Rattle.reader.specs.Result.{ok, err, need, _>>=_}
+use Rattle.reader.specs.Script.{Place}
 use Rattle.rules.specs.declared.rules.Located.{Located}
 use Rattle.rules.specs.declared.rules.Located.the-variants as located
 use Rattle.rules.specs.declared.rules.Requirement.{Requirement}
@@ -20,10 +21,14 @@ use Rattle.rules.specs.Rules as rules
 use Rattle.rules.specs.Rules.{Judged, Out, judgeBox}
 use Rattle.rules.specs.Judge.{isAnswer}
 use Rattle.rules.specs.Chains.{chainOf}
-use Rattle.rules.specs.Table.{asBorrow, asVariable}
+use Rattle.rules.specs.Table.{asBorrow}
 
-unfoldable pub asLocated : Located → Judged rules.Located
-asLocated (located.At v x r) = ok (record { root = asVariable v; to = record { root = x; follows = r } })
+-- Of a place's root the code keeps the links.
+unfoldable pub foundOf : Judged rules.Located → Judged (List Link × Place)
+foundOf judged = judged >>= λ l. ok (l .root .chain, l .to)
+
+unfoldable pub asLocated : Located → Judged (List Link × Place)
+asLocated (located.At links x r) = ok (chainOf links, record { root = x; follows = r })
 asLocated (located.Refused n at) = err (n, at)
 
 unfoldable pub asRequirement : Requirement → Judged (Unit {0})

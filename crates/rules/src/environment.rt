@@ -6,15 +6,16 @@ ghost use Rattle.rules.specs.Environment.{update, fresh, refilled, isFre
 ghost use Rattle.rules.specs.Chains.{chainOf};
 ghost use Rattle.rules.specs.Table.{TableFor, environmentOf, asBorrow, asVariable, isDeeper};
 use crate::chains::leading_boxes;
+use crate::notes::store;
+use crate::notes::take_number;
 use crate::table::BorrowEnd;
 use crate::table::Entry;
 use crate::table::LEVEL;
 use crate::table::LIVE;
+use crate::table::NOTE;
 use crate::table::STATUS;
 use crate::table::VariableState;
 use crate::table::load;
-use crate::table::store;
-use crate::table::take_number;
 use crate::table::wide;
 use crate::table::word_at;
 
@@ -83,7 +84,7 @@ pub fn fresh_state(links: u32, end: BorrowEnd, level: u32) -> VariableState
 // A value is written to x: whole again, with the new value's borrow end.
 pub fn refill(env: &mut [u32], variables: usize, x: usize, end: BorrowEnd)
     requires { ⌜ TableFor (now env) variables ⌝ }
-    ensures { λ _. ⌜ environmentOf (now (env .exit)) ≡ update (environmentOf (now (env .entry))) x (refilled (environmentOf (now (env .entry)) x) (asBorrow end)) ⌝ }
+    ensures { λ _. ⌜ (environmentOf (now (env .exit)) ≡ update (environmentOf (now (env .entry))) x (refilled (environmentOf (now (env .entry)) x) (asBorrow end))) × TableFor (now (env .exit)) variables ⌝ }
 {
     let entry = load(env, variables, x);
     if let Entry::Live(state) = entry {
@@ -103,16 +104,20 @@ fn is_deeper(env: &[u32], x: usize, level: u32) -> bool
     level < word_at(env, x, LEVEL)
 }
 
-// The variables of the blocks inside that of the level leave scope.
+// The variables of the blocks inside that of the level leave scope. Most blocks have none.
 pub fn leave_blocks(env: &mut [u32], variables: usize, level: u32)
     requires { ⌜ TableFor (now env) variables ⌝ }
-    ensures { λ _. ⌜ environmentOf (now (env .exit)) ≡ leave level (environmentOf (now (env .entry))) ⌝ }
+    ensures { λ _. ⌜ (environmentOf (now (env .exit)) ≡ leave level (environmentOf (now (env .entry)))) × TableFor (now (env .exit)) variables ⌝ }
 {
-    let mut x = variables;
+    if word_at(env, variables, NOTE) <= level {
+        return;
+    }
+    let mut x = wide(word_at(env, variables + 1, NOTE));
     while 0 < x {
         x -= 1;
         if is_deeper(env, x, level) {
             take_number(env, variables, x);
         }
     }
+    env[variables * 8 + NOTE] = level;
 }

@@ -1,8 +1,10 @@
 // Following a place: to one of a variable's own links, through its boxes, and beyond its borrow link through the borrowed place.
 ghost use mathlib.Core.Path.{_≡_};
+ghost use mathlib.Core.Option.{some};
 ghost use Prim.Native.Nat.{_≤_};
-ghost use Rattle.rules.specs.Follow.{follow, valueWhole};
-ghost use Rattle.rules.specs.Table.{TableFor, entryAt, environmentOf, asVariable};
+ghost use Rattle.rules.specs.Chains.{chainOf};
+ghost use Rattle.rules.specs.Follow.{follow, wholeAt, wholeTo};
+ghost use Rattle.rules.specs.Table.{TableFor, entryAt, environmentOf};
 ghost use Rattle.rules.specs.Steps.{stepOf, stepAt, asFollowed};
 use crate::chains::chain_length;
 use crate::chains::leading_boxes;
@@ -88,19 +90,46 @@ pub fn follow_place(env: &[u32], variables: usize, root: usize, follows: usize) 
     Followed::Nowhere
 }
 
-// Nothing of the value of x is moved away, to the end of its chain.
-pub fn value_whole(env: &[u32], variables: usize, x: usize, state: VariableState) -> bool
+// Nothing of the value of x is moved away, to the end of its links.
+pub fn value_whole(env: &[u32], variables: usize, x: usize, links: u32) -> bool
     requires { ⌜ TableFor (now env) variables ⌝ }
-    ensures { λ r. ⌜ r ≡ valueWhole variables (environmentOf (now (env .entry))) x (asVariable state) ⌝ }
+    ensures { λ r. ⌜ r ≡ wholeTo variables (environmentOf (now (env .entry))) x (chainOf links) ⌝ }
 {
-    let length = chain_length(state.links);
+    let length = chain_length(links);
     let followed = follow_place(env, variables, x, length);
     let Followed::At(y, link) = followed else {
         return false;
     };
+    link_whole(env, variables, y, link)
+}
+
+// Its own link of y is not moved away.
+fn link_whole(env: &[u32], variables: usize, y: usize, link: usize) -> bool
+    requires { ⌜ TableFor (now env) variables ⌝ }
+    ensures { λ r. ⌜ r ≡ wholeAt (environmentOf (now (env .entry)) y) link ⌝ }
+{
     let entry = load(env, variables, y);
     let Entry::Live(end) = entry else {
         return false;
     };
     link < wide(end.moved_from)
+}
+
+// The same as `value_whole` of the place's root, where the place is known to lead to that link of y. Most places name
+// the end of the chain, so there is nothing more to follow.
+pub fn whole_at(
+    env: &[u32],
+    variables: usize,
+    place: Place,
+    links: u32,
+    y: usize,
+    link: usize,
+) -> bool
+    requires { ⌜ TableFor (now env) variables × (follow variables (environmentOf (now env)) (place .root) (place .follows) ≡ some (record { root = y; follows = link })) ⌝ }
+    ensures { λ r. ⌜ r ≡ wholeTo variables (environmentOf (now (env .entry))) (place .root) (chainOf links) ⌝ }
+{
+    if chain_length(links) == wide(place.follows) {
+        return link_whole(env, variables, y, link);
+    }
+    value_whole(env, variables, wide(place.root), links)
 }

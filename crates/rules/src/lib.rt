@@ -2,9 +2,10 @@
 
 mod chains; // chains.rt: a chain of links in one number
 mod table; // table.rt: the table's words, and the state of a variable that they hold
+mod notes; // notes.rt: what the table notes beside the entries
 mod environment; // environment.rt: what the rules ask of a variable number, and what they do to it
 mod follow; // follow.rt: following a place
-mod bars; // bars.rt: who holds a borrow, and what that bars
+mod bars; // bars.rt: what the borrows that are held bar
 mod refusals; // refusals.rt: 01's refusal numbers
 mod verdicts; // verdicts.rt: what judging a term answers
 mod rules; // rules.rt: the rules

@@ -4,7 +4,7 @@ ghost use mathlib.Core.Path.{_≡_};
 ghost use Prim.Native.Nat.{ℕ, _<_};
 ghost use Rattle.rules.specs.Rules.{judgePlace, judgeReadable, judgeCopy, judgeMove, judgeShared, judgeExclusive, judgeLet, judgeAssign, judgeNumber, judgeBelow, judgeBlockEnd};
 ghost use Rattle.rules.specs.Table.{TableFor, environmentOf, asPlace};
-ghost use Rattle.rules.specs.Verdicts.{asLocated, asRequirement, begun, beginLet, asValue, answered, Boxes, judgeAnswer};
+ghost use Rattle.rules.specs.Verdicts.{asLocated, foundOf, asRequirement, begun, beginLet, asValue, answered, Boxes, judgeAnswer};
 use crate::bars::read_barred;
 use crate::bars::write_barred;
 use crate::chains::BOX;
@@ -26,14 +26,15 @@ use crate::environment::refill;
 use crate::follow::Followed;
 use crate::follow::follow_place;
 use crate::follow::value_whole;
+use crate::follow::whole_at;
+use crate::notes::store;
+use crate::notes::take_number;
 use crate::refusals;
 use crate::table::BorrowEnd;
 use crate::table::Entry;
 use crate::table::Place;
 use crate::table::VariableState;
 use crate::table::load;
-use crate::table::store;
-use crate::table::take_number;
 use crate::table::wide;
 use crate::verdicts::Value;
 use crate::verdicts::Verdict;
@@ -42,9 +43,9 @@ use crate::verdicts::longer_value;
 use crate::verdicts::number_value;
 use crate::verdicts::value_of;
 
-// The state of the place's root, with the variable and its own link that the place leads to; or the refusal.
+// The links of the place's root, with the variable and its own link that the place leads to; or the refusal.
 pub enum Located {
-    At(VariableState, usize, usize),
+    At(u32, usize, usize),
     Refused(u32, usize),
 }
 
@@ -56,7 +57,7 @@ pub enum Requirement {
 // "Judging a place, in order: root in scope (31), long enough chain (32), nothing moved away on the path (33)."
 pub fn judge_place(env: &[u32], variables: usize, term: usize, place: Place) -> Located
     requires { ⌜ TableFor (now env) variables ⌝ }
-    ensures { λ r. ⌜ asLocated r ≡ judgePlace variables (environmentOf (now (env .entry))) term (asPlace place) ⌝ }
+    ensures { λ r. ⌜ asLocated r ≡ foundOf (judgePlace variables (environmentOf (now (env .entry))) term (asPlace place)) ⌝ }
 {
     let root = wide(place.root);
     let follows = wide(place.follows);
@@ -71,19 +72,19 @@ pub fn judge_place(env: &[u32], variables: usize, term: usize, place: Place) -> 
     let Followed::At(variable, link) = followed else {
         return Located::Refused(refusals::MOVED_AWAY, term);
     };
-    Located::At(state, variable, link)
+    Located::At(state.links, variable, link)
 }
 
 // The place of copy, shared borrow and below: "place; value whole (33); reading not barred (34)".
 pub fn judge_readable(env: &[u32], variables: usize, term: usize, place: Place) -> Located
     requires { ⌜ TableFor (now env) variables ⌝ }
-    ensures { λ r. ⌜ asLocated r ≡ judgeReadable variables (environmentOf (now (env .entry))) term (asPlace place) ⌝ }
+    ensures { λ r. ⌜ asLocated r ≡ foundOf (judgeReadable variables (environmentOf (now (env .entry))) term (asPlace place)) ⌝ }
 {
     let located = judge_place(env, variables, term, place);
-    let Located::At(state, _, _) = located else {
+    let Located::At(links, variable, link) = located else {
         return located;
     };
-    if !value_whole(env, variables, wide(place.root), state) {
+    if !whole_at(env, variables, place, links, variable, link) {
         return Located::Refused(refusals::MOVED_AWAY, term);
     }
     if read_barred(env, variables, place.root) {
@@ -100,16 +101,16 @@ pub fn judge_copy(env: &[u32], variables: usize, term: usize, place: Place) -> V
     let located = judge_readable(env, variables, term, place);
     match located {
         Located::Refused(number, at) => Verdict::Refused(number, at),
-        Located::At(state, variable, _) => {
-            let links = links_from(state.links, wide(place.follows));
-            if !is_copied(links) {
+        Located::At(links, variable, _) => {
+            let rest = links_from(links, wide(place.follows));
+            if !is_copied(rest) {
                 return Verdict::Refused(refusals::NOT_COPIED, term);
             }
-            if is_number(links) {
-                return value_of(links, BorrowEnd::None);
+            if is_number(rest) {
+                return value_of(rest, BorrowEnd::None);
             }
             let end = borrow_end_at(env, variables, variable);
-            value_of(links, end)
+            value_of(rest, end)
         }
     }
 }
@@ -118,7 +119,7 @@ pub fn judge_copy(env: &[u32], variables: usize, term: usize, place: Place) -> V
 // away from that link on".
 pub fn judge_move(env: &mut [u32], variables: usize, term: usize, place: Place) -> Verdict
     requires { ⌜ TableFor (now env) variables ⌝ }
-    ensures { λ r. ⌜ answered (environmentOf (now (env .exit))) r ≡ judgeMove variables (environmentOf (now (env .entry))) term (asPlace place) ⌝ }
+    ensures { λ r. ⌜ (answered (environmentOf (now (env .exit))) r ≡ judgeMove variables (environmentOf (now (env .entry))) term (asPlace place)) × TableFor (now (env .exit)) variables ⌝ }
 {
     let root = wide(place.root);
     let follows = wide(place.follows);
@@ -132,7 +133,7 @@ pub fn judge_move(env: &mut [u32], variables: usize, term: usize, place: Place) 
     if leading_boxes(state.links) < follows {
         return Verdict::Refused(refusals::BORROW_PASSED, term);
     }
-    if !value_whole(env, variables, root, state) {
+    if !value_whole(env, variables, root, state.links) {
         return Verdict::Refused(refusals::MOVED_AWAY, term);
     }
     if write_barred(env, variables, place.root) {
@@ -157,9 +158,9 @@ pub fn judge_shared(env: &[u32], variables: usize, term: usize, place: Place) ->
     let located = judge_readable(env, variables, term, place);
     match located {
         Located::Refused(number, at) => Verdict::Refused(number, at),
-        Located::At(state, _, _) => {
-            let links = links_from(state.links, wide(place.follows));
-            longer_value(term, SHARED, links, BorrowEnd::Shared(place))
+        Located::At(links, _, _) => {
+            let rest = links_from(links, wide(place.follows));
+            longer_value(term, SHARED, rest, BorrowEnd::Shared(place))
         }
     }
 }
@@ -172,19 +173,19 @@ pub fn judge_exclusive(env: &[u32], variables: usize, term: usize, place: Place)
     let located = judge_place(env, variables, term, place);
     match located {
         Located::Refused(number, at) => Verdict::Refused(number, at),
-        Located::At(state, _, _) => {
+        Located::At(links, variable, link) => {
             let follows = wide(place.follows);
-            if !value_whole(env, variables, wide(place.root), state) {
+            if !whole_at(env, variables, place, links, variable, link) {
                 return Verdict::Refused(refusals::MOVED_AWAY, term);
             }
-            if !no_shared(state.links, follows) {
+            if !no_shared(links, follows) {
                 return Verdict::Refused(refusals::SHARED_PASSED, term);
             }
             if write_barred(env, variables, place.root) {
                 return Verdict::Refused(refusals::WRITING_BARRED, term);
             }
-            let links = links_from(state.links, follows);
-            longer_value(term, EXCLUSIVE, links, BorrowEnd::Exclusive(place))
+            let rest = links_from(links, follows);
+            longer_value(term, EXCLUSIVE, rest, BorrowEnd::Exclusive(place))
         }
     }
 }
@@ -203,7 +204,7 @@ pub fn judge_box(term: usize, inner: Value) -> Verdict
 // "number not taken (30), taken from here on but in scope only afterwards".
 pub fn begin_let(env: &mut [u32], variables: usize, term: usize, x: usize) -> Requirement
     requires { ⌜ TableFor (now env) variables × (x < variables) ⌝ }
-    ensures { λ r. ⌜ begun (environmentOf (now (env .exit))) r ≡ beginLet (environmentOf (now (env .entry))) term x ⌝ }
+    ensures { λ r. ⌜ (begun (environmentOf (now (env .exit))) r ≡ beginLet (environmentOf (now (env .entry))) term x) × TableFor (now (env .exit)) variables ⌝ }
 {
     if !is_free(env, variables, x) {
         return Requirement::Refused(refusals::NUMBER_TAKEN, term);
@@ -222,7 +223,7 @@ pub fn judge_let(
     inner: Value,
 ) -> Verdict
     requires { ⌜ TableFor (now env) variables × (x < variables) ⌝ }
-    ensures { λ r. ⌜ answered (environmentOf (now (env .exit))) r ≡ judgeLet variables level (environmentOf (now (env .entry))) term x (asValue inner) ⌝ }
+    ensures { λ r. ⌜ (answered (environmentOf (now (env .exit))) r ≡ judgeLet variables level (environmentOf (now (env .entry))) term x (asValue inner)) × TableFor (now (env .exit)) variables ⌝ }
 {
     let Value::Of(of) = inner else {
         return Verdict::Refused(refusals::NO_VALUE, term);
@@ -244,7 +245,7 @@ pub fn judge_assign(
     inner: Value,
 ) -> Verdict
     requires { ⌜ TableFor (now env) variables ⌝ }
-    ensures { λ r. ⌜ answered (environmentOf (now (env .exit))) r ≡ judgeAssign variables (environmentOf (now (env .entry))) term (asPlace place) (asValue inner) ⌝ }
+    ensures { λ r. ⌜ (answered (environmentOf (now (env .exit))) r ≡ judgeAssign variables (environmentOf (now (env .entry))) term (asPlace place) (asValue inner)) × TableFor (now (env .exit)) variables ⌝ }
 {
     let Value::Of(of) = inner else {
         return Verdict::Refused(refusals::NO_VALUE, term);
@@ -252,12 +253,12 @@ pub fn judge_assign(
     let located = judge_place(env, variables, term, place);
     match located {
         Located::Refused(number, at) => Verdict::Refused(number, at),
-        Located::At(state, written, _) => {
+        Located::At(links, written, _) => {
             let follows = wide(place.follows);
-            if !no_shared(state.links, follows) {
+            if !no_shared(links, follows) {
                 return Verdict::Refused(refusals::SHARED_PASSED, term);
             }
-            if links_from(state.links, follows) != of.links {
+            if links_from(links, follows) != of.links {
                 return Verdict::Refused(refusals::OTHER_LINKS, term);
             }
             let end = of.borrow_end;
@@ -282,8 +283,8 @@ pub fn judge_number(env: &[u32], variables: usize, term: usize, place: Place) ->
     let located = judge_readable(env, variables, term, place);
     match located {
         Located::Refused(number, at) => Requirement::Refused(number, at),
-        Located::At(state, _, _) => {
-            if is_number(links_from(state.links, wide(place.follows))) {
+        Located::At(links, _, _) => {
+            if is_number(links_from(links, wide(place.follows))) {
                 Requirement::Met
             } else {
                 Requirement::Refused(refusals::OTHER_LINKS, term)
@@ -324,7 +325,7 @@ pub fn judge_block_end(
     last: Value,
 ) -> Verdict
     requires { ⌜ TableFor (now env) variables ⌝ }
-    ensures { λ r. ⌜ answered (environmentOf (now (env .exit))) r ≡ judgeBlockEnd variables level (environmentOf (now (env .entry))) term (asValue last) ⌝ }
+    ensures { λ r. ⌜ (answered (environmentOf (now (env .exit))) r ≡ judgeBlockEnd variables level (environmentOf (now (env .entry))) term (asValue last)) × TableFor (now (env .exit)) variables ⌝ }
 {
     if !lives_at(env, variables, borrow_in(last), level) {
         return Verdict::Refused(refusals::LIVES_TOO_SHORT, term);

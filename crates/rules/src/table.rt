@@ -1,10 +1,9 @@
-// The table of the variables, 8 words to each, and the state that they hold. No word is ever invalid, so nothing is
-// asked of a table but its length.
+// The table of the variables, 8 words to each: the state that seven of them hold. The eighth is a note (notes.rt).
 ghost use mathlib.Core.Path.{_≡_};
-ghost use Prim.Native.Nat.{_<_, _≤_, _+_, _*_};
+ghost use Prim.Native.Nat.{ℕ, _<_, _≤_, _+_, _*_};
 ghost use lib.ListN.{length};
 ghost use Rattle.rules.specs.Environment.{used, live, update};
-ghost use Rattle.rules.specs.Table.{TableFor, entryWord, borrowEndAt, entryAt, environmentOf, asVariable, borrowNumber, borrowedRoot, borrowedFollows};
+ghost use Rattle.rules.specs.Table.{TableFor, entryWord, borrowEndAt, entryAt, environmentOf, asVariable, borrowNumber, borrowedRoot, borrowedFollows, noteAt};
 
 pub struct Place {
     pub root: u32,
@@ -32,7 +31,7 @@ pub enum Entry {
     Live(VariableState),
 }
 
-// The words of a variable. The eighth is not used.
+// The words of a variable.
 pub const STATUS: usize = 0;
 
 pub const LINKS: usize = 1;
@@ -46,6 +45,8 @@ pub const BORROWED_ROOT: usize = 4;
 pub const BORROWED_FOLLOWS: usize = 5;
 
 pub const LEVEL: usize = 6;
+
+pub const NOTE: usize = 7;
 
 // What STATUS holds; from LIVE on the variable is in scope.
 const FREE: u32 = 0;
@@ -149,10 +150,10 @@ fn borrowed_follows(end: BorrowEnd) -> u32
     }
 }
 
-// The number x is in scope from here on, with the state.
-pub fn store(env: &mut [u32], variables: usize, x: usize, state: VariableState)
-    requires { ⌜ TableFor (now env) variables × (x < variables) ⌝ }
-    ensures { λ _. ⌜ environmentOf (now (env .exit)) ≡ update (environmentOf (now (env .entry))) x (live (asVariable state)) ⌝ }
+// The words of x say that it is in scope, with the state.
+pub fn put_live(env: &mut [u32], x: usize, state: VariableState)
+    requires { ⌜ x * 8 + 8 ≤ length (now env) ⌝ }
+    ensures { λ _. ⌜ (environmentOf (now (env .exit)) ≡ update (environmentOf (now (env .entry))) x (live (asVariable state))) × ((y : ℕ) → noteAt (now (env .exit)) y ≡ noteAt (now (env .entry)) y) ⌝ }
 {
     let end = state.borrow_end;
     let number = borrow_number(end);
@@ -168,10 +169,10 @@ pub fn store(env: &mut [u32], variables: usize, x: usize, state: VariableState)
     env[row + LEVEL] = state.level;
 }
 
-// The number x is taken, and not in scope.
-pub fn take_number(env: &mut [u32], variables: usize, x: usize)
-    requires { ⌜ TableFor (now env) variables × (x < variables) ⌝ }
-    ensures { λ _. ⌜ environmentOf (now (env .exit)) ≡ update (environmentOf (now (env .entry))) x used ⌝ }
+// The words of x say that it is taken, and not in scope.
+pub fn put_used(env: &mut [u32], x: usize)
+    requires { ⌜ x * 8 + 8 ≤ length (now env) ⌝ }
+    ensures { λ _. ⌜ (environmentOf (now (env .exit)) ≡ update (environmentOf (now (env .entry))) x used) × ((y : ℕ) → noteAt (now (env .exit)) y ≡ noteAt (now (env .entry)) y) ⌝ }
 {
     env[x * 8 + STATUS] = USED;
 }

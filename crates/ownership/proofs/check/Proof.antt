@@ -3,7 +3,7 @@ use native.Mathlib.Omega.{arith}
 use mathlib.Core.Path.{refl}
 use borrow.Author.Needs.{needs}
 use Rattle.ownership.specs.Answers.{toldChecked}
-use Rattle.ownership.proofs.ScriptLaws.{zeros-free}
+use Rattle.ownership.proofs.ScriptLaws.{zeros-free, zeros-noted}
 use Rattle.ownership.proofs.CheckLaws.{under-words, rows-refused, script-is, rules-accepted, rules-refused}
 use Rattle.ownership.proofs.check.Statement.{statement}
 use Rattle.ownership.proofs.check.Tie as tie
@@ -21,7 +21,7 @@ slice-aggregate-judge-script : tie.Need-slice-aggregate-judge-script
 slice-aggregate-judge-script c = search needs
 
 judge-script-requires : tie.Need-judge-script-requires
-judge-script-requires c κs = (script-is (c .before .before .before .before .before .before .args .rows .now) (under-words (c .before .before .before .before .before .before .args .rows .now) (c .before .before .before .before .before .shared-slice-known .given)) _ _ (c .before .before .before .before .judge-rows .ensures) (c .before .before .outcome2 .given .1), (refl, omega arith), zeros-free 512 64, omega arith)
+judge-script-requires c κs = (script-is (c .before .before .before .before .before .before .args .rows .now) (under-words (c .before .before .before .before .before .before .args .rows .now) (c .before .before .before .before .before .shared-slice-known .given)) _ _ (c .before .before .before .before .judge-rows .ensures) (c .before .before .outcome2 .given .1), (refl, omega arith, zeros-noted 528 64), zeros-free 528 64, omega arith)
 
 enum-told : tie.Need-enum-told
 enum-told c = search needs

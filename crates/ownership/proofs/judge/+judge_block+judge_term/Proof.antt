@@ -4,7 +4,10 @@ use native.Mathlib.Omega.{arith}
 use mathlib.Core.Path.{_≡_, refl, sym, _∙_}
 use lib.ListN.{length}
 use borrow.Author.Needs.{needs}
-use Rattle.rules.specs.Table.{environmentOf}
+use Rattle.rules.specs.declared.verdicts.Value.{Value}
+use Rattle.rules.specs.declared.verdicts.Value.the-variants as value
+use Rattle.rules.specs.declared.verdicts.Verdict.the-variants as verdict
+use Rattle.rules.specs.Table.{TableFor, environmentOf}
 use Rattle.ownership.specs.RowTrees.{treeAt}
 use Rattle.ownership.specs.JudgeRows.{IsRest, restAt}
 use Rattle.ownership.proofs.RowLaws.{tree-level, tree-room, box-inner, assign-inner, let-number, let-inner, block-rest}
@@ -53,12 +56,15 @@ abbrev judge-term-below : ℕ → In 2 judge-term-kinds.ps
 judge-term-below t =
     and 2 judge-term-kinds.ps (falls 2 judge-term-kinds.ps _<_ μ-judge-term t) judge-term.Pre
 
+-- The last verdict is fine, and what is left gives the answer of all.
 abbrev judge-block-Inv-loop : judge-block-lts.InvT-loop
-judge-block-Inv-loop rows i count levels env₀ variables level at₀ left₀ last₀ env at left last =
-    IsRest (treeAt variables levels rows) left at × (length env ≡ length env₀) × (restAt variables (treeAt variables levels rows) level left at last (environmentOf env) ≡ restAt variables (treeAt variables levels rows) level count i last₀ (environmentOf env₀))
+judge-block-Inv-loop rows i count levels env₀ variables level judged₀ left₀ env judged left =
+    IsRest (treeAt variables levels rows) left (judged .next) × (length env ≡ length env₀) × TableFor env variables
+    × (v : Value) × (judged .verdict ≡ verdict.Fine v)
+    × (restAt variables (treeAt variables levels rows) level left (judged .next) v (environmentOf env) ≡ restAt variables (treeAt variables levels rows) level count i value.None (environmentOf env₀))
 
 abbrev judge-block-μ-loop : judge-block-lts.MeasureT-loop
-judge-block-μ-loop rows i count levels env₀ variables level at₀ left₀ last₀ env at left last = left
+judge-block-μ-loop rows i count levels env₀ variables level judged₀ left₀ env judged left = left
 
 abbrev judge-block-claims : ℕ → judge-block-lts.Claims
 judge-block-claims t = (judge-term-below t, judge-term.Post)
@@ -67,16 +73,19 @@ abbrev judge-term-claims : ℕ → judge-term-lts.Claims
 judge-term-claims t = (number-at-reads.Asked, number-at-reads.Learnt, judge-term-below t, judge-term.Post, judge-box-reads.Asked, judge-box-reads.Learnt, index-at-reads.Asked, index-at-reads.Learnt, begin-let-reads.Asked, begin-let-reads.Learnt, judge-let-reads.Asked, judge-let-reads.Learnt, place-at-reads.Asked, place-at-reads.Learnt, judge-assign-reads.Asked, judge-assign-reads.Learnt, judge-block-below t, judge-block.Post, judge-block-end-reads.Asked, judge-block-end-reads.Learnt, judge-leaf-reads.Asked, judge-leaf-reads.Learnt)
 
 judge-block-loop-holds : (t : ℕ) → judge-block-lts.Need-loop-holds (judge-block-claims t) (judge-block-at t) judge-block.Post judge-block-Inv-loop judge-block-μ-loop
-judge-block-loop-holds t c = (c .before .before .pre .1 .0, refl, refl)
+judge-block-loop-holds t c = (c .before .before .pre .1 .0, refl, c .before .before .pre .1 .1, value.None, refl, refl)
 
 judge-block-judge-term-requires : (t : ℕ) → judge-block-lts.Need-judge-term-requires (judge-block-claims t) (judge-block-at t) judge-block.Post judge-block-Inv-loop judge-block-μ-loop
-judge-block-judge-term-requires t c κs = (omega (arith, c .before .before .before .before .before .pre .0), (first-is _ _ _ (c .before .loop-test .taken) (c .before .before .loop .inv .0), (c .before .before .loop .inv .1 ∙ c .before .before .before .before .before .pre .1 .1 .0, c .before .before .before .before .before .pre .1 .1 .1), c .before .before .before .before .before .pre .1 .2))
-
-judge-block-enum-known-verdict : (t : ℕ) → judge-block-lts.Need-enum-known-verdict (judge-block-claims t) (judge-block-at t) judge-block.Post judge-block-Inv-loop judge-block-μ-loop
-judge-block-enum-known-verdict t c = search needs
+judge-block-judge-term-requires t c κs =
+    let p = c .before .before .before .before .before .pre in
+    let at-loop = c .before .before in
+    (omega (arith, p .0), (first-is _ _ _ (c .before .loop-test .taken) (at-loop .loop .inv .0), at-loop .loop .inv .2, p .1 .2))
 
 judge-block-enum-told : (t : ℕ) → judge-block-lts.Need-enum-told (judge-block-claims t) (judge-block-at t) judge-block.Post judge-block-Inv-loop judge-block-μ-loop
 judge-block-enum-told t c = search needs
+
+judge-block-enum-told-2 : (t : ℕ) → judge-block-lts.Need-enum-told-2 (judge-block-claims t) (judge-block-at t) judge-block.Post judge-block-Inv-loop judge-block-μ-loop
+judge-block-enum-told-2 t c = search needs
 
 judge-block-same-length : (t : ℕ) → judge-block-lts.Need-same-length (judge-block-claims t) (judge-block-at t) judge-block.Post judge-block-Inv-loop judge-block-μ-loop
 judge-block-same-length t c = c .before .before .before .before .judge-term .kept .1 .1 .1 .0 ∙ c .before .before .before .before .before .before .before .loop .inv .1
@@ -86,7 +95,7 @@ judge-block-returns t c =
     let at-judge-term = c .before .before .before .before in
     let at-loop-test = at-judge-term .before .before in
     let at-loop = at-loop-test .before in
-    rest-refused _ _ _ _ _ (at-loop-test .loop-test .taken) (at-loop .loop .inv .0) _ _ _ (at-judge-term .judge-term .ensures) (at-loop .loop .last) _ _ (c .enum-told .given .1) ∙ at-loop .loop .inv .2
+    (rest-refused _ _ _ _ _ (at-loop-test .loop-test .taken) (at-loop .loop .inv .0) _ _ _ (at-judge-term .judge-term .ensures .0) (at-loop .loop .inv .3) _ _ (c .enum-told2 .given .1) ∙ at-loop .loop .inv .5, at-judge-term .judge-term .ensures .1)
 
 judge-block-sub-left : (t : ℕ) → judge-block-lts.Need-sub-left (judge-block-claims t) (judge-block-at t) judge-block.Post judge-block-Inv-loop judge-block-μ-loop
 judge-block-sub-left t c = omega arith
@@ -96,18 +105,19 @@ judge-block-loop-less t c = omega arith
 
 judge-block-loop-again : (t : ℕ) → judge-block-lts.Need-loop-again (judge-block-claims t) (judge-block-at t) judge-block.Post judge-block-Inv-loop judge-block-μ-loop
 judge-block-loop-again t c =
-    let at-verdict = c .before in
-    let at-judge-term = at-verdict .before .before .before .before in
+    let at-judge-term = c .before .before .before .before in
     let at-loop-test = at-judge-term .before .before in
     let at-loop = at-loop-test .before in
-    let z = rest-fine _ _ _ _ _ (at-loop-test .loop-test .taken) (at-loop .loop .inv .0) _ _ _ (at-judge-term .judge-term .ensures) (at-loop .loop .last) _ (at-verdict .verdict .given .1) in
-    (z .0, at-judge-term .judge-term .kept .1 .1 .1 .0 ∙ at-loop .loop .inv .1, z .1 ∙ at-loop .loop .inv .2)
+    let rest = rest-fine _ _ _ _ _ (at-loop-test .loop-test .taken) (at-loop .loop .inv .0) _ _ _ (at-judge-term .judge-term .ensures .0) (at-loop .loop .inv .3) _ (c .enum-told .given .1) in
+    (rest .0, at-judge-term .judge-term .kept .1 .1 .1 .0 ∙ at-loop .loop .inv .1, at-judge-term .judge-term .ensures .1, _, c .enum-told .given .1, rest .1 ∙ at-loop .loop .inv .5)
 
 judge-block-same-length-2 : (t : ℕ) → judge-block-lts.Need-same-length-2 (judge-block-claims t) (judge-block-at t) judge-block.Post judge-block-Inv-loop judge-block-μ-loop
 judge-block-same-length-2 t c = c .before .loop .inv .1
 
 judge-block-returns-2 : (t : ℕ) → judge-block-lts.Need-returns-2 (judge-block-claims t) (judge-block-at t) judge-block.Post judge-block-Inv-loop judge-block-μ-loop
-judge-block-returns-2 t c = rest-none _ _ _ _ _ _ _ (c .loop-test .left) ∙ c .before .loop .inv .2
+judge-block-returns-2 t c =
+    let at-loop = c .before in
+    (rest-none _ _ _ _ _ _ _ (c .loop-test .left) (at-loop .loop .inv .4) ∙ at-loop .loop .inv .5, at-loop .loop .inv .2)
 
 judge-term-add-next : (t : ℕ) → judge-term-lts.Need-add-next (judge-term-claims t) (judge-term-at t) judge-term.Post
 judge-term-add-next t c = omega (arith, tree-room _ _ _ _ (c .before .before .pre .1 .0))
@@ -136,7 +146,7 @@ judge-term-same-length t c = c .before .before .before .before .judge-term .kept
 judge-term-returns : (t : ℕ) → judge-term-lts.Need-returns (judge-term-claims t) (judge-term-at t) judge-term.Post
 judge-term-returns t c =
     let k = sym (c .before .before .before .before .before .before .before .number-at .ensures) ∙ c .before .before .before .before .before .before .match .keys1 in
-    box-refused _ _ _ _ (c .before .before .before .before .before .before .before .before .before .before .pre .1 .0) _ _ _ _ (c .before .before .before .before .judge-term .ensures) k _ _ (c .enum-told .given .1)
+    (box-refused _ _ _ _ (c .before .before .before .before .before .before .before .before .before .before .pre .1 .0) _ _ _ _ (c .before .before .before .before .judge-term .ensures .0) k _ _ (c .enum-told .given .1), c .before .before .before .before .judge-term .ensures .1)
 
 judge-term-judge-box-requires : (t : ℕ) → judge-term-lts.Need-judge-box-requires (judge-term-claims t) (judge-term-at t) judge-term.Post
 judge-term-judge-box-requires t c κs = search needs
@@ -165,7 +175,7 @@ judge-term-returns-2 t c =
     let at-number-at = at-match .before in
     let start = at-number-at .before .before .before in
     let k = sym (at-number-at .number-at .ensures) ∙ at-match .match .keys2 in
-    let-taken _ _ _ _ (start .pre .1 .0) _ _ k _ (at-index-at .index-at .ensures) _ _ (at-begin-let .begin-let .ensures) _ _ (at-begun .begun .given .1) _ _
+    (let-taken _ _ _ _ (start .pre .1 .0) _ _ k _ (at-index-at .index-at .ensures) _ _ (at-begin-let .begin-let .ensures .0) _ _ (at-begun .begun .given .1) _ _, at-begin-let .begin-let .ensures .1)
 
 judge-term-enum-told-2 : (t : ℕ) → judge-term-lts.Need-enum-told-2 (judge-term-claims t) (judge-term-at t) judge-term.Post
 judge-term-enum-told-2 t c = search needs
@@ -174,7 +184,7 @@ judge-term-judge-term-requires-2 : (t : ℕ) → judge-term-lts.Need-judge-term-
 judge-term-judge-term-requires-2 t c κs =
     let p = c .before .before .before .before .before .before .before .before .before .before .before .before .pre in
     let k = sym (c .before .before .before .before .before .before .before .before .before .number-at .ensures) ∙ c .before .before .before .before .before .before .before .before .match .keys2 in
-    (omega (arith, p .0, tree-level _ _ _ _ (p .1 .0)), (let-inner _ _ _ _ (p .1 .0) k, (c .before .before .before .before .before .begin-let .kept .0 ∙ p .1 .1 .0, p .1 .1 .1), omega (arith, p .1 .2)))
+    (omega (arith, p .0, tree-level _ _ _ _ (p .1 .0)), (let-inner _ _ _ _ (p .1 .0) k, c .before .before .before .before .before .begin-let .ensures .1, omega (arith, p .1 .2)))
 
 judge-term-enum-known-verdict-2 : (t : ℕ) → judge-term-lts.Need-enum-known-verdict-2 (judge-term-claims t) (judge-term-at t) judge-term.Post
 judge-term-enum-known-verdict-2 t c = search needs
@@ -195,7 +205,7 @@ judge-term-returns-3 t c =
     let at-number-at = at-match .before in
     let start = at-number-at .before .before .before in
     let k = sym (at-number-at .number-at .ensures) ∙ at-match .match .keys2 in
-    let-refused _ _ _ _ (start .pre .1 .0) _ _ k _ (at-index-at .index-at .ensures) _ _ (at-begin-let .begin-let .ensures) (at-enum-told2 .enum-told2 .given .1) _ _ (at-judge-term2 .judge-term2 .ensures) _ _ (c .enum-told3 .given .1)
+    (let-refused _ _ _ _ (start .pre .1 .0) _ _ k _ (at-index-at .index-at .ensures) _ _ (at-begin-let .begin-let .ensures .0) (at-enum-told2 .enum-told2 .given .1) _ _ (at-judge-term2 .judge-term2 .ensures .0) _ _ (c .enum-told3 .given .1), at-judge-term2 .judge-term2 .ensures .1)
 
 judge-term-judge-let-requires : (t : ℕ) → judge-term-lts.Need-judge-let-requires (judge-term-claims t) (judge-term-at t) judge-term.Post
 judge-term-judge-let-requires t c κs =
@@ -207,7 +217,7 @@ judge-term-judge-let-requires t c κs =
     let start = at-number-at .before .before .before in
     let p = start .pre in
     let k = sym (at-number-at .number-at .ensures) ∙ at-match .match .keys2 in
-    ((at-judge-term2 .judge-term2 .kept .1 .1 .1 .0 ∙ at-begin-let .begin-let .kept .0 ∙ p .1 .1 .0, p .1 .1 .1), omega (arith, at-index-at .index-at .ensures, let-number _ _ _ _ (p .1 .0) k))
+    (at-judge-term2 .judge-term2 .ensures .1, omega (arith, at-index-at .index-at .ensures, let-number _ _ _ _ (p .1 .0) k))
 
 judge-term-place-at-requires : (t : ℕ) → judge-term-lts.Need-place-at-requires (judge-term-claims t) (judge-term-at t) judge-term.Post
 judge-term-place-at-requires t c κs = (tree-room _ _ _ _ (c .before .before .before .before .pre .1 .0), omega arith)
@@ -230,12 +240,10 @@ judge-term-same-length-4 t c = c .before .before .before .before .judge-term3 .k
 judge-term-returns-4 : (t : ℕ) → judge-term-lts.Need-returns-4 (judge-term-claims t) (judge-term-at t) judge-term.Post
 judge-term-returns-4 t c =
     let k = sym (c .before .before .before .before .before .before .before .before .number-at .ensures) ∙ c .before .before .before .before .before .before .before .match .keys3 in
-    assign-refused _ _ _ _ (c .before .before .before .before .before .before .before .before .before .before .before .pre .1 .0) _ _ _ _ (c .before .before .before .before .judge-term3 .ensures) k _ _ (c .enum-told4 .given .1)
+    (assign-refused _ _ _ _ (c .before .before .before .before .before .before .before .before .before .before .before .pre .1 .0) _ _ _ _ (c .before .before .before .before .judge-term3 .ensures .0) k _ _ (c .enum-told4 .given .1), c .before .before .before .before .judge-term3 .ensures .1)
 
 judge-term-judge-assign-requires : (t : ℕ) → judge-term-lts.Need-judge-assign-requires (judge-term-claims t) (judge-term-at t) judge-term.Post
-judge-term-judge-assign-requires t c κs =
-    let p = c .before .before .before .before .before .before .before .before .before .before .before .before .before .pre in
-    (c .before .before .before .before .before .before .judge-term3 .kept .1 .1 .1 .0 ∙ p .1 .1 .0, p .1 .1 .1)
+judge-term-judge-assign-requires t c κs = c .before .before .before .before .before .before .judge-term3 .ensures .1
 
 judge-term-index-at-requires-2 : (t : ℕ) → judge-term-lts.Need-index-at-requires-2 (judge-term-claims t) (judge-term-at t) judge-term.Post
 judge-term-index-at-requires-2 t c κs = (tree-room _ _ _ _ (c .before .before .before .before .pre .1 .0), omega arith)
@@ -268,12 +276,10 @@ judge-term-returns-5 t c =
     let at-number-at = at-match .before in
     let start = at-number-at .before .before .before in
     let k = sym (at-number-at .number-at .ensures) ∙ at-match .match .keys4 in
-    block-refused _ _ _ _ (start .pre .1 .0) _ _ k _ (at-index-at2 .index-at2 .ensures) _ _ _ (at-judge-block .judge-block .ensures) _ _ (c .enum-told5 .given .1)
+    (block-refused _ _ _ _ (start .pre .1 .0) _ _ k _ (at-index-at2 .index-at2 .ensures) _ _ _ (at-judge-block .judge-block .ensures .0) _ _ (c .enum-told5 .given .1), at-judge-block .judge-block .ensures .1)
 
 judge-term-judge-block-end-requires : (t : ℕ) → judge-term-lts.Need-judge-block-end-requires (judge-term-claims t) (judge-term-at t) judge-term.Post
-judge-term-judge-block-end-requires t c κs =
-    let p = c .before .before .before .before .before .before .before .before .before .before .before .before .before .pre in
-    (c .before .before .before .before .before .before .judge-block .kept .1 .1 .1 .1 .0 ∙ p .1 .1 .0, p .1 .1 .1)
+judge-term-judge-block-end-requires t c κs = c .before .before .before .before .before .before .judge-block .ensures .1
 
 judge-term-place-at-requires-2 : (t : ℕ) → judge-term-lts.Need-place-at-requires-2 (judge-term-claims t) (judge-term-at t) judge-term.Post
 judge-term-place-at-requires-2 t c κs = (tree-room _ _ _ _ (c .before .before .before .before .pre .1 .0), omega arith)
@@ -295,7 +301,7 @@ judge-term-returns-6 t c =
     let at-number-at = at-match .before in
     let start = at-number-at .before .before .before in
     let k = sym (at-number-at .number-at .ensures) ∙ at-match .match .keys1 in
-    box-fine _ _ _ _ (start .pre .1 .0) _ _ _ _ (at-judge-term .judge-term .ensures) k _ (at-verdict .verdict .given .1) _ (c .judge-box .ensures _ _)
+    (box-fine _ _ _ _ (start .pre .1 .0) _ _ _ _ (at-judge-term .judge-term .ensures .0) k _ (at-verdict .verdict .given .1) _ (c .judge-box .ensures _ _), at-judge-term .judge-term .ensures .1)
 
 judge-term-same-length-7 : (t : ℕ) → judge-term-lts.Need-same-length-7 (judge-term-claims t) (judge-term-at t) judge-term.Post
 judge-term-same-length-7 t c =
@@ -316,7 +322,7 @@ judge-term-returns-7 t c =
     let at-number-at = at-match .before in
     let start = at-number-at .before .before .before in
     let k = sym (at-number-at .number-at .ensures) ∙ at-match .match .keys2 in
-    let-fine _ _ _ _ (start .pre .1 .0) _ _ k _ (at-index-at .index-at .ensures) _ _ (at-begin-let .begin-let .ensures) (at-enum-told2 .enum-told2 .given .1) _ _ (at-judge-term2 .judge-term2 .ensures) _ (at-verdict2 .verdict2 .given .1) _ _ (at-judge-let .judge-let .ensures)
+    (let-fine _ _ _ _ (start .pre .1 .0) _ _ k _ (at-index-at .index-at .ensures) _ _ (at-begin-let .begin-let .ensures .0) (at-enum-told2 .enum-told2 .given .1) _ _ (at-judge-term2 .judge-term2 .ensures .0) _ (at-verdict2 .verdict2 .given .1) _ _ (at-judge-let .judge-let .ensures .0), at-judge-let .judge-let .ensures .1)
 
 judge-term-same-length-8 : (t : ℕ) → judge-term-lts.Need-same-length-8 (judge-term-claims t) (judge-term-at t) judge-term.Post
 judge-term-same-length-8 t c = c .before .before .judge-assign .kept .0 ∙ c .before .before .before .before .before .before .before .before .before .judge-term3 .kept .1 .1 .1 .0
@@ -331,7 +337,7 @@ judge-term-returns-8 t c =
     let at-number-at = at-match .before in
     let start = at-number-at .before .before .before in
     let k = sym (at-number-at .number-at .ensures) ∙ at-match .match .keys3 in
-    assign-fine _ _ _ _ (start .pre .1 .0) _ _ _ _ (at-judge-term3 .judge-term3 .ensures) k _ (at-verdict3 .verdict3 .given .1) _ (at-place-at .place-at .ensures) _ _ (at-judge-assign .judge-assign .ensures)
+    (assign-fine _ _ _ _ (start .pre .1 .0) _ _ _ _ (at-judge-term3 .judge-term3 .ensures .0) k _ (at-verdict3 .verdict3 .given .1) _ (at-place-at .place-at .ensures) _ _ (at-judge-assign .judge-assign .ensures .0), at-judge-assign .judge-assign .ensures .1)
 
 judge-term-same-length-9 : (t : ℕ) → judge-term-lts.Need-same-length-9 (judge-term-claims t) (judge-term-at t) judge-term.Post
 judge-term-same-length-9 t c = c .before .before .judge-block-end .kept .0 ∙ c .before .before .before .before .before .before .before .before .before .judge-block .kept .1 .1 .1 .1 .0
@@ -346,7 +352,7 @@ judge-term-returns-9 t c =
     let at-number-at = at-match .before in
     let start = at-number-at .before .before .before in
     let k = sym (at-number-at .number-at .ensures) ∙ at-match .match .keys4 in
-    block-fine _ _ _ _ (start .pre .1 .0) _ _ k _ (at-index-at2 .index-at2 .ensures) _ _ _ (at-judge-block .judge-block .ensures) _ (at-verdict4 .verdict4 .given .1) _ _ (at-judge-block-end .judge-block-end .ensures)
+    (block-fine _ _ _ _ (start .pre .1 .0) _ _ k _ (at-index-at2 .index-at2 .ensures) _ _ _ (at-judge-block .judge-block .ensures .0) _ (at-verdict4 .verdict4 .given .1) _ _ (at-judge-block-end .judge-block-end .ensures .0), at-judge-block-end .judge-block-end .ensures .1)
 
 judge-term-same-length-10 : (t : ℕ) → judge-term-lts.Need-same-length-10 (judge-term-claims t) (judge-term-at t) judge-term.Post
 judge-term-same-length-10 t c = c .before .before .judge-leaf .kept .0
@@ -360,7 +366,7 @@ judge-term-returns-10 t c =
     let at-number-at = at-match .before in
     let start = at-number-at .before .before .before in
     let r = at-match .match .rest in
-    leaf-judged _ _ _ _ (start .pre .1 .0) _ _ _ (at-number-at .number-at .ensures) (r .0 .0 .0 .1) (r .0 .0 .1) (r .0 .1) (r .1) _ _ (at-place-at2 .place-at2 .ensures) (at-place-at3 .place-at3 .ensures) _ _ (at-judge-leaf .judge-leaf .ensures)
+    (leaf-judged _ _ _ _ (start .pre .1 .0) _ _ _ (at-number-at .number-at .ensures) (r .0 .0 .0 .1) (r .0 .0 .1) (r .0 .1) (r .1) _ _ (at-place-at2 .place-at2 .ensures) (at-place-at3 .place-at3 .ensures) _ _ (at-judge-leaf .judge-leaf .ensures .0), at-judge-leaf .judge-leaf .ensures .1)
 
 pub +judge-block+judge-term-spec : {M : Type 1} → statement M
 +judge-block+judge-term-spec = close μ-judge-block μ-judge-term (λ t. judge-block-lts.spec (judge-block-claims t) (judge-block-at t)
@@ -369,8 +375,8 @@ pub +judge-block+judge-term-spec : {M : Type 1} → statement M
     judge-block-μ-loop
     (judge-block-loop-holds t)
     (judge-block-judge-term-requires t)
-    (judge-block-enum-known-verdict t)
     (judge-block-enum-told t)
+    (judge-block-enum-told-2 t)
     (judge-block-same-length t)
     (judge-block-returns t)
     (judge-block-sub-left t)

@@ -28,7 +28,7 @@ returns c =
     let at-verdict = c .before in
     let at-judge-term = at-verdict .before .before .before .before in
     let start = at-judge-term .before .before .before .before in
-    script-refused _ _ _ (start .pre .2) _ _ (start .pre .0) (at-judge-term .judge-term .ensures) _ _ (at-verdict .verdict .given .1)
+    script-refused _ _ _ (start .pre .2) _ _ (start .pre .0) (at-judge-term .judge-term .ensures .0) _ _ (at-verdict .verdict .given .1)
 
 same-length-2 : tie.Need-same-length-2
 same-length-2 c = c .before .before .before .before .before .before .judge-term .kept .1 .1 .1 .0
@@ -38,7 +38,7 @@ returns-2 c =
     let at-verdict2 = c .before .before in
     let at-judge-term = at-verdict2 .before .before .before .before in
     let start = at-judge-term .before .before .before .before in
-    c .judge-answer .ensures (start .args .variables) ∙ script-fine _ _ _ (start .pre .2) _ _ (start .pre .0) (at-judge-term .judge-term .ensures) _ (at-verdict2 .verdict2 .given .1)
+    c .judge-answer .ensures (start .args .variables) ∙ script-fine _ _ _ (start .pre .2) _ _ (start .pre .0) (at-judge-term .judge-term .ensures .0) _ (at-verdict2 .verdict2 .given .1)
 
 pub judge-script-spec : {M : Type 1} → statement M
 judge-script-spec =

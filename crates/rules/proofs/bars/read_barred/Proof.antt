@@ -1,15 +1,20 @@
 -- `rules::bars::read_barred` meets its contract. Assumes nothing.
+use native.Mathlib.Omega.{arith}
 use borrow.Author.Needs.{needs}
-use Rattle.rules.specs.Table.{borrowsBy}
+use Rattle.rules.proofs.HolderLaws.{held-exclusive}
 use Rattle.rules.proofs.bars.read_barred.Statement.{statement}
 use Rattle.rules.proofs.bars.read_barred.Tie as tie
 
-some-holds-requires : tie.Need-some-holds-requires
-some-holds-requires c κs = search needs
+wide-requires : tie.Need-wide-requires
+wide-requires c κs = search needs
+
+word-at-requires : tie.Need-word-at-requires
+word-at-requires c κs = omega (arith, c .wide .ensures)
 
 returns : tie.Need-returns
-unfolding borrowsBy
-returns c = c .some-holds .ensures
+returns c =
+    let start = c .before .before .before in
+    rw (held-exclusive _ _ _ (start .pre .0 .1), ← start .pre .0 .2 .held _ (start .pre .1), c .word-at .ensures, c .before .wide .ensures)
 
 pub read-barred-spec : {M : Type 1} → statement M
-read-barred-spec = tie.close (tie.spec some-holds-requires returns)
+read-barred-spec = tie.close (tie.spec wide-requires word-at-requires returns)

@@ -18,7 +18,7 @@ store-requires c κs =
     let at-entry = c .before .before .before in
     let at-load = at-entry .before .before in
     let start = at-load .before .before .before in
-    (start .pre, in-range _ _ _ (at-load .load .ensures) _ _ (start .pre .0) (at-entry .entry .given .1))
+    (start .pre, in-range _ _ _ (at-load .load .ensures) _ _ (start .pre) (at-entry .entry .given .1))
 
 same-length : tie.Need-same-length
 same-length c = search needs
@@ -29,13 +29,13 @@ returns c =
     let at-fresh-state = at-store .before .before in
     let at-entry = at-fresh-state .before .before in
     let at-load = at-entry .before .before in
-    rw (slot-live _ _ _ (at-load .load .ensures) _ (at-entry .entry .given .1), at-store .store .ensures, at-fresh-state .fresh-state .ensures)
+    (rw (slot-live _ _ _ (at-load .load .ensures) _ (at-entry .entry .given .1), at-store .store .ensures .0, at-fresh-state .fresh-state .ensures), at-store .store .ensures .1)
 
 same-length-2 : tie.Need-same-length-2
 same-length-2 c = search needs
 
 returns-2 : tie.Need-returns-2
-returns-2 c = refilled-none _ _ _ (c .before .load .ensures) _ (c .match .keys2)
+returns-2 c = (refilled-none _ _ _ (c .before .load .ensures) _ (c .match .keys2), c .before .before .before .before .pre)
 
 pub refill-spec : {M : Type 1} → statement M
 refill-spec =

@@ -1,9 +1,8 @@
 -- `rules::follow::value_whole` meets its contract. Assumes nothing.
 use native.Mathlib.Omega.{arith}
 use borrow.Author.Needs.{needs}
-use Rattle.rules.specs.Follow.{wholeAt, wholeThere, valueWhole}
+use Rattle.rules.specs.Follow.{wholeThere}
 use Rattle.rules.specs.Steps.{asFollowed}
-use Rattle.rules.proofs.EntryLaws.{slot-live, not-whole}
 use Rattle.rules.proofs.follow.value_whole.Statement.{statement}
 use Rattle.rules.proofs.follow.value_whole.Tie as tie
 
@@ -20,36 +19,19 @@ enum-told : tie.Need-enum-told
 enum-told c = search needs
 
 returns : tie.Need-returns
-unfolding valueWhole wholeThere asFollowed
+unfolding wholeThere asFollowed
 returns c = rw (← c .before .before .before .chain-length .ensures .0, ← c .before .before .follow-place .ensures, c .enum-told .given .1)
 
-load-requires : tie.Need-load-requires
-load-requires c κs = search needs
-
-enum-known-entry : tie.Need-enum-known-entry
-enum-known-entry c = search needs
+link-whole-requires : tie.Need-link-whole-requires
+link-whole-requires c κs = search needs
 
 returns-2 : tie.Need-returns-2
-unfolding valueWhole wholeThere asFollowed
+unfolding wholeThere asFollowed
 returns-2 c =
-    let at-load = c .before in
-    let at-followed = at-load .before .before in
+    let at-followed = c .before .before in
     let at-follow-place = at-followed .before .before in
     let at-chain-length = at-follow-place .before in
-    rw (← at-chain-length .chain-length .ensures .0, ← at-follow-place .follow-place .ensures, at-followed .followed .given .1, not-whole _ _ _ (at-load .load .ensures) _ (c .match2 .keys2))
-
-wide-requires : tie.Need-wide-requires
-wide-requires c κs = search needs
-
-returns-3 : tie.Need-returns-3
-unfolding valueWhole wholeThere asFollowed wholeAt
-returns-3 c =
-    let at-entry = c .before .before in
-    let at-load = at-entry .before .before in
-    let at-followed = at-load .before .before in
-    let at-follow-place = at-followed .before .before in
-    let at-chain-length = at-follow-place .before in
-    rw (← at-chain-length .chain-length .ensures .0, ← at-follow-place .follow-place .ensures, at-followed .followed .given .1, slot-live _ _ _ (at-load .load .ensures) _ (at-entry .entry .given .1), ← c .wide .ensures)
+    rw (← at-chain-length .chain-length .ensures .0, ← at-follow-place .follow-place .ensures, at-followed .followed .given .1) (c .link-whole .ensures)
 
 pub value-whole-spec : {M : Type 1} → statement M
 value-whole-spec =
@@ -60,8 +42,5 @@ value-whole-spec =
     enum-known-followed
     enum-told
     returns
-    load-requires
-    enum-known-entry
-    returns-2
-    wide-requires
-    returns-3)
+    link-whole-requires
+    returns-2)

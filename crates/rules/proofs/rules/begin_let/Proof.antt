@@ -14,7 +14,7 @@ same-length c = search needs
 
 returns : tie.Need-returns
 unfolding begun need _>>=_
-returns c = rw (← c .before .is-free .ensures, not-true (c .before .is-free .result) (c .if1 .taken))
+returns c = (rw (← c .before .is-free .ensures, not-true (c .before .is-free .result) (c .if1 .taken)), c .before .before .before .before .pre .0)
 
 take-number-requires : tie.Need-take-number-requires
 take-number-requires c κs = search needs
@@ -24,7 +24,11 @@ same-length-2 c = search needs
 
 returns-2 : tie.Need-returns-2
 unfolding begun need _>>=_
-returns-2 c = rw (← c .before .before .before .before .before .is-free .ensures, not-false (c .before .before .before .before .before .is-free .result) (c .before .before .before .before .if1 .left), c .before .before .take-number .ensures)
+returns-2 c =
+    let at-take-number = c .before .before in
+    let at-if1 = at-take-number .before .before in
+    let at-is-free = at-if1 .before in
+    (rw (← at-is-free .is-free .ensures, not-false (at-is-free .is-free .result) (at-if1 .if1 .left), at-take-number .take-number .ensures .0), at-take-number .take-number .ensures .1)
 
 pub begin-let-spec : {M : Type 1} → statement M
 begin-let-spec =

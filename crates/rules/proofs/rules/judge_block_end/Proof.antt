@@ -18,7 +18,10 @@ same-length c = search needs
 
 returns : tie.Need-returns
 unfolding judgeBlockEnd answered need _>>=_
-returns c = rw (← c .before .before .borrow-in .ensures (c .before .before .before .before .before .args .variables), ← c .before .lives-at .ensures, not-true (c .before .lives-at .result) (c .if1 .taken))
+returns c =
+    let at-borrow-in = c .before .before in
+    let start = at-borrow-in .before .before .before in
+    (rw (← at-borrow-in .borrow-in .ensures (start .args .variables), ← c .before .lives-at .ensures, not-true (c .before .lives-at .result) (c .if1 .taken)), start .pre)
 
 leave-blocks-requires : tie.Need-leave-blocks-requires
 leave-blocks-requires c κs = search needs
@@ -34,7 +37,7 @@ returns-2 c =
     let at-lives-at = at-if1 .before in
     let at-borrow-in = at-lives-at .before in
     let start = at-borrow-in .before .before .before in
-    rw (← at-borrow-in .borrow-in .ensures (start .args .variables), ← at-lives-at .lives-at .ensures, not-false (at-lives-at .lives-at .result) (at-if1 .if1 .left), at-leave-blocks .leave-blocks .ensures)
+    (rw (← at-borrow-in .borrow-in .ensures (start .args .variables), ← at-lives-at .lives-at .ensures, not-false (at-lives-at .lives-at .result) (at-if1 .if1 .left), at-leave-blocks .leave-blocks .ensures .0), at-leave-blocks .leave-blocks .ensures .1)
 
 pub judge-block-end-spec : {M : Type 1} → statement M
 judge-block-end-spec =

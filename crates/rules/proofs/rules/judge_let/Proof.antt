@@ -14,7 +14,7 @@ enum-told c = search needs
 
 returns : tie.Need-returns
 unfolding judgeLet answered asValue valued _>>=_
-returns c = rw (c .enum-told .given .1)
+returns c = (rw (c .enum-told .given .1), c .before .before .before .pre .0)
 
 fresh-state-requires : tie.Need-fresh-state-requires
 fresh-state-requires c κs = search needs
@@ -27,7 +27,10 @@ same-length c = search needs
 
 returns-2 : tie.Need-returns-2
 unfolding judgeLet answered asValue valued _>>=_
-returns-2 c = rw (c .before .before .before .before .before .before .inner .given .1, c .before .before .store .ensures, c .before .before .before .before .fresh-state .ensures)
+returns-2 c =
+    let at-store = c .before .before in
+    let at-fresh-state = at-store .before .before in
+    (rw (at-fresh-state .before .before .inner .given .1, at-store .store .ensures .0, at-fresh-state .fresh-state .ensures), at-store .store .ensures .1)
 
 pub judge-let-spec : {M : Type 1} → statement M
 judge-let-spec =

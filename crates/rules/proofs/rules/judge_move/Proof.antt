@@ -1,8 +1,10 @@
 -- `rules::rules::judge_move` meets its contract. Assumes nothing.
+use native.Mathlib.Omega.{arith}
 use mathlib.Core.Path.{_∙_}
 use borrow.Author.Needs.{needs}
 use borrow.Author.Tests.{le-leb, lt-leb, not-true, not-false}
 use Rattle.reader.specs.Result.{need, _>>=_}
+use Rattle.rules.specs.Follow.{valueWhole}
 use Rattle.rules.specs.Rules.{inScope, judgeMove}
 use Rattle.rules.specs.Verdicts.{answered}
 use Rattle.rules.proofs.EntryLaws.{slot-live, in-range, not-in-scope}
@@ -26,7 +28,7 @@ same-length c = search needs
 
 returns : tie.Need-returns
 unfolding judgeMove answered _>>=_
-returns c = rw (← c .before .before .before .before .wide .ensures, not-in-scope _ _ _ (c .before .load .ensures) _ (c .match .keys2))
+returns c = (rw (← c .before .before .before .before .wide .ensures, not-in-scope _ _ _ (c .before .load .ensures) _ (c .match .keys2)), c .before .before .before .before .before .before .pre)
 
 chain-length-requires : tie.Need-chain-length-requires
 chain-length-requires c κs = search needs
@@ -35,14 +37,14 @@ same-length-2 : tie.Need-same-length-2
 same-length-2 c = search needs
 
 returns-2 : tie.Need-returns-2
-unfolding judgeMove answered inScope need _>>=_
+unfolding judgeMove valueWhole answered inScope need _>>=_
 returns-2 c =
     let at-chain-length = c .before in
     let at-entry = at-chain-length .before .before in
     let at-load = at-entry .before .before in
     let at-wide2 = at-load .before .before in
     let at-wide = at-wide2 .before in
-    rw (← at-wide .wide .ensures, ← at-wide2 .wide2 .ensures, slot-live _ _ _ (at-load .load .ensures) _ (at-entry .entry .given .1), ← at-chain-length .chain-length .ensures .0, lt-leb _ _ (c .if1 .taken))
+    (rw (← at-wide .wide .ensures, ← at-wide2 .wide2 .ensures, slot-live _ _ _ (at-load .load .ensures) _ (at-entry .entry .given .1), ← at-chain-length .chain-length .ensures .0, lt-leb _ _ (c .if1 .taken)), c .before .before .before .before .before .before .before .before .before .before .pre)
 
 leading-boxes-requires : tie.Need-leading-boxes-requires
 leading-boxes-requires c κs = search needs
@@ -51,7 +53,7 @@ same-length-3 : tie.Need-same-length-3
 same-length-3 c = search needs
 
 returns-3 : tie.Need-returns-3
-unfolding judgeMove answered inScope need _>>=_
+unfolding judgeMove valueWhole answered inScope need _>>=_
 returns-3 c =
     let at-leading-boxes = c .before in
     let at-if1 = at-leading-boxes .before in
@@ -60,7 +62,7 @@ returns-3 c =
     let at-load = at-entry .before .before in
     let at-wide2 = at-load .before .before in
     let at-wide = at-wide2 .before in
-    rw (← at-wide .wide .ensures, ← at-wide2 .wide2 .ensures, slot-live _ _ _ (at-load .load .ensures) _ (at-entry .entry .given .1), ← at-chain-length .chain-length .ensures .0, le-leb _ _ (at-if1 .if1 .left), ← at-leading-boxes .leading-boxes .ensures .0, lt-leb _ _ (c .if2 .taken))
+    (rw (← at-wide .wide .ensures, ← at-wide2 .wide2 .ensures, slot-live _ _ _ (at-load .load .ensures) _ (at-entry .entry .given .1), ← at-chain-length .chain-length .ensures .0, le-leb _ _ (at-if1 .if1 .left), ← at-leading-boxes .leading-boxes .ensures .0, lt-leb _ _ (c .if2 .taken)), c .before .before .before .before .before .before .before .before .before .before .before .before .pre)
 
 value-whole-requires : tie.Need-value-whole-requires
 value-whole-requires c κs = search needs
@@ -69,7 +71,7 @@ same-length-4 : tie.Need-same-length-4
 same-length-4 c = search needs
 
 returns-4 : tie.Need-returns-4
-unfolding judgeMove answered inScope need _>>=_
+unfolding judgeMove valueWhole answered inScope need _>>=_
 returns-4 c =
     let at-value-whole = c .before in
     let at-if2 = at-value-whole .before .before in
@@ -80,16 +82,21 @@ returns-4 c =
     let at-load = at-entry .before .before in
     let at-wide2 = at-load .before .before in
     let at-wide = at-wide2 .before in
-    rw (← at-wide .wide .ensures, ← at-wide2 .wide2 .ensures, slot-live _ _ _ (at-load .load .ensures) _ (at-entry .entry .given .1), ← at-chain-length .chain-length .ensures .0, le-leb _ _ (at-if1 .if1 .left), ← at-leading-boxes .leading-boxes .ensures .0, le-leb _ _ (at-if2 .if2 .left), ← at-value-whole .value-whole .ensures, not-true (at-value-whole .value-whole .result) (c .if3 .taken))
+    (rw (← at-wide .wide .ensures, ← at-wide2 .wide2 .ensures, slot-live _ _ _ (at-load .load .ensures) _ (at-entry .entry .given .1), ← at-value-whole .value-whole .ensures, ← at-chain-length .chain-length .ensures .0, le-leb _ _ (at-if1 .if1 .left), ← at-leading-boxes .leading-boxes .ensures .0, le-leb _ _ (at-if2 .if2 .left), not-true (at-value-whole .value-whole .result) (c .if3 .taken)), c .before .before .before .before .before .before .before .before .before .before .before .before .before .before .before .pre)
 
 write-barred-requires : tie.Need-write-barred-requires
-write-barred-requires c κs = search needs
+write-barred-requires c κs =
+    let at-entry = c .before .before .before .before .before .before .before .before .before in
+    let at-load = at-entry .before .before in
+    let at-wide = at-load .before .before .before in
+    let start = at-wide .before .before in
+    (start .pre, omega (arith, at-wide .wide .ensures, in-range _ _ _ (at-load .load .ensures) _ _ (start .pre) (at-entry .entry .given .1)))
 
 same-length-5 : tie.Need-same-length-5
 same-length-5 c = search needs
 
 returns-5 : tie.Need-returns-5
-unfolding judgeMove answered inScope need _>>=_
+unfolding judgeMove valueWhole answered inScope need _>>=_
 returns-5 c =
     let at-write-barred = c .before in
     let at-if3 = at-write-barred .before .before in
@@ -102,14 +109,14 @@ returns-5 c =
     let at-load = at-entry .before .before in
     let at-wide2 = at-load .before .before in
     let at-wide = at-wide2 .before in
-    rw (← at-write-barred .write-barred .ensures, ← at-wide .wide .ensures, ← at-wide2 .wide2 .ensures, slot-live _ _ _ (at-load .load .ensures) _ (at-entry .entry .given .1), ← at-chain-length .chain-length .ensures .0, le-leb _ _ (at-if1 .if1 .left), ← at-leading-boxes .leading-boxes .ensures .0, le-leb _ _ (at-if2 .if2 .left), ← at-value-whole .value-whole .ensures, not-false (at-value-whole .value-whole .result) (at-if3 .if3 .left), c .if4 .taken)
+    (rw (← at-write-barred .write-barred .ensures, ← at-wide .wide .ensures, ← at-wide2 .wide2 .ensures, slot-live _ _ _ (at-load .load .ensures) _ (at-entry .entry .given .1), ← at-value-whole .value-whole .ensures, ← at-chain-length .chain-length .ensures .0, le-leb _ _ (at-if1 .if1 .left), ← at-leading-boxes .leading-boxes .ensures .0, le-leb _ _ (at-if2 .if2 .left), not-false (at-value-whole .value-whole .result) (at-if3 .if3 .left), c .if4 .taken), c .before .before .before .before .before .before .before .before .before .before .before .before .before .before .before .before .before .before .pre)
 
 store-requires : tie.Need-store-requires
 store-requires c κs =
     let at-entry = c .before .before .before .before .before .before .before .before .before .before .before .before in
     let at-load = at-entry .before .before in
     let start = at-load .before .before .before .before .before in
-    (start .pre, in-range _ _ _ (at-load .load .ensures) _ _ (start .pre .0) (at-entry .entry .given .1))
+    (start .pre, in-range _ _ _ (at-load .load .ensures) _ _ (start .pre) (at-entry .entry .given .1))
 
 links-from-requires : tie.Need-links-from-requires
 links-from-requires c κs = search needs
@@ -121,7 +128,7 @@ same-length-6 : tie.Need-same-length-6
 same-length-6 c = search needs
 
 returns-6 : tie.Need-returns-6
-unfolding judgeMove inScope need _>>=_
+unfolding judgeMove valueWhole inScope need _>>=_
 returns-6 c =
     let at-links-from = c .before in
     let at-store = at-links-from .before .before .before in
@@ -137,7 +144,7 @@ returns-6 c =
     let at-load = at-entry .before .before in
     let at-wide2 = at-load .before .before in
     let at-wide = at-wide2 .before in
-    rw (← at-write-barred .write-barred .ensures, ← at-wide .wide .ensures, ← at-wide2 .wide2 .ensures, slot-live _ _ _ (at-load .load .ensures) _ (at-entry .entry .given .1), ← at-chain-length .chain-length .ensures .0, le-leb _ _ (at-if1 .if1 .left), ← at-leading-boxes .leading-boxes .ensures .0, le-leb _ _ (at-if2 .if2 .left), ← at-value-whole .value-whole .ensures, not-false (at-value-whole .value-whole .result) (at-if3 .if3 .left), at-if4 .if4 .left, ← at-links-from .links-from .ensures) (c .value-of .ensures _ ∙ rw (at-store .store .ensures, at-wide2 .wide2 .ensures))
+    (rw (← at-write-barred .write-barred .ensures, ← at-wide .wide .ensures, ← at-wide2 .wide2 .ensures, slot-live _ _ _ (at-load .load .ensures) _ (at-entry .entry .given .1), ← at-value-whole .value-whole .ensures, ← at-chain-length .chain-length .ensures .0, le-leb _ _ (at-if1 .if1 .left), ← at-leading-boxes .leading-boxes .ensures .0, le-leb _ _ (at-if2 .if2 .left), not-false (at-value-whole .value-whole .result) (at-if3 .if3 .left), at-if4 .if4 .left, ← at-links-from .links-from .ensures) (c .value-of .ensures _ ∙ rw (at-store .store .ensures .0, at-wide2 .wide2 .ensures)), at-store .store .ensures .1)
 
 pub judge-move-spec : {M : Type 1} → statement M
 judge-move-spec =

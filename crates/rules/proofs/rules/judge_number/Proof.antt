@@ -2,7 +2,8 @@
 use borrow.Author.Needs.{needs}
 use Rattle.reader.specs.Result.{need, _>>=_}
 use Rattle.rules.specs.Rules.{judgeNumber}
-use Rattle.rules.specs.Verdicts.{asLocated, asRequirement}
+use Rattle.rules.specs.Verdicts.{asRequirement}
+use Rattle.rules.proofs.PlaceLaws.{found-in, found-refused}
 use Rattle.rules.proofs.rules.judge_number.Statement.{statement}
 use Rattle.rules.proofs.rules.judge_number.Tie as tie
 
@@ -25,28 +26,28 @@ is-number-requires : tie.Need-is-number-requires
 is-number-requires c κs = search needs
 
 returns : tie.Need-returns
-unfolding judgeNumber asLocated asRequirement _>>=_
-returns c = rw (← c .before .before .before .judge-readable .ensures, c .before .located .given .1)
+unfolding judgeNumber asRequirement _>>=_
+returns c = let refused = found-refused (c .before .before .before .judge-readable .ensures) (c .before .located .given .1) in rw (refused)
 
 returns-2 : tie.Need-returns-2
-unfolding judgeNumber asLocated asRequirement need _>>=_
+unfolding judgeNumber asRequirement need _>>=_
 returns-2 c =
     let at-is-number = c .before in
     let at-links-from = at-is-number .before in
     let at-wide = at-links-from .before in
     let at-located2 = at-wide .before .before in
     let at-judge-readable = at-located2 .before .before in
-    rw (← at-judge-readable .judge-readable .ensures, at-located2 .located2 .given .1, ← at-wide .wide .ensures, ← at-links-from .links-from .ensures, ← at-is-number .is-number .ensures, c .if1 .taken)
+    found-in (at-judge-readable .judge-readable .ensures) (at-located2 .located2 .given .1) λ l is chain to. rw (is, chain, ← at-wide .wide .ensures, ← at-links-from .links-from .ensures, ← at-is-number .is-number .ensures, c .if1 .taken)
 
 returns-3 : tie.Need-returns-3
-unfolding judgeNumber asLocated asRequirement need _>>=_
+unfolding judgeNumber asRequirement need _>>=_
 returns-3 c =
     let at-is-number = c .before in
     let at-links-from = at-is-number .before in
     let at-wide = at-links-from .before in
     let at-located2 = at-wide .before .before in
     let at-judge-readable = at-located2 .before .before in
-    rw (← at-judge-readable .judge-readable .ensures, at-located2 .located2 .given .1, ← at-wide .wide .ensures, ← at-links-from .links-from .ensures, ← at-is-number .is-number .ensures, c .if1 .left)
+    found-in (at-judge-readable .judge-readable .ensures) (at-located2 .located2 .given .1) λ l is chain to. rw (is, chain, ← at-wide .wide .ensures, ← at-links-from .links-from .ensures, ← at-is-number .is-number .ensures, c .if1 .left)
 
 pub judge-number-spec : {M : Type 1} → statement M
 judge-number-spec =

@@ -5,7 +5,7 @@ use borrow.Author.Tests.{le-leb, lt-leb}
 use Rattle.reader.specs.Result.{need, _>>=_}
 use Rattle.rules.specs.Rules.{inScope, reached, judgePlace}
 use Rattle.rules.specs.Steps.{asFollowed}
-use Rattle.rules.specs.Verdicts.{asLocated}
+use Rattle.rules.specs.Verdicts.{asLocated, foundOf}
 use Rattle.rules.proofs.EntryLaws.{slot-live, not-in-scope}
 use Rattle.rules.proofs.rules.judge_place.Statement.{statement}
 use Rattle.rules.proofs.rules.judge_place.Tie as tie
@@ -23,14 +23,14 @@ enum-known-entry : tie.Need-enum-known-entry
 enum-known-entry c = search needs
 
 returns : tie.Need-returns
-unfolding judgePlace asLocated _>>=_
+unfolding judgePlace asLocated foundOf _>>=_
 returns c = rw (← c .before .before .before .wide .ensures, not-in-scope _ _ _ (c .before .load .ensures) _ (c .match .keys2))
 
 chain-length-requires : tie.Need-chain-length-requires
 chain-length-requires c κs = search needs
 
 returns-2 : tie.Need-returns-2
-unfolding judgePlace asLocated inScope need _>>=_
+unfolding judgePlace asLocated foundOf inScope need _>>=_
 returns-2 c =
     let at-chain-length = c .before in
     let at-entry = at-chain-length .before .before in
@@ -49,7 +49,7 @@ enum-told : tie.Need-enum-told
 enum-told c = search needs
 
 returns-3 : tie.Need-returns-3
-unfolding judgePlace asLocated inScope need reached asFollowed _>>=_
+unfolding judgePlace asLocated foundOf inScope need reached asFollowed _>>=_
 returns-3 c =
     let at-follow-place = c .before .before in
     let at-if1 = at-follow-place .before in
@@ -61,7 +61,7 @@ returns-3 c =
     rw (← at-wide .wide .ensures, ← at-wide2 .wide2 .ensures, slot-live _ _ _ (at-load .load .ensures) _ (at-entry .entry .given .1), ← at-chain-length .chain-length .ensures .0, le-leb _ _ (at-if1 .if1 .left), ← at-follow-place .follow-place .ensures, c .enum-told .given .1)
 
 returns-4 : tie.Need-returns-4
-unfolding judgePlace asLocated inScope need reached asFollowed _>>=_
+unfolding judgePlace asLocated foundOf inScope need reached asFollowed _>>=_
 returns-4 c =
     let at-followed = c .before in
     let at-follow-place = at-followed .before .before in

@@ -1,9 +1,14 @@
 -- `rules::rules::judge_readable` meets its contract. Assumes nothing.
+use mathlib.Core.Path.{_∙_, ap}
+use mathlib.Core.Option.{some}
 use borrow.Author.Needs.{needs}
 use borrow.Author.Tests.{not-true, not-false}
 use Rattle.reader.specs.Result.{need, _>>=_}
-use Rattle.rules.specs.Rules.{judgeReadable}
-use Rattle.rules.specs.Verdicts.{asLocated}
+use Rattle.rules.specs.Follow.{valueWhole}
+use Rattle.rules.specs.Rules.{judgePlace, judgeReadable}
+use Rattle.rules.specs.Table.{environmentOf, asPlace}
+use Rattle.rules.specs.Verdicts.{asLocated, foundOf}
+use Rattle.rules.proofs.PlaceLaws.{found-at, found-in, found-refused, place-found, root-inside}
 use Rattle.rules.proofs.rules.judge_readable.Statement.{statement}
 use Rattle.rules.proofs.rules.judge_readable.Tie as tie
 
@@ -17,48 +22,58 @@ enum-told : tie.Need-enum-told
 enum-told c = search needs
 
 returns : tie.Need-returns
-unfolding judgeReadable asLocated _>>=_
-returns c = rw (← c .before .before .judge-place .ensures, c .enum-told .given .1)
+unfolding judgeReadable asLocated foundOf _>>=_
+returns c =
+    let start = c .before .before .before .before in
+    let refused = found-refused {judged = judgePlace (start .args .variables) (environmentOf (start .args .env .now)) (start .args .term) (asPlace (start .args .place))} (c .before .before .judge-place .ensures) (c .enum-told .given .1) in
+    rw (c .enum-told .given .1, refused)
 
-wide-requires : tie.Need-wide-requires
-wide-requires c κs = search needs
-
-value-whole-requires : tie.Need-value-whole-requires
-value-whole-requires c κs = search needs
+whole-at-requires : tie.Need-whole-at-requires
+whole-at-requires c κs =
+    let at-located = c .before in
+    let at-judge-place = at-located .before .before in
+    let start = at-judge-place .before .before in
+    let found = found-at (at-judge-place .judge-place .ensures) (at-located .located .given .1) in
+    (start .pre, place-found _ _ _ _ (found .at) (found .is) .1 ∙ ap some (found .to))
 
 returns-2 : tie.Need-returns-2
-unfolding judgeReadable asLocated need _>>=_
+unfolding judgeReadable valueWhole asLocated foundOf need _>>=_
 returns-2 c =
-    let at-value-whole = c .before in
-    let at-wide = at-value-whole .before in
-    let at-located = at-wide .before .before in
+    let at-whole = c .before in
+    let at-located = at-whole .before .before in
     let at-judge-place = at-located .before .before in
-    rw (← at-judge-place .judge-place .ensures, at-located .located .given .1, ← at-wide .wide .ensures, ← at-value-whole .value-whole .ensures, not-true (at-value-whole .value-whole .result) (c .if1 .taken))
+    let start = at-judge-place .before .before in
+    found-in {judged = judgePlace (start .args .variables) (environmentOf (start .args .env .now)) (start .args .term) (asPlace (start .args .place))} (at-judge-place .judge-place .ensures) (at-located .located .given .1) λ l is chain to. rw (is, chain, ← at-whole .whole-at .ensures, not-true (at-whole .whole-at .result) (c .if1 .taken))
 
 read-barred-requires : tie.Need-read-barred-requires
-read-barred-requires c κs = search needs
+read-barred-requires c κs =
+    let at-located = c .before .before .before in
+    let at-judge-place = at-located .before .before in
+    let start = at-judge-place .before .before in
+    let found = found-at (at-judge-place .judge-place .ensures) (at-located .located .given .1) in
+    (start .pre, root-inside _ _ (start .pre) _ _ (found .at) (found .is))
 
 returns-3 : tie.Need-returns-3
-unfolding judgeReadable asLocated need _>>=_
+unfolding judgeReadable valueWhole asLocated foundOf need _>>=_
 returns-3 c =
     let at-read-barred = c .before in
     let at-if1 = at-read-barred .before in
-    let at-value-whole = at-if1 .before in
-    let at-wide = at-value-whole .before in
-    let at-located = at-wide .before .before in
+    let at-whole = at-if1 .before in
+    let at-located = at-whole .before .before in
     let at-judge-place = at-located .before .before in
-    rw (← at-judge-place .judge-place .ensures, at-located .located .given .1, ← at-read-barred .read-barred .ensures, ← at-wide .wide .ensures, ← at-value-whole .value-whole .ensures, not-false (at-value-whole .value-whole .result) (at-if1 .if1 .left), c .if2 .taken)
+    let start = at-judge-place .before .before in
+    found-in {judged = judgePlace (start .args .variables) (environmentOf (start .args .env .now)) (start .args .term) (asPlace (start .args .place))} (at-judge-place .judge-place .ensures) (at-located .located .given .1) λ l is chain to. rw (is, chain, ← at-read-barred .read-barred .ensures, ← at-whole .whole-at .ensures, not-false (at-whole .whole-at .result) (at-if1 .if1 .left), c .if2 .taken)
 
 returns-4 : tie.Need-returns-4
-unfolding judgeReadable asLocated need _>>=_
+unfolding judgeReadable valueWhole asLocated foundOf need _>>=_
 returns-4 c =
     let at-read-barred = c .before in
     let at-if1 = at-read-barred .before in
-    let at-value-whole = at-if1 .before in
-    let at-wide = at-value-whole .before in
-    let at-located = at-wide .before .before in
+    let at-whole = at-if1 .before in
+    let at-located = at-whole .before .before in
     let at-judge-place = at-located .before .before in
-    rw (← at-judge-place .judge-place .ensures, at-located .located .given .1, ← at-read-barred .read-barred .ensures, ← at-wide .wide .ensures, ← at-value-whole .value-whole .ensures, not-false (at-value-whole .value-whole .result) (at-if1 .if1 .left), c .if2 .left)
+    let start = at-judge-place .before .before in
+    found-in {judged = judgePlace (start .args .variables) (environmentOf (start .args .env .now)) (start .args .term) (asPlace (start .args .place))} (at-judge-place .judge-place .ensures) (at-located .located .given .1) λ l is chain to. rw (is, chain, to, ← at-read-barred .read-barred .ensures, ← at-whole .whole-at .ensures, not-false (at-whole .whole-at .result) (at-if1 .if1 .left), c .if2 .left)
 
 pub judge-readable-spec : {M : Type 1} → statement M
 judge-readable-spec =
@@ -68,8 +83,7 @@ judge-readable-spec =
     enum-known-located
     enum-told
     returns
-    wide-requires
-    value-whole-requires
+    whole-at-requires
     returns-2
     read-barred-requires
     returns-3

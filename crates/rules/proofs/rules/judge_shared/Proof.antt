@@ -3,7 +3,8 @@ use borrow.Author.Needs.{needs}
 use Rattle.reader.specs.Result.{_>>=_}
 use Rattle.rules.specs.Rules.{judgeShared}
 use Rattle.rules.specs.Table.{asBorrow}
-use Rattle.rules.specs.Verdicts.{asLocated, answered}
+use Rattle.rules.specs.Verdicts.{answered}
+use Rattle.rules.proofs.PlaceLaws.{found-in, found-refused}
 use Rattle.rules.proofs.rules.judge_shared.Statement.{statement}
 use Rattle.rules.proofs.rules.judge_shared.Tie as tie
 
@@ -26,17 +27,17 @@ longer-value-requires : tie.Need-longer-value-requires
 longer-value-requires c κs = search needs
 
 returns : tie.Need-returns
-unfolding judgeShared asLocated answered _>>=_
-returns c = rw (← c .before .before .before .judge-readable .ensures, c .before .located .given .1)
+unfolding judgeShared answered _>>=_
+returns c = let refused = found-refused (c .before .before .before .judge-readable .ensures) (c .before .located .given .1) in rw (refused)
 
 returns-2 : tie.Need-returns-2
-unfolding judgeShared asLocated asBorrow _>>=_
+unfolding judgeShared asBorrow _>>=_
 returns-2 c =
     let at-links-from = c .before in
     let at-wide = at-links-from .before in
     let at-located2 = at-wide .before .before in
     let at-judge-readable = at-located2 .before .before in
-    rw (← at-judge-readable .judge-readable .ensures, at-located2 .located2 .given .1, ← at-wide .wide .ensures, ← at-links-from .links-from .ensures, at-wide .wide .ensures) (c .longer-value .ensures _)
+    found-in (at-judge-readable .judge-readable .ensures) (at-located2 .located2 .given .1) λ l is chain to. rw (is, chain, ← at-wide .wide .ensures, ← at-links-from .links-from .ensures, at-wide .wide .ensures) (c .longer-value .ensures _)
 
 pub judge-shared-spec : {M : Type 1} → statement M
 judge-shared-spec =

@@ -4,7 +4,8 @@ use native.Mathlib.Omega.{arith}
 use mathlib.Core.Path.{sym, _∙_}
 use borrow.Author.Needs.{needs}
 use Rattle.rules.specs.Table.{entryWord, stateAt}
-use Rattle.rules.proofs.TableLaws.{entry-free, entry-used, entry-live, entry-past}
+use Rattle.rules.proofs.TableLaws.{entry-free, entry-used, entry-live}
+use Rattle.rules.proofs.NotedLaws.{entry-past}
 use Rattle.rules.proofs.table.load.Statement.{statement}
 use Rattle.rules.proofs.table.load.Tie as tie
 
@@ -45,7 +46,7 @@ returns-3 c =
     rw (entry-live (c .before .before .before .before .before .before .before .before .before .before .before .before .args .env .now) (c .before .before .before .before .before .before .before .before .before .before .before .before .args .x) h, c .before .before .before .borrow-end-of .ensures, c .before .before .before .before .before .before .word-at2 .ensures, c .before .before .before .before .before .word-at3 .ensures, c .before .before .before .before .word-at4 .ensures, c .before .before .word-at5 .ensures, c .before .word-at6 .ensures, c .word-at7 .ensures)
 
 returns-4 : tie.Need-returns-4
-returns-4 c = sym (entry-past _ _ _ (c .before .before .pre .0) (c .if1 .left))
+returns-4 c = sym (entry-past _ _ (c .before .before .pre) _ (c .if1 .left))
 
 pub load-spec : {M : Type 1} → statement M
 load-spec =

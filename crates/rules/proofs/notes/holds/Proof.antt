@@ -1,9 +1,9 @@
--- `rules::bars::holds` meets its contract. Assumes nothing.
+-- `rules::notes::holds` meets its contract. Assumes nothing.
 use mathlib.Core.Path.{sym, _∙_}
 use borrow.Author.Needs.{needs}
 use Rattle.rules.proofs.HoldingLaws.{holds-dead, holds-other, holds-exclusive, holds-shared, holds-shared-not, holds-none}
-use Rattle.rules.proofs.bars.holds.Statement.{statement}
-use Rattle.rules.proofs.bars.holds.Tie as tie
+use Rattle.rules.proofs.notes.holds.Statement.{statement}
+use Rattle.rules.proofs.notes.holds.Tie as tie
 
 word-at-requires : tie.Need-word-at-requires
 word-at-requires c κs = search needs

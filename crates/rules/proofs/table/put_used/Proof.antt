@@ -1,10 +1,10 @@
--- `rules::table::take_number` meets its contract. Assumes nothing.
+-- `rules::table::put_used` meets its contract. Assumes nothing.
 use native.Mathlib.Omega.{arith}
 use native.Mathlib.Nat.{add-zero}
 use borrow.Author.Needs.{needs}
-use Rattle.rules.proofs.TableLaws.{taken}
-use Rattle.rules.proofs.table.take_number.Statement.{statement}
-use Rattle.rules.proofs.table.take_number.Tie as tie
+use Rattle.rules.proofs.TableLaws.{taken, taken-notes}
+use Rattle.rules.proofs.table.put_used.Statement.{statement}
+use Rattle.rules.proofs.table.put_used.Tie as tie
 
 mul-env : tie.Need-mul-env
 mul-env c = search needs
@@ -22,8 +22,8 @@ same-length : tie.Need-same-length
 same-length c = search needs
 
 returns : tie.Need-returns
-returns c = simp add-zero (taken _ _ (omega arith))
+returns c = (simp add-zero (taken _ _ (omega arith)), λ y. simp add-zero (taken-notes (c .args .env .now) (c .args .x) (omega arith) y))
 
-pub take-number-spec : {M : Type 1} → statement M
-take-number-spec =
+pub put-used-spec : {M : Type 1} → statement M
+put-used-spec =
     tie.close (tie.spec mul-env add-env mul-env-2 slice-write-env same-length returns)

@@ -1,12 +1,12 @@
--- `rules::table::store` meets its contract. Assumes nothing.
+-- `rules::table::put_live` meets its contract. Assumes nothing.
 use native.Mathlib.Omega.{arith}
 use native.Mathlib.Numerals.{towards-suc}
 use native.Mathlib.Nat.{add-zero}
 use lib.ListN.{length-set}
 use borrow.Author.Needs.{needs}
-use Rattle.rules.proofs.TableLaws.{stored}
-use Rattle.rules.proofs.table.store.Statement.{statement}
-use Rattle.rules.proofs.table.store.Tie as tie
+use Rattle.rules.proofs.TableLaws.{stored, stored-notes}
+use Rattle.rules.proofs.table.put_live.Statement.{statement}
+use Rattle.rules.proofs.table.put_live.Tie as tie
 
 borrow-number-requires : tie.Need-borrow-number-requires
 borrow-number-requires c κs = search needs
@@ -87,10 +87,13 @@ same-length : tie.Need-same-length
 same-length c = simp length-set
 
 returns : tie.Need-returns
-returns c = rw (c .before .before .borrow-number .ensures, c .before .borrowed-root .ensures, c .borrowed-follows .ensures) (simp (add-zero, towards-suc) (stored (c .before .before .before .before .args .env .now) (c .before .before .before .before .args .x) (omega arith) (c .before .before .before .before .args .state)))
+returns c =
+    let start = c .before .before .before .before in
+    rw (c .before .before .borrow-number .ensures, c .before .borrowed-root .ensures, c .borrowed-follows .ensures)
+    (simp (add-zero, towards-suc) (stored (start .args .env .now) (start .args .x) (omega arith) (start .args .state)), λ y. simp (add-zero, towards-suc) (simp (add-zero, towards-suc) at (stored-notes (start .args .env .now) (start .args .x) (omega arith) (start .args .state) y)))
 
-pub store-spec : {M : Type 1} → statement M
-store-spec =
+pub put-live-spec : {M : Type 1} → statement M
+put-live-spec =
     tie.close
     (tie.spec
     borrow-number-requires

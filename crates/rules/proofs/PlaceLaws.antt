@@ -1,0 +1,76 @@
+-- A judged place as the code has it: of its root the links only, the rest by what the rules found.
+use Prim.Native.Nat.{ℕ, _<_}
+use native.Mathlib.Omega.{arith}
+use native.Mathlib.Decide.{decLt}
+use mathlib.Core.Path.{_≡_, refl, sym, _∙_, ap}
+use mathlib.Core.Bool.{Bool, true, false}
+use mathlib.Core.Option.{Option, none, some}
+use mathlib.Core.List.{List}
+use lib.Dec.{leb}
+use lib.ListN.{length}
+use Rattle.reader.specs.Result.{ok, err, need, _>>=_}
+use Rattle.reader.specs.Script.{Place}
+use Rattle.rules.specs.declared.rules.Located.{Located}
+use Rattle.rules.specs.declared.rules.Located.the-variants as located
+use Rattle.rules.specs.Links.{Link}
+use Rattle.rules.specs.Environment.{Variable, Slot, free, used, live, Environment}
+use Rattle.rules.specs.Chains.{chainOf}
+use Rattle.rules.specs.Follow.{follow}
+use Rattle.rules.specs.Rules as rules
+use Rattle.rules.specs.Rules.{Judged, inScope, reached, judgePlace, judgeReadable}
+use Rattle.rules.specs.Table.{environmentOf, TableFor}
+use Rattle.rules.specs.Verdicts.{foundOf, asLocated}
+use Rattle.rules.proofs.NotedLaws.{live-inside}
+
+pub record Found (judged : Judged rules.Located) (links x k : ℕ) : Type 0 where
+  pub at : rules.Located
+  pub is : judged ≡ ok at
+  pub chain : at .root .chain ≡ chainOf links
+  pub to : at .to ≡ record { root = x; follows = k }
+
+module _ {r : Located} {judged : Judged rules.Located} (answered : asLocated r ≡ foundOf judged) where
+  pub found-at : {links x k : ℕ} → r ≡ located.At links x k → Found judged links x k
+  unfolding asLocated foundOf _>>=_
+  found-at {links} {x} {k} e = go judged refl (ap asLocated (sym e) ∙ answered)
+    where
+      go : (j : Judged rules.Located) → judged ≡ j → asLocated (located.At links x k) ≡ foundOf j → Found judged links x k
+      go (ok l) q h =
+          let w : _≡_ {A = List Link × Place} (chainOf links, record { root = x; follows = k }) (l .root .chain, l .to) = cc in
+          record { at = l; is = q; chain = sym (ap (λ (t : List Link × Place). t .0) w); to = sym (ap (λ (t : List Link × Place). t .1) w) }
+      go (err n) q h = let z : _≡_ {A = ℕ} 0 1 = cc in absurd (omega arith)
+
+  -- The same, for a goal that is then rewritten.
+  pub found-in : {G : Type 0} {links x k : ℕ} → r ≡ located.At links x k
+      → ((l : rules.Located) → judged ≡ ok l → l .root .chain ≡ chainOf links → l .to ≡ record { root = x; follows = k } → G) → G
+  found-in e go = let found = found-at e in go (found .at) (found .is) (found .chain) (found .to)
+
+  pub found-refused : {n at : ℕ} → r ≡ located.Refused n at → judged ≡ err (n, at)
+  unfolding asLocated foundOf _>>=_
+  found-refused {n} {at} e = go judged refl (ap asLocated (sym e) ∙ answered)
+    where
+      go : (j : Judged rules.Located) → judged ≡ j → asLocated (located.Refused n at) ≡ foundOf j → judged ≡ err (n, at)
+      go (ok l) q h = let z : _≡_ {A = ℕ} 0 1 = cc in absurd (omega arith)
+      go (err m) q h = cc
+
+-- A judged place's root is in scope, and the place leads where the judge says.
+module _ (n : ℕ) (Γ : Environment) (i : ℕ) (p : Place) (l : rules.Located) where
+  place-steps : (s : Slot) (o : Option Place)
+      → (inScope s (31, i) >>= λ v. need (leb (p .follows) (length (v .chain))) (32, i) >>= λ _. reached o (33, i) >>= λ q. ok (record { root = v; to = q })) ≡ ok l
+      → (s ≡ live (l .root)) × (o ≡ some (l .to))
+  unfolding inScope need reached _>>=_
+  place-steps free o e = let z : _≡_ {A = ℕ} 0 1 = cc in absurd (omega arith)
+  place-steps used o e = let z : _≡_ {A = ℕ} 0 1 = cc in absurd (omega arith)
+  place-steps (live v) o e = go (leb (p .follows) (length (v .chain))) o e
+    where
+      go : (b : Bool) (o : Option Place) → (need b (32, i) >>= λ _. reached o (33, i) >>= λ q. ok (record { root = v; to = q })) ≡ ok l → (live v ≡ live (l .root)) × (o ≡ some (l .to))
+      go true none e = let z : _≡_ {A = ℕ} 0 1 = cc in absurd (omega arith)
+      go true (some q) e = (cc, cc)
+      go false o e = let z : _≡_ {A = ℕ} 0 1 = cc in absurd (omega arith)
+
+  pub place-found : judgePlace n Γ i p ≡ ok l → (Γ (p .root) ≡ live (l .root)) × (follow n Γ (p .root) (p .follows) ≡ some (l .to))
+  unfolding judgePlace
+  place-found e = place-steps (Γ (p .root)) (follow n Γ (p .root) (p .follows)) e
+
+-- The root is a number of the table.
+pub root-inside : (t : List ℕ) (n : ℕ) → TableFor t n → (i : ℕ) (p : Place) (l : rules.Located) → judgePlace n (environmentOf t) i p ≡ ok l → p .root < n
+root-inside t n T i p l e = live-inside t n T (p .root) (l .root) (place-found n (environmentOf t) i p l e .0)

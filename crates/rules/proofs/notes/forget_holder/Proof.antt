@@ -1,0 +1,81 @@
+-- `rules::notes::forget_holder` meets its contract. Assumes nothing.
+use native.Mathlib.Omega.{arith}
+use mathlib.Core.Path.{refl, sym, _∙_, ap}
+use Rattle.rules.specs.Table.{environmentOf, weightOf}
+use Rattle.rules.proofs.NoteLaws.{noted, forgotten, not-forgotten}
+use borrow.Author.Needs.{needs}
+use Rattle.rules.proofs.notes.forget_holder.Statement.{statement}
+use Rattle.rules.proofs.notes.forget_holder.Tie as tie
+
+word-at-requires : tie.Need-word-at-requires
+word-at-requires c κs = search needs
+
+weight-requires : tie.Need-weight-requires
+weight-requires c κs = search needs
+
+wide-requires : tie.Need-wide-requires
+wide-requires c κs = search needs
+
+word-at-requires-2 : tie.Need-word-at-requires-2
+word-at-requires-2 c κs = search needs
+
+sub-env : tie.Need-sub-env
+sub-env c =
+    let at-if1 = c .before .before in
+    let at-wide = at-if1 .before in
+    let at-weight = at-wide .before in
+    let at-root = at-weight .before .before in
+    let start = at-root .before .before .before in
+    omega (arith, c .word-at2 .ensures, (at-weight .weight .ensures ∙ ap (λ r. weightOf (environmentOf (start .args .env .now) (start .args .x)) r) (sym (at-wide .wide .ensures))), start .pre .2 (at-wide .wide .result) (at-if1 .if1 .taken))
+
+mul-env : tie.Need-mul-env
+mul-env c = search needs
+
+add-env : tie.Need-add-env
+add-env c = search needs
+
+mul-env-2 : tie.Need-mul-env-2
+mul-env-2 c = search needs
+
+slice-write-env : tie.Need-slice-write-env
+slice-write-env c = search needs
+
+same-length : tie.Need-same-length
+same-length c = search needs
+
+returns : tie.Need-returns
+returns c =
+    let at-if1 = c .before .before in
+    let at-wide = at-if1 .before in
+    let at-weight = at-wide .before in
+    let at-root = at-weight .before .before in
+    let start = at-root .before .before .before in
+    rw (c .word-at2 .ensures) (noted _ _ _, forgotten (start .args .env .now) (start .args .variables) (start .args .x) (at-wide .wide .result) (at-wide .wide .ensures ∙ at-root .word-at .ensures) _ (at-weight .weight .ensures ∙ ap (λ r. weightOf (environmentOf (start .args .env .now) (start .args .x)) r) (sym (at-wide .wide .ensures))) (start .pre .0) (at-if1 .if1 .taken) (omega (arith, (at-weight .weight .ensures ∙ ap (λ r. weightOf (environmentOf (start .args .env .now) (start .args .x)) r) (sym (at-wide .wide .ensures))), start .pre .2 (at-wide .wide .result) (at-if1 .if1 .taken))))
+
+same-length-2 : tie.Need-same-length-2
+same-length-2 c = search needs
+
+returns-2 : tie.Need-returns-2
+returns-2 c =
+    let at-wide = c .before in
+    let at-root = at-wide .before .before .before in
+    let start = at-root .before .before .before in
+    (refl, not-forgotten (start .args .env .now) (start .args .variables) (start .args .x) (at-wide .wide .result) (at-wide .wide .ensures ∙ at-root .word-at .ensures) (c .if1 .left))
+
+pub forget-holder-spec : {M : Type 1} → statement M
+forget-holder-spec =
+    tie.close
+    (tie.spec
+    word-at-requires
+    weight-requires
+    wide-requires
+    word-at-requires-2
+    sub-env
+    mul-env
+    add-env
+    mul-env-2
+    slice-write-env
+    same-length
+    returns
+    same-length-2
+    returns-2)
