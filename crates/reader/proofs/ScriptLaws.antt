@@ -14,7 +14,8 @@ use Rattle.reader.specs.Script.{Term}
 use Rattle.reader.specs.Layout.{inBytes}
 use Rattle.reader.specs.Reader.{Cursor, Reads, _>>=_, done, placeIn, expect, peek, skip, next, mark, version, leading, nothingLeft, over, script, term, start, answer, parse}
 use Rattle.reader.specs.Parts.{cursor}
-use Rattle.reader.specs.ByteParts.{onNumber, markNumber, leadJudged, readTerm, readScript}
+use Rattle.reader.specs.ByteParts.{onNumber, markNumber, leadJudged, readScript}
+use Rattle.reader.specs.Lent.{readOutermost}
 use Rattle.reader.specs.declared.operands.Fields.{Fields}
 use Rattle.reader.specs.declared.operands.Fields.the-variants as fields
 use Rattle.reader.proofs.Answers.{go-on, stops, after, stop}
@@ -125,23 +126,23 @@ module _ (t : List ℕ) where
     unfolding onLead
     script-on = go-on leading _ (start t) (here 5) tt _ (lead-is ∙ ap onLead e) refl
 
-    pub script-refused : (q : Refusal) → readTerm 16 true (drop 5 t) 5 0 0 ≡ err q → readScript t ≡ err q
-    unfolding script base
-    script-refused q h = script-on ∙ stops (term base 1 inBytes 16 true) _ (here 5) q h
+    pub script-refused : (q : Refusal) → readOutermost t 5 ≡ err q → readScript t ≡ err q
+    unfolding script
+    script-refused q h = script-on ∙ stops (term base 1 inBytes (base .levels) true) _ (here 5) q h
 
-    pub script-over : (x : Term) (s : Cursor) → readTerm 16 true (drop 5 t) 5 0 0 ≡ ok (x, s) → s .rest ≡ drop (s .at) t → length t ≤ s .at → readScript t ≡ ok (x, s)
-    unfolding script base over done nothingLeft _&_
+    pub script-over : (x : Term) (s : Cursor) → readOutermost t 5 ≡ ok (x, s) → s .rest ≡ drop (s .at) t → length t ≤ s .at → readScript t ≡ ok (x, s)
+    unfolding script over done nothingLeft _&_
     script-over x s h r l =
         let d : s .rest ≡ [] = r ∙ drop-of-length-le t l in
         let o : over inBytes s ≡ ok (tt, s) = rw d in
-        script-on ∙ go-on (term base 1 inBytes 16 true) _ (here 5) s x _ h (go-on (over inBytes) _ s s tt _ o refl)
+        script-on ∙ go-on (term base 1 inBytes (base .levels) true) _ (here 5) s x _ h (go-on (over inBytes) _ s s tt _ o refl)
 
-    pub script-left : (x : Term) (s : Cursor) → readTerm 16 true (drop 5 t) 5 0 0 ≡ ok (x, s) → s .rest ≡ drop (s .at) t → s .at < length t → readScript t ≡ err (19, s .at)
-    unfolding script base over nothingLeft _&_
+    pub script-left : (x : Term) (s : Cursor) → readOutermost t 5 ≡ ok (x, s) → s .rest ≡ drop (s .at) t → s .at < length t → readScript t ≡ err (19, s .at)
+    unfolding script over nothingLeft _&_
     script-left x s h r l =
         let d : s .rest ≡ getD t (s .at) 0 ∷ drop (suc (s .at)) t = r ∙ drop-cons t (s .at) 0 l in
         let o : over inBytes s ≡ err (19, s .at) = rw d in
-        script-on ∙ go-on (term base 1 inBytes 16 true) _ (here 5) s x _ h (stops (over inBytes) _ s _ o)
+        script-on ∙ go-on (term base 1 inBytes (base .levels) true) _ (here 5) s x _ h (stops (over inBytes) _ s _ o)
 
 pub parse-is : (t : List ℕ) (x : Term) (s : Cursor) → readScript t ≡ ok (x, s) → parse base t ≡ ok x
 unfolding parse answer

@@ -4,7 +4,7 @@ use native.Mathlib.Omega.{arith}
 use mathlib.Core.Path.{_≡_, refl, sym, ap, _∙_, subst}
 use mathlib.Core.Bool.{true}
 use mathlib.Core.List.{List}
-use lib.ListN.{length, take, drop, length-drop}
+use lib.ListN.{length, drop, length-drop}
 use lib.Seq.{drop-drop}
 use Rattle.reader.specs.Result.{Result, ok, Refusal}
 use Rattle.reader.specs.Limits.{base}
@@ -13,11 +13,12 @@ use Rattle.reader.specs.Layout.{inBytes, inRows, lay}
 use Rattle.reader.specs.Reader.{Cursor, nothingLeft, over, script, term, start, leading}
 use Rattle.reader.specs.Measures.{size}
 use Rattle.reader.specs.Within.{Under}
-use Rattle.reader.specs.ByteParts.{Ready, Got, gotOf, RowsAfter, Reading, leadJudged, readTerm, readScript}
+use Rattle.reader.specs.ByteParts.{Got, gotOf, RowsAfter, Reading, leadJudged, readScript}
+use Rattle.reader.specs.Lent.{OutermostReady, readOutermost}
 use Rattle.reader.specs.declared.operands.Fields.the-variants as fields
 use Rattle.reader.specs.ByteParts as got
 use Rattle.reader.proofs.Answers.{then, ran, same, is-done}
-use Rattle.reader.proofs.Lists.{part-all, under-drop}
+use Rattle.reader.proofs.Lists.{under-drop}
 use Rattle.reader.proofs.HeadSound.{under-got}
 use Rattle.reader.proofs.Sound.{sound}
 use Rattle.reader.proofs.Leading.{leading-says}
@@ -31,34 +32,28 @@ module _ (t : List ℕ) (u : Under 256 t) (rows : List ℕ) where
   whole-lead n p e = rw (script-lead t n p e) (refl, tt)
 
   module _ (m : ℕ) (e : leadJudged t ≡ fields.Fine m) where
-    abbrev Part : List ℕ
-    Part = take (length t - 5) (drop 5 t)
-
-    pub whole-ready : length t ≤ 4096 → length rows ≡ 2560 → Ready Part 5 0 rows
+    pub whole-ready : length t ≤ 4096 → length rows ≡ 2560 → OutermostReady t 5 rows
     whole-ready a b =
         let r = lead-room t m e in
-        rw part-all (record { bytes = under-drop 256 5 t u; room = omega (arith, length-drop 5 t); few = omega arith; full = b })
+        (r, record { bytes = under-drop 256 5 t u; room = omega (arith, length-drop 5 t); few = omega arith; full = b })
 
-    module _ (rows₁ : List ℕ) (r : Got) (q : Reading (lay inRows) (readTerm 16 true Part 5 0 0) 0 rows rows₁ r) where
-      here : Reading (lay inRows) (readTerm 16 true (drop 5 t) 5 0 0) 0 rows rows₁ r
-      here = rw part-all at q
-
+    module _ (rows₁ : List ℕ) (r : Got) (q : Reading (lay inRows) (readOutermost t 5) 0 rows rows₁ r) where
       pub whole-refused : (n p : ℕ) → r ≡ got.Refused n p → Reading (lay inRows) (readScript t) 0 rows rows₁ r
       unfolding gotOf RowsAfter
       whole-refused n p a =
-          let o = refused-says (readTerm 16 true (drop 5 t) 5 0 0) n p (sym a ∙ here .0) in
+          let o = refused-says (readOutermost t 5) n p (sym a ∙ q .0) in
           rw (script-refused t m e (n, p) o) (a, tt)
 
       module _ (a b c : ℕ) (f : r ≡ got.Fine a b c) where
         abbrev Outer : Result Refusal (Term × Cursor)
-        Outer = readTerm 16 true (drop 5 t) 5 0 0
+        Outer = readOutermost t 5
 
         says : (x : Term) × (s : Cursor) × (Outer ≡ ok (x, s)) × (s .at ≡ a) × (s .terms ≡ b) × (s .boxes ≡ c)
-        says = fine-says Outer a b c (sym f ∙ here .0)
+        says = fine-says Outer a b c (sym f ∙ q .0)
 
         rest-is : says .1 .rest ≡ drop (says .1 .at) t
         rest-is =
-            let d = ends 16 true (drop 5 t) 5 0 0 (says .1) (says .0) (under-drop 256 5 t u) (says .2) in
+            let d = ends (base .levels) true (drop 5 t) 5 0 0 (says .1) (says .0) (under-drop 256 5 t u) (says .2) in
             let k : 5 + (says .1 .at - 5) ≡ says .1 .at = omega (arith, d .from) in
             d .rest ∙ drop-drop (says .1 .at - 5) 5 t ∙ ap (λ (n : ℕ). drop n t) k
 
@@ -71,7 +66,7 @@ module _ (t : List ℕ) (u : Under 256 t) (rows : List ℕ) where
         pub whole-over : length t ≤ a → Reading (lay inRows) (readScript t) 0 rows rows₁ r
         whole-over l =
             let h : length t ≤ says .1 .at = omega (arith, says .3) in
-            rw (script-over t m e (says .0) (says .1) (says .2) rest-is h) (subst (λ (o : Result Refusal (Term × Cursor)). Reading (lay inRows) o 0 rows rows₁ r) (says .2) here)
+            rw (script-over t m e (says .0) (says .1) (says .2) rest-is h) (subst (λ (o : Result Refusal (Term × Cursor)). Reading (lay inRows) o 0 rows rows₁ r) (says .2) q)
 
 -- The cursor of a whole script has counted its terms, and they fit.
 pub script-size : (t : List ℕ) → Under 256 t → (x : Term) (s : Cursor) → readScript t ≡ ok (x, s) → (s .terms ≡ size x) × (size x ≤ 512)

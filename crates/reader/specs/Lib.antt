@@ -10,5 +10,6 @@ pub mod Within
 pub mod Answers
 pub mod Parts
 pub mod ByteParts
+pub mod Lent
 pub mod RowParts
 pub mod OutputParts

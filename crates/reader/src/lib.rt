@@ -8,6 +8,7 @@ mod packed; // packed.rt: the answers of the term and block functions, each in o
 mod opening; // opening.rt: what stands at a kind byte, or at a row
 mod operands; // operands.rt: the operands after a kind byte, and the row that they fill
 mod terms; // terms.rt: terms and blocks in bytes
+mod reader; // reader.rt: the reader of a script in its named form
 mod script; // script.rt: a whole script in bytes
 mod rows; // rows.rt: terms and blocks in term rows, and what stands after them
 mod output; // output.rt: the bytes of a script, from its term rows

@@ -10,19 +10,18 @@ use crate::limits;
 use crate::operands::Fields;
 use crate::operands::wide;
 use crate::packed;
-use crate::terms::read_term;
+use crate::reader::Next;
+use crate::reader::next_at;
+use crate::reader::read_outermost_at;
 
 // 0 where the byte at j is the mark's; else 12 where there is none, or 10.
 fn mark_number(script: &[u8], j: usize, byte: u8) -> u32
     ensures { λ r. ⌜ r ≡ markNumber (now (script .entry)) j byte ⌝ }
 {
-    if script.len() <= j {
-        return limits::ENDED;
+    match next_at(script, j) {
+        Next::End => limits::ENDED,
+        Next::Byte(value) => { if value == byte { 0 } else { limits::MARK } }
     }
-    if script[j] != byte {
-        return limits::MARK;
-    }
-    0
 }
 
 // Mark and version: where they end, or the refusal.
@@ -59,15 +58,15 @@ pub fn read_script(script: &[u8], rows: &mut [u32]) -> usize
     if let Fields::Refused(number, place) = lead {
         return packed::refused(number, place);
     }
-    let got = read_term(&script[5..], 5, limits::LEVELS, true, 0, 0, rows);
+    let got = read_outermost_at(script, 5, rows);
     if packed::REFUSED <= got {
         return got;
     }
     let next = got % packed::OFFSETS;
-    if next < script.len() {
-        return packed::refused(limits::LEFT_OVER, next);
+    match next_at(script, next) {
+        Next::Byte(_) => packed::refused(limits::LEFT_OVER, next),
+        Next::End => got,
     }
-    got
 }
 
 // 0 in every field from `from` on.

@@ -4,7 +4,7 @@ use mathlib.Core.Path.{sym, _∙_}
 use borrow.Author.Needs.{needs}
 use Rattle.reader.proofs.PackedLaws.{found-refused, found-fine, refused-found}
 use Rattle.reader.proofs.Refusals.{lead-near}
-use Rattle.reader.proofs.ScriptLaws.{lead-room}
+use Rattle.reader.proofs.LentLaws.{byte-within, end-past}
 use Rattle.reader.proofs.WholeLaws.{whole-lead, whole-ready, whole-refused, whole-left, whole-over}
 use Rattle.reader.proofs.script.read_script.Statement.{statement}
 use Rattle.reader.proofs.script.read_script.Tie as tie
@@ -28,38 +28,39 @@ returns c =
 enum-told : tie.Need-enum-told
 enum-told c = search needs
 
-sub-read-term : tie.Need-sub-read-term
-sub-read-term c = lead-room _ _ (sym (c .before .before .judge-lead .ensures .0) ∙ c .enum-told .given .1)
-
-part-read-term-start : tie.Need-part-read-term-start
-part-read-term-start c = lead-room _ _ (sym (c .before .before .judge-lead .ensures .0) ∙ c .enum-told .given .1)
-
-part-read-term-end : tie.Need-part-read-term-end
-part-read-term-end c = search needs
-
-read-term-requires : tie.Need-read-term-requires
-read-term-requires c κs =
-    let lead = c .before .before .before .before .judge-lead .ensures in
-    whole-ready _ (lead .1) _ _ (sym (lead .0) ∙ c .before .before .enum-told .given .1) (c .before .before .before .before .before .before .before .pre .0) (c .before .before .before .before .before .before .before .pre .1)
+read-outermost-at-requires : tie.Need-read-outermost-at-requires
+read-outermost-at-requires c κs =
+    let lead = c .before .before .before .judge-lead .ensures in
+    whole-ready _ (lead .1) _ _ (sym (lead .0) ∙ c .before .enum-told .given .1) (c .before .before .before .before .before .before .pre .0) (c .before .before .before .before .before .before .pre .1)
 
 same-length : tie.Need-same-length
 same-length c = search needs
 
 returns-2 : tie.Need-returns-2
 returns-2 c =
-    let lead = c .before .before .before .before .before .before .before .before .judge-lead .ensures in
-    whole-refused _ (lead .1) _ _ (sym (lead .0) ∙ c .before .before .before .before .before .before .enum-told .given .1) _ _ (c .before .before .before .read-term .ensures) _ _ (found-refused _ (c .if1 .taken))
+    let lead = c .before .before .before .before .before .before .before .judge-lead .ensures in
+    whole-refused _ (lead .1) _ _ (sym (lead .0) ∙ c .before .before .before .before .before .enum-told .given .1) _ _ (c .before .before .before .read-outermost-at .ensures) _ _ (found-refused _ (c .if1 .taken))
+
+next-at-requires : tie.Need-next-at-requires
+next-at-requires c κs = search needs
+
+enum-told-2 : tie.Need-enum-told-2
+enum-told-2 c = search needs
 
 refused-requires-2 : tie.Need-refused-requires-2
 refused-requires-2 c κs = search needs
+
+enum-told-3 : tie.Need-enum-told-3
+enum-told-3 c = search needs
 
 same-length-2 : tie.Need-same-length-2
 same-length-2 c = search needs
 
 returns-3 : tie.Need-returns-3
 returns-3 c =
-    let lead = c .before .before .before .before .before .before .before .before .before .before .judge-lead .ensures in
-    let q = whole-left _ (lead .1) _ _ (sym (lead .0) ∙ c .before .before .before .before .before .before .before .before .enum-told .given .1) _ _ (c .before .before .before .before .before .read-term .ensures) _ _ _ (found-fine _ (c .before .before .if1 .left)) (c .before .if2 .taken) in
+    let lead = c .before .before .before .before .before .before .before .before .before .before .before .judge-lead .ensures in
+    let left = byte-within _ _ _ (sym (c .before .before .before .next-at .ensures) ∙ c .before .enum-told2 .given .1) in
+    let q = whole-left _ (lead .1) _ _ (sym (lead .0) ∙ c .before .before .before .before .before .before .before .before .before .enum-told .given .1) _ _ (c .before .before .before .before .before .before .before .read-outermost-at .ensures) _ _ _ (found-fine _ (c .before .before .before .before .if1 .left)) (left .0) in
     (refused-found _ 19 _ (omega arith) (c .refused2 .ensures) ∙ q .0, q .1)
 
 same-length-3 : tie.Need-same-length-3
@@ -67,8 +68,9 @@ same-length-3 c = search needs
 
 returns-4 : tie.Need-returns-4
 returns-4 c =
-    let lead = c .before .before .before .before .before .before .before .before .before .judge-lead .ensures in
-    whole-over _ (lead .1) _ _ (sym (lead .0) ∙ c .before .before .before .before .before .before .before .enum-told .given .1) _ _ (c .before .before .before .before .read-term .ensures) _ _ _ (found-fine _ (c .before .if1 .left)) (c .if2 .left)
+    let lead = c .before .before .before .before .before .before .before .before .before .before .judge-lead .ensures in
+    let past = end-past _ _ (sym (c .before .before .next-at .ensures) ∙ c .enum-told3 .given .1) in
+    whole-over _ (lead .1) _ _ (sym (lead .0) ∙ c .before .before .before .before .before .before .before .before .enum-told .given .1) _ _ (c .before .before .before .before .before .before .read-outermost-at .ensures) _ _ _ (found-fine _ (c .before .before .before .if1 .left)) past
 
 pub read-script-spec : {M : Type 1} → statement M
 read-script-spec =
@@ -79,13 +81,13 @@ read-script-spec =
     refused-requires
     returns
     enum-told
-    sub-read-term
-    part-read-term-start
-    part-read-term-end
-    read-term-requires
+    read-outermost-at-requires
     same-length
     returns-2
+    next-at-requires
+    enum-told-2
     refused-requires-2
+    enum-told-3
     same-length-2
     returns-3
     same-length-3
