@@ -81,3 +81,17 @@ pub rest-none : (nv : ℕ) (f : ℕ → RowTree Term) (level n : ℕ) (r : Judge
 unfolding restAt ended answered _>>=_
 rest-none nv f level zero r v Γ h q = rw q
 rest-none nv f level (suc n) r v Γ h q = absurd (omega arith)
+
+-- One term as all that is left.
+module _ (nv : ℕ) (f : ℕ → RowTree Term) (i : ℕ) where
+  pub one-rest : IsTree (f i) → IsRest f 1 i
+  unfolding severalAt
+  one-rest h = go (f i) h
+    where
+      go : (d : RowTree Term) → IsTree d → IsTree (around last d)
+      go none h = absurd h
+      go (some r) h = tt
+
+  pub rest-one : (level : ℕ) (v : Value) (Γ : Environment) → restAt nv f level 1 i v Γ ≡ judgeAt nv (f i) level Γ
+  unfolding restAt severalAt
+  rest-one level v Γ = last-judged nv level Γ (f i)

@@ -1,7 +1,7 @@
 -- A term with an inner term: refused as the inner term is, or else judged by the rule that follows it.
 use Prim.Native.Nat.{ℕ}
 use native.Mathlib.Omega.{arith}
-use mathlib.Core.Path.{_≡_, sym, ap}
+use mathlib.Core.Path.{_≡_, refl, sym, ap}
 use mathlib.Core.Option.{none, some}
 use Rattle.reader.specs.Result.{ok, err, Refusal, _>>=_}
 use Rattle.rules.specs.declared.verdicts.Value.{Value}
@@ -47,3 +47,14 @@ module _ {A B : Type 0} (f : A → B) (J : A → Judged Out) (J′ : B → Judge
   inner-fine (some r) h e v q Γ′ out w =
       let z = fine-is (J (r .0)) (r .1) Γ inner e v q in
       rw (w, z .1, rule (r .0), z .0)
+
+-- The same, whatever the inner term's answer.
+bind-row : (R : Judged Out) (j : ℕ) (K : Out → Judged Out) → atRow j (R >>= K) ≡ (atRow j R >>= λ o. atRow (o .1) (K (o .0)))
+unfolding _>>=_
+bind-row (ok o) j K = refl
+bind-row (err e) j K = refl
+
+pub inner-step : {A B : Type 0} (f : A → B) (J : A → Judged Out) (J′ : B → Judged Out) (K : Out → Judged Out) → ((a : A) → J′ (f a) ≡ (J a >>= K)) → (d : RowTree A) → IsTree d → judgedAt J′ (around f d) ≡ (judgedAt J d >>= λ o. atRow (o .1) (K (o .0)))
+unfolding judgedAt
+inner-step f J J′ K rule none h = absurd h
+inner-step f J J′ K rule (some r) h = rw (rule (r .0)) (bind-row (J (r .0)) (r .1) K)

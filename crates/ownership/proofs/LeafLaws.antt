@@ -38,9 +38,9 @@ leaf-number nv k i p q Γ a b c d e = go (kindOf 1 k) refl
     go (some kBelow) h = absurd (e (sym (found 1 k kBelow h)))
     go (some kBlock) h = refl
 
-pub leaf-judged : (nv l : ℕ) (rows : List ℕ) (i : ℕ) → IsTree (treeAt nv l rows i) → (level : ℕ) (Γ : Environment) (k : ℕ) → k ≡ rowNumber rows i 0 → (k ≡ 7 → ⊥) → (k ≡ 8 → ⊥) → (k ≡ 9 → ⊥) → (k ≡ 11 → ⊥) → (p q : Place) → p ≡ rowPlace rows i 1 → q ≡ rowPlace rows i 3 → (Γ₁ : Environment) (out : Verdict) → answered Γ₁ out ≡ judgeLeaf nv (kindOf 1 k) i (asPlace p) (asPlace q) Γ → ended Γ₁ (record { next = i + 1; verdict = out }) ≡ judgeAt nv (treeAt nv l rows i) level Γ
+pub leaf-judged : (nv l : ℕ) (rows : List ℕ) (i : ℕ) → IsTree (treeAt nv l rows i) → (level : ℕ) (Γ : Environment) (k : ℕ) → k ≡ rowNumber rows i 0 → (k ≡ 7 → ⊥) × (k ≡ 8 → ⊥) × (k ≡ 9 → ⊥) → (k ≡ 11 → ⊥) → (p q : Place) → p ≡ rowPlace rows i 1 → q ≡ rowPlace rows i 3 → (Γ₁ : Environment) (out : Verdict) → answered Γ₁ out ≡ judgeLeaf nv (kindOf 1 k) i (asPlace p) (asPlace q) Γ → ended Γ₁ (record { next = i + 1; verdict = out }) ≡ judgeAt nv (treeAt nv l rows i) level Γ
 unfolding ended judgedAt judge kindAt judgeLeaf byteOf
-leaf-judged nv l rows i good level Γ k ek a b c d p q ep eq Γ₁ out w =
+leaf-judged nv l rows i good level Γ k ek n d p q ep eq Γ₁ out w =
     let z : treeAt nv l rows i ≡ kindAt (kindOf 1 k) nv (treeAt nv (l - 1) rows) rows i = tree-kind nv l rows i (kindOf 1 k) good (rw ek) in
     rw (w, ep, eq, z) (go (treeAt nv (l - 1) rows) (kindOf 1 k) refl (rw z at good))
   where
@@ -52,8 +52,8 @@ leaf-judged nv l rows i good level Γ k ek a b c d p q ep eq Γ₁ out w =
     go f (some kMove) h t = refl
     go f (some kShared) h t = refl
     go f (some kExclusive) h t = refl
-    go f (some kBox) h t = absurd (a (sym (found 1 k kBox h)))
-    go f (some kLet) h t = absurd (b (sym (found 1 k kLet h)))
-    go f (some kAssign) h t = absurd (c (sym (found 1 k kAssign h)))
+    go f (some kBox) h t = absurd (n .0 (sym (found 1 k kBox h)))
+    go f (some kLet) h t = absurd (n .1 (sym (found 1 k kLet h)))
+    go f (some kAssign) h t = absurd (n .2 (sym (found 1 k kAssign h)))
     go f (some kBelow) h t = refl
     go f (some kBlock) h t = absurd (d (sym (found 1 k kBlock h)))

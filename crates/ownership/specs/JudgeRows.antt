@@ -1,16 +1,22 @@
 -- The judge at a row: the rules' judge at the tree that stands there, and the row after it.
-use Prim.Native.Nat.{ℕ, zero, suc}
+use Prim.Native.Nat.{ℕ, zero, suc, _+_, _*_, _≤_, _<_}
+use mathlib.Core.Path.{_≡_}
+use mathlib.Core.Bool.{Bool, true, false}
 use mathlib.Core.Option.{Option, none, some}
-use Rattle.reader.specs.Result.{ok, err, _>>=_}
+use mathlib.Core.List.{List}
+use lib.Dec.{leb, eqb}
+use lib.ListN.{length}
+use Rattle.reader.specs.Result.{ok, err, pick, _>>=_}
 use Rattle.reader.specs.Script.{Place, Term, Terms}
 use Rattle.reader.specs.Kinds.{Kind, kNumber, kReading, kCopy, kMove, kShared, kExclusive, kBox, kLet, kAssign, kBelow, kBlock}
 use Rattle.rules.specs.declared.verdicts.Value.{Value}
 use Rattle.rules.specs.Environment.{Environment}
-use Rattle.rules.specs.Rules.{Judged, Out, numberTy, judgeCopy, judgeMove, judgeShared, judgeExclusive, judgeBelow}
+use Rattle.rules.specs.Rules.{Judged, Out, numberTy, judgeCopy, judgeMove, judgeShared, judgeExclusive, judgeBox, judgeLet, judgeAssign, judgeBelow}
+use Rattle.rules.specs.Table.{asPlace}
 use Rattle.rules.specs.Judge.{judge, judges, judgeScript}
-use Rattle.rules.specs.Verdicts.{asValue, answered}
+use Rattle.rules.specs.Verdicts.{beginLet, asValue, answered}
 use Rattle.ownership.specs.declared.judge.JudgedTerm.{JudgedTerm}
-use Rattle.ownership.specs.RowTrees.{RowTree, IsTree, severalAt}
+use Rattle.ownership.specs.RowTrees.{rowNumber, rowPlace, RowTree, IsTree, severalAt}
 
 abbrev pub Ended : Type 0
 Ended = Judged (Out × ℕ)
@@ -32,6 +38,35 @@ judgeAt nv d level Γ = judgedAt (λ t. judge nv t level Γ) d
 
 abbrev pub judgesAt : ℕ → RowTree Terms → ℕ → Environment → Ended
 judgesAt nv d level Γ = judgedAt (λ ts. judges nv ts level Γ) d
+
+-- A kind that stands around one inner term: box, let or assign.
+unfoldable pub wrapsOf : ℕ → Bool
+wrapsOf k = pick (leb 7 k) (leb k 9) false
+
+-- Such a term at row i.
+pub record Wraps (nv : ℕ) (rows : List ℕ) (i : ℕ) : Type 0 where
+  pub room : 5 * i + 5 ≤ length rows
+  pub kind : wrapsOf (rowNumber rows i 0) ≡ true
+  pub number : rowNumber rows i 0 ≡ 8 → rowNumber rows i 1 < nv
+
+-- What comes before its inner term.
+unfoldable pub beginAt : List ℕ → ℕ → Environment → Judged Environment
+beginAt rows i Γ = pick (eqb (rowNumber rows i 0) 8) (beginLet Γ i (rowNumber rows i 1)) (ok Γ)
+
+-- The rule that follows it.
+unfoldable pub ruleAfter : ℕ → ℕ → List ℕ → ℕ → Out → Judged Out
+ruleAfter nv level rows i o =
+    pick (eqb (rowNumber rows i 0) 7) (judgeBox nv (o .0) i (o .1))
+    (pick (eqb (rowNumber rows i 0) 8) (judgeLet nv level (o .0) i (rowNumber rows i 1) (o .1))
+    (judgeAssign nv (o .0) i (asPlace (rowPlace rows i 1)) (o .1)))
+
+abbrev pub afterAt : ℕ → ℕ → List ℕ → ℕ → Ended → Ended
+afterAt nv level rows i inner = inner >>= λ o. atRow (o .1) (ruleAfter nv level rows i (o .0))
+
+-- What follows the innermost term, of n around it from row i on.
+unfoldable pub outwards : ℕ → ℕ → List ℕ → ℕ → ℕ → Ended → Ended
+outwards nv level rows i zero inner = inner
+outwards nv level rows i (suc n) inner = outwards nv level rows i n (afterAt nv level rows (i + n) inner)
 
 -- What is left of a block: n terms from row i on, after one with this value.
 abbrev pub IsRest : (ℕ → RowTree Term) → ℕ → ℕ → Type 0

@@ -1,12 +1,13 @@
 // Judging terms and blocks over term rows. The table of the variables is lent down; after a refusal it is not looked at again.
 ghost use mathlib.Core.Path.{_≡_};
+ghost use mathlib.Core.Bool.{false};
 ghost use Prim.Native.Nat.{_<_, _+_};
 ghost use Rattle.reader.specs.Kinds.{kindOf};
 ghost use Rattle.rules.specs.Judge.{nothingTaken};
 ghost use Rattle.rules.specs.Table.{TableFor, environmentOf, asPlace};
-ghost use Rattle.rules.specs.Verdicts.{asRequirement, answered};
-ghost use Rattle.ownership.specs.RowTrees.{IsTree, treeAt};
-ghost use Rattle.ownership.specs.JudgeRows.{judgeLeaf, ended, judgeAt, IsRest, restAt, scriptAt};
+ghost use Rattle.rules.specs.Verdicts.{asRequirement, begun, answered};
+ghost use Rattle.ownership.specs.RowTrees.{rowNumber, IsTree, treeAt};
+ghost use Rattle.ownership.specs.JudgeRows.{judgeLeaf, ended, judgeAt, wrapsOf, Wraps, beginAt, afterAt, IsRest, restAt, scriptAt};
 use crate::row;
 use crate::row::index_at;
 use crate::row::number_at;
@@ -56,7 +57,104 @@ fn judge_leaf(
     }
 }
 
-// The term at row i, with the levels that are left. `level` is that of the innermost block around it.
+// Box, let and assign stand around one inner term, which is in the next row.
+fn wraps(kind: u32) -> bool
+    ensures { λ r. ⌜ r ≡ wrapsOf kind ⌝ }
+{
+    if kind < row::BOX {
+        return false;
+    }
+    kind <= row::ASSIGN
+}
+
+// What comes before the inner term of such a term: a let takes its number.
+fn judge_before(rows: &[u32], i: usize, env: &mut [u32], variables: usize) -> Requirement
+    requires { ⌜ Wraps variables (now rows) i × TableFor (now env) variables ⌝ }
+    ensures { λ r. ⌜ (begun (environmentOf (now (env .exit))) r ≡ beginAt (now (rows .entry)) i (environmentOf (now (env .entry)))) × TableFor (now (env .exit)) variables ⌝ }
+{
+    let kind = number_at(rows, i, 0);
+    if kind != row::LET {
+        return Requirement::Met;
+    }
+    let x = index_at(rows, i, 1);
+    begin_let(env, variables, i, x)
+}
+
+// What follows it.
+fn judge_after(
+    rows: &[u32],
+    i: usize,
+    env: &mut [u32],
+    variables: usize,
+    level: u32,
+    inner: JudgedTerm,
+) -> JudgedTerm
+    requires { ⌜ Wraps variables (now rows) i × TableFor (now env) variables ⌝ }
+    ensures { λ r. ⌜ (ended (environmentOf (now (env .exit))) r ≡ afterAt variables level (now (rows .entry)) i (ended (environmentOf (now (env .entry))) inner)) × TableFor (now (env .exit)) variables ⌝ }
+{
+    let verdict = inner.verdict;
+    let Verdict::Fine(value) = verdict else {
+        return inner;
+    };
+    let kind = number_at(rows, i, 0);
+    match kind {
+        row::BOX => JudgedTerm {
+            next: inner.next,
+            verdict: judge_box(i, value),
+        },
+        row::LET => {
+            let x = index_at(rows, i, 1);
+            JudgedTerm {
+                next: inner.next,
+                verdict: judge_let(env, variables, level, i, x, value),
+            }
+        }
+        _ => {
+            let place = place_at(rows, i, 1);
+            JudgedTerm {
+                next: inner.next,
+                verdict: judge_assign(env, variables, i, place, value),
+            }
+        }
+    }
+}
+
+// The term at row i, which is a block or has no inner term.
+fn judge_inmost(
+    rows: &[u32],
+    i: usize,
+    levels: usize,
+    env: &mut [u32],
+    variables: usize,
+    level: u32,
+) -> JudgedTerm
+    requires { ⌜ IsTree (treeAt variables levels (now rows) i) × (wrapsOf (rowNumber (now rows) i 0) ≡ false) × TableFor (now env) variables × (level + levels < 4294967296) ⌝ }
+    ensures { λ r. ⌜ (ended (environmentOf (now (env .exit))) r ≡ judgeAt variables (treeAt variables levels (now (rows .entry)) i) level (environmentOf (now (env .entry)))) × TableFor (now (env .exit)) variables ⌝ }
+{
+    let next = i + 1;
+    let kind = number_at(rows, i, 0);
+    if kind == row::BLOCK {
+        let count = index_at(rows, i, 1);
+        let inner = judge_block(rows, next, count, levels - 1, env, variables, level + 1);
+        let verdict = inner.verdict;
+        let Verdict::Fine(value) = verdict else {
+            return inner;
+        };
+        return JudgedTerm {
+            next: inner.next,
+            verdict: judge_block_end(env, variables, level, i, value),
+        };
+    }
+    let first = place_at(rows, i, 1);
+    let second = place_at(rows, i, 3);
+    JudgedTerm {
+        next: next,
+        verdict: judge_leaf(env, variables, i, kind, first, second),
+    }
+}
+
+// The term at row i, with the levels that are left. `level` is that of the innermost block around it. Terms that
+// stand around one inner term are judged by two loops, inwards and outwards, so that only blocks cost calls.
 fn judge_term(
     rows: &[u32],
     i: usize,
@@ -68,73 +166,23 @@ fn judge_term(
     requires { ⌜ IsTree (treeAt variables levels (now rows) i) × TableFor (now env) variables × (level + levels < 4294967296) ⌝ }
     ensures { λ r. ⌜ (ended (environmentOf (now (env .exit))) r ≡ judgeAt variables (treeAt variables levels (now (rows .entry)) i) level (environmentOf (now (env .entry)))) × TableFor (now (env .exit)) variables ⌝ }
 {
-    let next = i + 1;
-    let deeper = levels - 1;
-    let kind = number_at(rows, i, 0);
-    match kind {
-        row::BOX => {
-            let inner = judge_term(rows, next, deeper, env, variables, level);
-            let verdict = inner.verdict;
-            let Verdict::Fine(value) = verdict else {
-                return inner;
+    let mut around: usize = 0;
+    while wraps(number_at(rows, i + around, 0)) {
+        let begun = judge_before(rows, i + around, env, variables);
+        if let Requirement::Refused(number, term) = begun {
+            return JudgedTerm {
+                next: i,
+                verdict: Verdict::Refused(number, term),
             };
-            JudgedTerm {
-                next: inner.next,
-                verdict: judge_box(i, value),
-            }
         }
-        row::LET => {
-            let x = index_at(rows, i, 1);
-            let begun = begin_let(env, variables, i, x);
-            if let Requirement::Refused(number, term) = begun {
-                return JudgedTerm {
-                    next: next,
-                    verdict: Verdict::Refused(number, term),
-                };
-            }
-            let inner = judge_term(rows, next, deeper, env, variables, level);
-            let verdict = inner.verdict;
-            let Verdict::Fine(value) = verdict else {
-                return inner;
-            };
-            JudgedTerm {
-                next: inner.next,
-                verdict: judge_let(env, variables, level, i, x, value),
-            }
-        }
-        row::ASSIGN => {
-            let place = place_at(rows, i, 1);
-            let inner = judge_term(rows, next, deeper, env, variables, level);
-            let verdict = inner.verdict;
-            let Verdict::Fine(value) = verdict else {
-                return inner;
-            };
-            JudgedTerm {
-                next: inner.next,
-                verdict: judge_assign(env, variables, i, place, value),
-            }
-        }
-        row::BLOCK => {
-            let count = index_at(rows, i, 1);
-            let inner = judge_block(rows, next, count, deeper, env, variables, level + 1);
-            let verdict = inner.verdict;
-            let Verdict::Fine(value) = verdict else {
-                return inner;
-            };
-            JudgedTerm {
-                next: inner.next,
-                verdict: judge_block_end(env, variables, level, i, value),
-            }
-        }
-        _ => {
-            let first = place_at(rows, i, 1);
-            let second = place_at(rows, i, 3);
-            JudgedTerm {
-                next: next,
-                verdict: judge_leaf(env, variables, i, kind, first, second),
-            }
-        }
+        around += 1;
     }
+    let mut judged = judge_inmost(rows, i + around, levels - around, env, variables, level);
+    while 0 < around {
+        around -= 1;
+        judged = judge_after(rows, i + around, env, variables, level, judged);
+    }
+    judged
 }
 
 // A block's terms in order, count of them from row i on: the value of the last.
@@ -171,7 +219,7 @@ pub fn judge_script(rows: &[u32], levels: usize, env: &mut [u32], variables: usi
     requires { ⌜ IsTree (treeAt variables levels (now rows) 0) × TableFor (now env) variables × (environmentOf (now env) ≡ nothingTaken variables) × (levels < 4294967296) ⌝ }
     ensures { λ r. ⌜ asRequirement r ≡ scriptAt variables (treeAt variables levels (now (rows .entry)) 0) ⌝ }
 {
-    let judged = judge_term(rows, 0, levels, env, variables, 0);
+    let judged = judge_block(rows, 0, 1, levels, env, variables, 0);
     let verdict = judged.verdict;
     match verdict {
         Verdict::Refused(number, term) => Requirement::Refused(number, term),

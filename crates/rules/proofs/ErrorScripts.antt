@@ -2,14 +2,14 @@
 -- the variable named, not the one finally written.
 use Prim.Native.Nat.{ℕ}
 use mathlib.Core.Path.{_≡_, refl}
-use Rattle.reader.specs.Result.{ok, err, need, _>>=_}
+use Rattle.reader.specs.Result.{err, need, _>>=_}
 use Rattle.reader.specs.Script.{Place, Term, number, move, borrowShared, borrowExclusive, box, declare, assign, block, last, more}
 use Rattle.rules.specs.Links
 use Rattle.rules.specs.Environment
 use Rattle.rules.specs.Follow
 use Rattle.rules.specs.Bars
 use Rattle.rules.specs.Rules
-use Rattle.rules.specs.Judge.{judge, judges, judgeScript}
+use Rattle.rules.specs.Judge.{judge, judgeScript}
 
 abbrev v : ℕ → ℕ → Place
 v x follows = record { root = x; follows = follows }

@@ -41,12 +41,20 @@ module _ (l : List ℕ) (n x y : ℕ) (named : y ≡ entryWord l x 4) where
   unfolding weightBelow
   below-elsewhere r h = rw (elsewhere l x r (λ e. h (named ∙ e))) (pick-zero (ltb r n))
 
-  below-past : n ≤ y → (r : ℕ) → weightBelow n (environmentOf l x) r ≡ 0
+  pub below-past : n ≤ y → (r : ℕ) → weightBelow n (environmentOf l x) r ≡ 0
   unfolding weightBelow
   below-past h r = go (ℕ-discrete y r)
     where
       go : Dec (y ≡ r) → pick (ltb r n) (weightOf (environmentOf l x) r) 0 ≡ 0
       go (yes e) = rw (lt-leb (suc r) n (omega arith))
+      go (no e) = below-elsewhere r e
+
+  pub below-none : weightOf (environmentOf l x) y ≤ 0 → (r : ℕ) → weightBelow n (environmentOf l x) r ≡ 0
+  unfolding weightBelow
+  below-none h r = go (ℕ-discrete y r)
+    where
+      go : Dec (y ≡ r) → pick (ltb r n) (weightOf (environmentOf l x) r) 0 ≡ 0
+      go (yes e) = let z : weightOf (environmentOf l x) y ≡ 0 = omega arith in rw (← e, z) (pick-zero (ltb y n))
       go (no e) = below-elsewhere r e
 
   below-there : y < n → weightBelow n (environmentOf l x) y ≡ weightOf (environmentOf l x) y
@@ -68,11 +76,13 @@ module _ (l : List ℕ) (n x y : ℕ) (named : y ≡ entryWord l x 4) where
         go (yes e) = rw (← e, note-there l y (noteAt l y + w) (omega arith), below-there h, ← is)
         go (no e) = rw (note-other l y (noteAt l y + w) r e, below-elsewhere r e) (omega arith)
 
-  pub not-forgotten : n ≤ y → (r : ℕ) → noteAt l r + weightBelow n (environmentOf l x) r ≡ noteAt l r
-  not-forgotten h r = rw (below-past h r) (omega arith)
+-- Nothing is added to any note.
+module _ (l : List ℕ) (n x : ℕ) (none : (r : ℕ) → weightBelow n (environmentOf l x) r ≡ 0) where
+  pub not-forgotten : (r : ℕ) → noteAt l r + weightBelow n (environmentOf l x) r ≡ noteAt l r
+  not-forgotten r = rw (none r) (omega arith)
 
-  pub not-counted : n ≤ y → (r : ℕ) → noteAt l r ≡ noteAt l r + weightBelow n (environmentOf l x) r
-  not-counted h r = rw (below-past h r) (omega arith)
+  pub not-counted : (r : ℕ) → noteAt l r ≡ noteAt l r + weightBelow n (environmentOf l x) r
+  not-counted r = rw (none r) (omega arith)
 
 -- A raised note.
 module _ (l : List ℕ) (y v : ℕ) where

@@ -1,8 +1,8 @@
 -- The notes stay right: when an entry changes, when a block's variables leave scope, and in a table of 0.
-use Prim.Native.Nat.{ℕ, zero, suc, _+_, _*_, _<_, _≤_}
+use Prim.Native.Nat.{ℕ, suc, _+_, _*_, _<_, _≤_}
 use native.Mathlib.Omega.{arith}
 use native.Mathlib.Decide.{ℕ-discrete, decLt}
-use mathlib.Core.Path.{_≡_, refl, sym, _∙_, fun-ext}
+use mathlib.Core.Path.{_≡_, refl, _∙_, fun-ext}
 use mathlib.Core.Bool.{Bool, true, false}
 use mathlib.Core.List.{List}
 use lib.Dec.{ltb}
@@ -12,8 +12,8 @@ use Rattle.reader.specs.Result.{pick}
 use Rattle.rules.specs.declared.table.Entry.{Entry}
 use Rattle.rules.specs.declared.table.Entry.the-variants as entry
 use Rattle.rules.specs.Environment.{Variable, Slot, free, used, live, Environment, update, levelOf, leaveSlot, leave}
-use Rattle.rules.specs.Bars.{borrowsAny, borrowsExclusive, heldBy}
-use Rattle.rules.specs.Table.{entryAt, asSlot, environmentOf, noteAt, weightOf, weightBelow, holders, raisedAt, Noted, TableFor}
+use Rattle.rules.specs.Bars.{heldBy}
+use Rattle.rules.specs.Table.{entryAt, asSlot, environmentOf, noteAt, weightOf, weightBelow, holders, raisedAt, TableFor}
 use Rattle.rules.proofs.TableLaws.{update-same, update-other}
 use Rattle.rules.proofs.HolderLaws.{holders-most, holders-has, holders-update}
 use Rattle.rules.proofs.NoteLaws.{noted, note-there, note-other}

@@ -1,7 +1,6 @@
 -- A judged place as the code has it: of its root the links only, the rest by what the rules found.
 use Prim.Native.Nat.{ℕ, _<_}
 use native.Mathlib.Omega.{arith}
-use native.Mathlib.Decide.{decLt}
 use mathlib.Core.Path.{_≡_, refl, sym, _∙_, ap}
 use mathlib.Core.Bool.{Bool, true, false}
 use mathlib.Core.Option.{Option, none, some}
@@ -13,11 +12,11 @@ use Rattle.reader.specs.Script.{Place}
 use Rattle.rules.specs.declared.rules.Located.{Located}
 use Rattle.rules.specs.declared.rules.Located.the-variants as located
 use Rattle.rules.specs.Links.{Link}
-use Rattle.rules.specs.Environment.{Variable, Slot, free, used, live, Environment}
+use Rattle.rules.specs.Environment.{Slot, free, used, live, Environment}
 use Rattle.rules.specs.Chains.{chainOf}
 use Rattle.rules.specs.Follow.{follow}
 use Rattle.rules.specs.Rules as rules
-use Rattle.rules.specs.Rules.{Judged, inScope, reached, judgePlace, judgeReadable}
+use Rattle.rules.specs.Rules.{Judged, inScope, reached, judgePlace}
 use Rattle.rules.specs.Table.{environmentOf, TableFor}
 use Rattle.rules.specs.Verdicts.{foundOf, asLocated}
 use Rattle.rules.proofs.NotedLaws.{live-inside}

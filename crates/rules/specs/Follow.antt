@@ -1,6 +1,6 @@
 -- Following a place: to one of a variable's own links, through its boxes, and beyond its borrow link through the borrowed place.
 use Prim.Native.Nat.{ℕ, zero, suc, _+_, _-_}
-use mathlib.Core.Bool.{Bool, true, false}
+use mathlib.Core.Bool.{Bool, false}
 use mathlib.Core.Option.{Option, none, some}
 use mathlib.Core.List.{List}
 use lib.ListN.{length}

@@ -1,9 +1,9 @@
 -- The judge on trees: a term, a block's terms, and the whole script.
 use Prim.Native.Nat.{ℕ, suc}
-use mathlib.Core.Bool.{Bool, true, false}
+use mathlib.Core.Bool.{Bool, false}
 use mathlib.Core.Option.{Option, none, some}
-use Rattle.reader.specs.Result.{Result, ok, err, need, _>>=_}
-use Rattle.reader.specs.Script.{Place, Term, Terms, number, reading, copy, move, borrowShared, borrowExclusive, box, declare, assign, below, block, last, more}
+use Rattle.reader.specs.Result.{ok, need, _>>=_}
+use Rattle.reader.specs.Script.{Term, Terms, number, reading, copy, move, borrowShared, borrowExclusive, box, declare, assign, below, block, last, more}
 use Rattle.rules.specs.Links.{isNumber}
 use Rattle.rules.specs.Environment.{Environment, free, used, Ty, update, isFree}
 use Rattle.rules.specs.Rules.{Judged, Out, numberTy, judgeCopy, judgeMove, judgeShared, judgeExclusive, judgeBox, judgeLet, judgeAssign, judgeBelow, judgeBlockEnd}

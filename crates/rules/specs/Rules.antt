@@ -1,13 +1,13 @@
 -- One definition per ownership rule, its refusals in 01's order. nv is the number of variables, i the term.
 use Prim.Native.Nat.{ℕ}
-use mathlib.Core.Bool.{Bool, true, false, not}
+use mathlib.Core.Bool.{not}
 use mathlib.Core.Option.{Option, none, some}
-use mathlib.Core.List.{List, [], _∷_}
+use mathlib.Core.List.{[], _∷_}
 use lib.ListN.{length, take, drop}
 use lib.Dec.{leb}
 use Rattle.reader.specs.Result.{Result, ok, err, Refusal, need, pick, _>>=_}
 use Rattle.reader.specs.Script.{Place}
-use Rattle.rules.specs.Links.{Link, boxed, shared, exclusive, maxLinks, leadingBoxes, noShared, isNumber, copies, sameLinks}
+use Rattle.rules.specs.Links.{boxed, shared, exclusive, maxLinks, leadingBoxes, noShared, isNumber, copies, sameLinks}
 use Rattle.rules.specs.Environment.{Borrow, noBorrow, sharedOf, exclusiveOf, Variable, Slot, free, used, live, Environment, Ty, update, fresh, movedAway, refilled, levelOf, borrowOf, livesAt, leave}
 use Rattle.rules.specs.Follow.{follow, valueWhole}
 use Rattle.rules.specs.Bars.{readBarred, writeBarred}

@@ -69,9 +69,11 @@ fn forget_holder(env: &mut [u32], variables: usize, x: usize)
 {
     let root = word_at(env, x, BORROWED_ROOT);
     let added = weight(env, x, root);
-    let y = wide(root);
-    if y < variables {
-        env[y * 8 + NOTE] = word_at(env, y, NOTE) - added;
+    if 0 < added {
+        let y = wide(root);
+        if y < variables {
+            env[y * 8 + NOTE] = word_at(env, y, NOTE) - added;
+        }
     }
 }
 
@@ -82,9 +84,11 @@ fn note_holder(env: &mut [u32], variables: usize, x: usize)
 {
     let root = word_at(env, x, BORROWED_ROOT);
     let added = weight(env, x, root);
-    let y = wide(root);
-    if y < variables {
-        env[y * 8 + NOTE] = word_at(env, y, NOTE) + added;
+    if 0 < added {
+        let y = wide(root);
+        if y < variables {
+            env[y * 8 + NOTE] = word_at(env, y, NOTE) + added;
+        }
     }
 }
 

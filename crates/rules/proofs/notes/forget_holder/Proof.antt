@@ -2,7 +2,7 @@
 use native.Mathlib.Omega.{arith}
 use mathlib.Core.Path.{refl, sym, _∙_, ap}
 use Rattle.rules.specs.Table.{environmentOf, weightOf}
-use Rattle.rules.proofs.NoteLaws.{noted, forgotten, not-forgotten}
+use Rattle.rules.proofs.NoteLaws.{noted, below-past, below-none, forgotten, not-forgotten}
 use borrow.Author.Needs.{needs}
 use Rattle.rules.proofs.notes.forget_holder.Statement.{statement}
 use Rattle.rules.proofs.notes.forget_holder.Tie as tie
@@ -21,12 +21,13 @@ word-at-requires-2 c κs = search needs
 
 sub-env : tie.Need-sub-env
 sub-env c =
-    let at-if1 = c .before .before in
-    let at-wide = at-if1 .before in
-    let at-weight = at-wide .before in
+    let at-if2 = c .before .before in
+    let at-wide = at-if2 .before in
+    let at-weight = at-wide .before .before in
     let at-root = at-weight .before .before in
     let start = at-root .before .before .before in
-    omega (arith, c .word-at2 .ensures, (at-weight .weight .ensures ∙ ap (λ r. weightOf (environmentOf (start .args .env .now) (start .args .x)) r) (sym (at-wide .wide .ensures))), start .pre .2 (at-wide .wide .result) (at-if1 .if1 .taken))
+    let is = at-weight .weight .ensures ∙ ap (λ r. weightOf (environmentOf (start .args .env .now) (start .args .x)) r) (sym (at-wide .wide .ensures)) in
+    omega (arith, c .word-at2 .ensures, is, start .pre .2 (at-wide .wide .result) (at-if2 .if2 .taken))
 
 mul-env : tie.Need-mul-env
 mul-env c = search needs
@@ -45,12 +46,13 @@ same-length c = search needs
 
 returns : tie.Need-returns
 returns c =
-    let at-if1 = c .before .before in
-    let at-wide = at-if1 .before in
-    let at-weight = at-wide .before in
+    let at-if2 = c .before .before in
+    let at-wide = at-if2 .before in
+    let at-weight = at-wide .before .before in
     let at-root = at-weight .before .before in
     let start = at-root .before .before .before in
-    rw (c .word-at2 .ensures) (noted _ _ _, forgotten (start .args .env .now) (start .args .variables) (start .args .x) (at-wide .wide .result) (at-wide .wide .ensures ∙ at-root .word-at .ensures) _ (at-weight .weight .ensures ∙ ap (λ r. weightOf (environmentOf (start .args .env .now) (start .args .x)) r) (sym (at-wide .wide .ensures))) (start .pre .0) (at-if1 .if1 .taken) (omega (arith, (at-weight .weight .ensures ∙ ap (λ r. weightOf (environmentOf (start .args .env .now) (start .args .x)) r) (sym (at-wide .wide .ensures))), start .pre .2 (at-wide .wide .result) (at-if1 .if1 .taken))))
+    let is = at-weight .weight .ensures ∙ ap (λ r. weightOf (environmentOf (start .args .env .now) (start .args .x)) r) (sym (at-wide .wide .ensures)) in
+    rw (c .word-at2 .ensures) (noted _ _ _, forgotten (start .args .env .now) (start .args .variables) (start .args .x) (at-wide .wide .result) (at-wide .wide .ensures ∙ at-root .word-at .ensures) _ is (start .pre .0) (at-if2 .if2 .taken) (omega (arith, is, start .pre .2 (at-wide .wide .result) (at-if2 .if2 .taken))))
 
 same-length-2 : tie.Need-same-length-2
 same-length-2 c = search needs
@@ -58,9 +60,19 @@ same-length-2 c = search needs
 returns-2 : tie.Need-returns-2
 returns-2 c =
     let at-wide = c .before in
-    let at-root = at-wide .before .before .before in
+    let at-root = at-wide .before .before .before .before in
     let start = at-root .before .before .before in
-    (refl, not-forgotten (start .args .env .now) (start .args .variables) (start .args .x) (at-wide .wide .result) (at-wide .wide .ensures ∙ at-root .word-at .ensures) (c .if1 .left))
+    (refl, not-forgotten (start .args .env .now) (start .args .variables) (start .args .x) (below-past (start .args .env .now) (start .args .variables) (start .args .x) _ (at-wide .wide .ensures ∙ at-root .word-at .ensures) (c .if2 .left)))
+
+same-length-3 : tie.Need-same-length-3
+same-length-3 c = search needs
+
+returns-3 : tie.Need-returns-3
+returns-3 c =
+    let at-weight = c .before in
+    let at-root = at-weight .before .before in
+    let start = at-root .before .before .before in
+    (refl, not-forgotten (start .args .env .now) (start .args .variables) (start .args .x) (below-none (start .args .env .now) (start .args .variables) (start .args .x) _ (at-root .word-at .ensures) (omega (arith, at-weight .weight .ensures, c .if1 .left))))
 
 pub forget-holder-spec : {M : Type 1} → statement M
 forget-holder-spec =
@@ -78,4 +90,6 @@ forget-holder-spec =
     same-length
     returns
     same-length-2
-    returns-2)
+    returns-2
+    same-length-3
+    returns-3)

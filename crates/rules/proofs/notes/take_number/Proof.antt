@@ -1,7 +1,7 @@
 -- `rules::notes::take_number` meets its contract. Assumes nothing.
 use native.Mathlib.Omega.{arith}
 use native.Mathlib.Numerals.{add-one}
-use mathlib.Core.Path.{refl, _∙_, ap}
+use mathlib.Core.Path.{_∙_, ap}
 use Rattle.rules.specs.Environment.{used, Environment, update, levelOf}
 use Rattle.rules.proofs.NotedLaws.{has-weight, changed-table, used-weight, not-raised-by-zero}
 use borrow.Author.Needs.{needs}

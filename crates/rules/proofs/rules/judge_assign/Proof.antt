@@ -1,5 +1,4 @@
 -- `rules::rules::judge_assign` meets its contract. Assumes nothing.
-use mathlib.Core.Path.{_∙_}
 use borrow.Author.Needs.{needs}
 use borrow.Author.Tests.{eq-eqb, ne-eqb, not-true, not-false}
 use Rattle.reader.specs.Result.{need, _>>=_}
