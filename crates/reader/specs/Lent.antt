@@ -24,18 +24,27 @@ unfoldable pub foremost : List ℕ → Next
 foremost [] = End
 foremost (x ∷ xs) = Byte x
 
+-- The bytes from an offset on.
+abbrev pub remaining : List ℕ → ℕ → List ℕ
+remaining bytes at = drop at bytes
+
 -- What stands at an offset: the first of the bytes from there on.
 unfoldable pub standing : List ℕ → ℕ → Next
-standing bytes at = foremost (drop at bytes)
+standing bytes at = foremost (remaining bytes at)
 
--- What reading the outermost term from an offset asks.
-abbrev pub OutermostReady : List ℕ → ℕ → List ℕ → Type 0
-OutermostReady bytes at rows = (at ≤ length bytes) × Ready (drop at bytes) at 0 rows
+-- "one term, a block": the outermost term at the front of a part, the answer for it, and the rows that it fills.
+abbrev pub readPart : List ℕ → ℕ → Result Refusal (Term × Cursor)
+readPart part at = readTerm (base .levels) true part at 0 0
 
--- "one term, a block": the outermost term, from an offset on.
+abbrev pub PartRead : List ℕ → ℕ → List ℕ → List ℕ → ℕ → Type 0
+PartRead part at before after r = Reading (lay inRows) (readPart part at) 0 before after (found r)
+
+-- The same from an offset on, and what it asks.
 abbrev pub readOutermost : List ℕ → ℕ → Result Refusal (Term × Cursor)
-readOutermost bytes at = readTerm (base .levels) true (drop at bytes) at 0 0
+readOutermost bytes at = readPart (remaining bytes at) at
 
--- The answer for it, and the rows that it fills.
 abbrev pub OutermostRead : List ℕ → ℕ → List ℕ → List ℕ → ℕ → Type 0
-OutermostRead bytes at before after r = Reading (lay inRows) (readOutermost bytes at) 0 before after (found r)
+OutermostRead bytes at = PartRead (remaining bytes at) at
+
+abbrev pub OutermostReady : List ℕ → ℕ → List ℕ → Type 0
+OutermostReady bytes at rows = (at ≤ length bytes) × Ready (remaining bytes at) at 0 rows
