@@ -1,4 +1,4 @@
--- The outermost term of rows must be a block: the code asks that once, of the first row, and then judges the term as any other.
+-- The outermost term of rows must be a block: the code asks that once, of the first row, and then judges the term as any other, as a block of one.
 use Prim.Native.Nat.{ℕ, zero, suc, _+_, _-_, _<_}
 use native.Mathlib.Omega.{arith}
 use mathlib.Core.Path.{_≡_, refl, sym, ap, _∙_, subst}
@@ -12,8 +12,9 @@ use Rattle.reader.specs.Limits.{base}
 use Rattle.reader.specs.Kinds.{Kind, fields}
 use Rattle.reader.specs.Layout.{inRows}
 use Rattle.reader.specs.Reader.{boxesOf, built, term}
-use Rattle.reader.specs.RowParts.{fieldAt, fieldsAt, noBlock, rowNumber, rowCursor, termRows, Refused, spanOf}
+use Rattle.reader.specs.RowParts.{fieldAt, fieldsAt, noBlock, rowNumber, rowCursor, termRows, blockRows, Refused, spanOf}
 use Rattle.reader.proofs.RowTerms.{Judges, row-judged}
+use Rattle.reader.proofs.RowSpans.{one-span}
 
 both : (x y : Bool) → (x && y) ≡ true → (x ≡ true) × (y ≡ true)
 both true true h = (refl, refl)
@@ -59,8 +60,8 @@ module _ (rows : List ℕ) (full : length rows ≡ 2560) where
       e .builds ∙ ap (λ (k : Kind). built k 0 (take (length (fields base k)) (fieldsAt rows 0)) (term base 1 inRows (16 - 1)) (rowCursor rows (0 + 1) (0 + boxesOf k))) k ∙ sym (f .builds)
   alike (suc n) a b = a .refuses (λ z. omega arith) ∙ sym (b .refuses (λ z. omega arith))
 
-  pub outer-same : noBlock rows ≡ false → spanOf (termRows 16 false rows 0 0) ≡ spanOf (termRows 16 true rows 0 0)
+  pub outer-same : noBlock rows ≡ false → spanOf (blockRows 16 1 rows 0 0) ≡ spanOf (termRows 16 true rows 0 0)
   unfolding noBlock rowNumber
   outer-same h =
       let n : rowNumber 16 true rows 0 0 ≡ rowNumber 16 false rows 0 0 = same-number (fieldAt rows 0 0) _ h in
-      ap spanOf (sym (alike _ (subst (Row true) n (judged true)) (judged false)))
+      one-span 16 rows 0 0 ∙ ap spanOf (sym (alike _ (subst (Row true) n (judged true)) (judged false)))

@@ -218,6 +218,15 @@ module _ (levels : ℕ) (rows : List ℕ) (i boxes : ℕ) where
   none-span zero h = refl
   none-span (suc n) h = absurd (omega arith)
 
+  -- A block of one term has the term's span.
+  pub one-span : spanOf (blockRows levels 1 rows i boxes) ≡ spanOf (one s)
+  unfolding several spanOf done
+  one-span = go (one s) refl
+    where
+      go : (o : Result Refusal (Term × Cursor)) → one s ≡ o → spanOf (blockRows levels 1 rows i boxes) ≡ spanOf o
+      go (ok o) q = ap spanOf (go-on one _ s (o .1) (o .0) _ q refl)
+      go (err e) q = ap spanOf (stops one _ s e q)
+
   several-stops : (n : ℕ) (e : Refusal) → one s ≡ err e → several one n s ≡ err e
   unfolding several
   several-stops zero e h = stops one _ s e h

@@ -14,7 +14,7 @@ mod rows; // rows.rt: terms and blocks in term rows, and what stands after them
 mod output; // output.rt: the bytes of a script, from its term rows
 
 use crate::rows::first_used;
-use crate::rows::judge_term;
+use crate::rows::judge_block;
 use crate::rows::no_block;
 use crate::script::clear_from;
 use crate::script::read_script;
@@ -55,7 +55,8 @@ pub fn judge_rows(rows: &[u32]) -> Outcome
     if no_block(rows) {
         return Outcome::Refused(limits::NO_BLOCK, 0);
     }
-    let span = judge_term(rows, 0, limits::LEVELS, 0);
+    // The outermost term as a block of one: the judge of a term is then called in one place, and compiled into it.
+    let span = judge_block(rows, 0, 1, limits::LEVELS, 0);
     if packed::REFUSED <= span {
         return Outcome::Refused(packed::number_of(span), span % packed::PLACES);
     }

@@ -115,36 +115,41 @@ fn boxes_with(kind: u32, boxes: usize) -> usize
     if kind == 7 { boxes + 1 } else { boxes }
 }
 
-// The term at row i, nested at most as deep as levels says, after so many boxes.
-pub fn judge_term(rows: &[u32], i: usize, levels: usize, boxes: usize) -> usize
+// The term at row i, nested at most as deep as levels says, after so many boxes. Box, let and assign are judged as
+// their inner term is, one row on and one level deeper.
+fn judge_term(rows: &[u32], i: usize, levels: usize, boxes: usize) -> usize
     requires { ⌜ RowsReady (now rows) i boxes ⌝ }
     ensures { λ r. ⌜ spanned r ≡ spanOf (termRows levels false (now (rows .entry)) i boxes) ⌝ }
 {
-    let number = row_number(rows, i, levels, boxes);
-    if number != 0 {
-        return packed::refused(number, i);
+    let mut at = i;
+    let mut left = levels;
+    let mut boxed = boxes;
+    loop {
+        let number = row_number(rows, at, left, boxed);
+        if number != 0 {
+            return packed::refused(number, at);
+        }
+        let kind = field_at(rows, at, 0);
+        let next = at + 1;
+        // The kinds without inner terms come first, since most terms are of those.
+        if kind < 7 {
+            return packed::counted(next, boxed);
+        }
+        if kind == 10 {
+            return packed::counted(next, boxed);
+        }
+        left -= 1;
+        if kind == 11 {
+            let count = field_at(rows, at, 1) as usize;
+            return judge_block(rows, next, count, left, boxed);
+        }
+        boxed = boxes_with(kind, boxed);
+        at = next;
     }
-    let kind = field_at(rows, i, 0);
-    let next = i + 1;
-    let leaf = packed::counted(next, boxes);
-    // The kinds without inner terms come first, since most terms are of those.
-    if kind < 7 {
-        return leaf;
-    }
-    if kind == 10 {
-        return leaf;
-    }
-    let deeper = levels - 1;
-    if kind == 11 {
-        let count = field_at(rows, i, 1) as usize;
-        return judge_block(rows, next, count, deeper, boxes);
-    }
-    let boxed = boxes_with(kind, boxes);
-    judge_term(rows, next, deeper, boxed)
 }
 
 // count terms one after the other from row i on, one at least.
-fn judge_block(rows: &[u32], i: usize, count: usize, levels: usize, boxes: usize) -> usize
+pub fn judge_block(rows: &[u32], i: usize, count: usize, levels: usize, boxes: usize) -> usize
     requires { ⌜ RowsReady (now rows) i boxes × (0 < count) ⌝ }
     ensures { λ r. ⌜ spanned r ≡ spanOf (blockRows levels count (now (rows .entry)) i boxes) ⌝ }
 {

@@ -1,10 +1,12 @@
 -- `reader::rows::judge_term` and `reader::rows::judge_block`, which call each other, meet their contracts. Each term inside another has one level less left.
--- The loop's invariant: the terms that are left, from where it stands, have the span of the whole block. Assumes nothing.
-use Prim.Native.Nat.{ℕ, _<_, _+_, _*_}
+-- The loops' invariants: the terms that are left, from where it stands, have the span of the whole block; and inside box, let and assign, the term where
+-- it stands has the span of the whole term. Assumes nothing.
+use Prim.Native.Nat.{ℕ, _<_, _≤_, _+_, _*_}
 use native.Mathlib.Omega.{arith}
 use mathlib.Core.Path.{_≡_, refl, sym, _∙_}
+use mathlib.Core.Bool.{false}
 use borrow.Author.Needs.{needs}
-use Rattle.reader.specs.RowParts.{RowsReady}
+use Rattle.reader.specs.RowParts.{RowsReady, termRows, spanOf}
 use Rattle.reader.proofs.PackedLaws.{spanned-refused, spanned-fine, refused-spanned, counted-spanned}
 use Rattle.reader.proofs.RowSpans.{refused-span, entered, boxed-few, leaf-spans, around-spans, block-spans, block-count, Words, restSpan, all-span, none-span, stop-span, rest-few, rest-span}
 use borrow.Fn.Kinds.{In}
@@ -52,11 +54,18 @@ judge-block-Inv-loop rows i count levels boxes next₀ boxed₀ left₀ next box
 abbrev judge-block-μ-loop : judge-block-lts.MeasureT-loop
 judge-block-μ-loop rows i count levels boxes next₀ boxed₀ left₀ next boxed left = left
 
+abbrev judge-term-Inv-loop : judge-term-lts.InvT-loop
+judge-term-Inv-loop rows i levels boxes at₀ left₀ boxed₀ row left boxed =
+    RowsReady rows row boxed × (left ≤ levels) × (spanOf (termRows left false rows row boxed) ≡ spanOf (termRows levels false rows i boxes))
+
+abbrev judge-term-μ-loop : judge-term-lts.MeasureT-loop
+judge-term-μ-loop rows i levels boxes at₀ left₀ boxed₀ row left boxed = left
+
 abbrev judge-block-claims : ℕ → judge-block-lts.Claims
 judge-block-claims t = (judge-term-below t, judge-term.Post, counted-reads.Asked, counted-reads.Learnt)
 
 abbrev judge-term-claims : ℕ → judge-term-lts.Claims
-judge-term-claims t = (row-number-reads.Asked, row-number-reads.Learnt, refused-reads.Asked, refused-reads.Learnt, field-at-reads.Asked, field-at-reads.Learnt, counted-reads.Asked, counted-reads.Learnt, judge-block-below t, judge-block.Post, boxes-with-reads.Asked, boxes-with-reads.Learnt, judge-term-below t, judge-term.Post)
+judge-term-claims t = (row-number-reads.Asked, row-number-reads.Learnt, refused-reads.Asked, refused-reads.Learnt, field-at-reads.Asked, field-at-reads.Learnt, counted-reads.Asked, counted-reads.Learnt, judge-block-below t, judge-block.Post, boxes-with-reads.Asked, boxes-with-reads.Learnt)
 
 judge-block-loop-holds : (t : ℕ) → judge-block-lts.Need-loop-holds (judge-block-claims t) (judge-block-at t) judge-block.Post judge-block-Inv-loop judge-block-μ-loop
 judge-block-loop-holds t c = (c .before .pre .1 .0, refl)
@@ -92,80 +101,100 @@ judge-block-returns-2 t c =
     let l = c .before .before .loop in
     counted-spanned _ _ _ (l .inv .0 .near) (omega (arith, l .inv .0 .few)) (c .counted .ensures) ∙ none-span _ _ _ _ _ (c .before .loop-test .left) ∙ l .inv .1 ∙ all-span _ _ _ _ _ (c .before .before .before .before .pre .1 .1)
 
-judge-term-row-number-requires : (t : ℕ) → judge-term-lts.Need-row-number-requires (judge-term-claims t) (judge-term-at t) judge-term.Post
-judge-term-row-number-requires t c κs = c .before .pre .1 .full
+judge-term-loop-holds : (t : ℕ) → judge-term-lts.Need-loop-holds (judge-term-claims t) (judge-term-at t) judge-term.Post judge-term-Inv-loop judge-term-μ-loop
+judge-term-loop-holds t c = (c .before .pre .1, omega arith, refl)
 
-judge-term-refused-requires : (t : ℕ) → judge-term-lts.Need-refused-requires (judge-term-claims t) (judge-term-at t) judge-term.Post
-judge-term-refused-requires t c κs = omega (arith, c .before .before .before .pre .1 .near)
+judge-term-row-number-requires : (t : ℕ) → judge-term-lts.Need-row-number-requires (judge-term-claims t) (judge-term-at t) judge-term.Post judge-term-Inv-loop judge-term-μ-loop
+judge-term-row-number-requires t c κs = c .loop .inv .0 .full
 
-judge-term-returns : (t : ℕ) → judge-term-lts.Need-returns (judge-term-claims t) (judge-term-at t) judge-term.Post
+judge-term-refused-requires : (t : ℕ) → judge-term-lts.Need-refused-requires (judge-term-claims t) (judge-term-at t) judge-term.Post judge-term-Inv-loop judge-term-μ-loop
+judge-term-refused-requires t c κs = omega (arith, c .before .before .loop .inv .0 .near)
+
+judge-term-returns : (t : ℕ) → judge-term-lts.Need-returns (judge-term-claims t) (judge-term-at t) judge-term.Post judge-term-Inv-loop judge-term-μ-loop
 judge-term-returns t c =
-    let s = c .before .before .before .before in
+    let l = c .before .before .before .loop in
     let n = c .before .before .row-number in
-    refused-spanned _ (n .result) (s .args .i) (omega (arith, s .pre .1 .near)) (c .refused .ensures) ∙ refused-span _ _ _ _ _ (s .pre .1) _ (n .ensures) (c .before .if1 .taken)
+    refused-spanned _ (n .result) (l .at) (omega (arith, l .inv .0 .near)) (c .refused .ensures) ∙ refused-span _ _ _ _ _ (l .inv .0) _ (n .ensures) (c .before .if1 .taken) ∙ l .inv .2
 
-judge-term-field-at-requires : (t : ℕ) → judge-term-lts.Need-field-at-requires (judge-term-claims t) (judge-term-at t) judge-term.Post
+judge-term-field-at-requires : (t : ℕ) → judge-term-lts.Need-field-at-requires (judge-term-claims t) (judge-term-at t) judge-term.Post judge-term-Inv-loop judge-term-μ-loop
 judge-term-field-at-requires t c κs =
-    let s = c .before .before .before in
-    (s .pre .1 .full, entered _ _ _ _ _ (s .pre .1) _ (c .before .row-number .ensures) (c .if1 .left) .room, omega arith)
+    let l = c .before .before .loop in
+    (l .inv .0 .full, entered _ _ _ _ _ (l .inv .0) _ (c .before .row-number .ensures) (c .if1 .left) .room, omega arith)
 
-judge-term-add-next : (t : ℕ) → judge-term-lts.Need-add-next (judge-term-claims t) (judge-term-at t) judge-term.Post
+judge-term-add-next : (t : ℕ) → judge-term-lts.Need-add-next (judge-term-claims t) (judge-term-at t) judge-term.Post judge-term-Inv-loop judge-term-μ-loop
 judge-term-add-next t c =
-    let e = entered _ _ _ _ _ (c .before .before .before .before .pre .1) _ (c .before .before .row-number .ensures) (c .before .if1 .left) in
+    let l = c .before .before .before .loop in
+    let e = entered _ _ _ _ _ (l .inv .0) _ (c .before .before .row-number .ensures) (c .before .if1 .left) in
     omega (arith, e .room)
 
-judge-term-counted-requires : (t : ℕ) → judge-term-lts.Need-counted-requires (judge-term-claims t) (judge-term-at t) judge-term.Post
+judge-term-counted-requires : (t : ℕ) → judge-term-lts.Need-counted-requires (judge-term-claims t) (judge-term-at t) judge-term.Post judge-term-Inv-loop judge-term-μ-loop
 judge-term-counted-requires t c κs =
-    let e = entered _ _ _ _ _ (c .before .before .before .before .pre .1) _ (c .before .before .row-number .ensures) (c .before .if1 .left) in
-    (omega (arith, e .room), omega (arith, c .before .before .before .before .pre .1 .few))
+    let l = c .before .before .before .before .loop in
+    let e = entered _ _ _ _ _ (l .inv .0) _ (c .before .before .before .row-number .ensures) (c .before .before .if1 .left) in
+    (omega (arith, e .room), omega (arith, l .inv .0 .few))
 
-judge-term-returns-2 : (t : ℕ) → judge-term-lts.Need-returns-2 (judge-term-claims t) (judge-term-at t) judge-term.Post
+judge-term-returns-2 : (t : ℕ) → judge-term-lts.Need-returns-2 (judge-term-claims t) (judge-term-at t) judge-term.Post judge-term-Inv-loop judge-term-μ-loop
 judge-term-returns-2 t c =
-    let e = entered _ _ _ _ _ (c .before .before .before .before .before .before .pre .1) _ (c .before .before .before .before .row-number .ensures) (c .before .before .before .if1 .left) in
-    counted-spanned _ _ _ (omega (arith, e .room)) (omega (arith, c .before .before .before .before .before .before .pre .1 .few)) (c .before .counted .ensures) ∙ leaf-spans _ _ _ _ _ e (c .before .before .field-at .result) (c .before .before .field-at .ensures) (λ z. omega arith) (λ z. omega arith) (λ z. omega arith) (λ z. omega arith)
+    let l = c .before .before .before .before .before .loop in
+    let e = entered _ _ _ _ _ (l .inv .0) _ (c .before .before .before .before .row-number .ensures) (c .before .before .before .if1 .left) in
+    counted-spanned _ _ _ (omega (arith, e .room)) (omega (arith, l .inv .0 .few)) (c .counted .ensures) ∙ leaf-spans _ _ _ _ _ e (c .before .before .field-at .result) (c .before .before .field-at .ensures) (λ z. omega arith) (λ z. omega arith) (λ z. omega arith) (λ z. omega arith) ∙ l .inv .2
 
-judge-term-returns-3 : (t : ℕ) → judge-term-lts.Need-returns-3 (judge-term-claims t) (judge-term-at t) judge-term.Post
+judge-term-counted-requires-2 : (t : ℕ) → judge-term-lts.Need-counted-requires-2 (judge-term-claims t) (judge-term-at t) judge-term.Post judge-term-Inv-loop judge-term-μ-loop
+judge-term-counted-requires-2 t c κs =
+    let l = c .before .before .before .before .before .loop in
+    let e = entered _ _ _ _ _ (l .inv .0) _ (c .before .before .before .before .row-number .ensures) (c .before .before .before .if1 .left) in
+    (omega (arith, e .room), omega (arith, l .inv .0 .few))
+
+judge-term-returns-3 : (t : ℕ) → judge-term-lts.Need-returns-3 (judge-term-claims t) (judge-term-at t) judge-term.Post judge-term-Inv-loop judge-term-μ-loop
 judge-term-returns-3 t c =
-    let e = entered _ _ _ _ _ (c .before .before .before .before .before .before .before .pre .1) _ (c .before .before .before .before .before .row-number .ensures) (c .before .before .before .before .if1 .left) in
-    counted-spanned _ _ _ (omega (arith, e .room)) (omega (arith, c .before .before .before .before .before .before .before .pre .1 .few)) (c .before .before .counted .ensures) ∙ leaf-spans _ _ _ _ _ e (c .before .before .before .field-at .result) (c .before .before .before .field-at .ensures) (λ z. omega arith) (λ z. omega arith) (λ z. omega arith) (λ z. omega arith)
+    let l = c .before .before .before .before .before .before .loop in
+    let e = entered _ _ _ _ _ (l .inv .0) _ (c .before .before .before .before .before .row-number .ensures) (c .before .before .before .before .if1 .left) in
+    counted-spanned _ _ _ (omega (arith, e .room)) (omega (arith, l .inv .0 .few)) (c .counted2 .ensures) ∙ leaf-spans _ _ _ _ _ e (c .before .before .before .field-at .result) (c .before .before .before .field-at .ensures) (λ z. omega arith) (λ z. omega arith) (λ z. omega arith) (λ z. omega arith) ∙ l .inv .2
 
-judge-term-sub-deeper : (t : ℕ) → judge-term-lts.Need-sub-deeper (judge-term-claims t) (judge-term-at t) judge-term.Post
-judge-term-sub-deeper t c =
-    let e = entered _ _ _ _ _ (c .before .before .before .before .before .before .before .pre .1) _ (c .before .before .before .before .before .row-number .ensures) (c .before .before .before .before .if1 .left) in
+judge-term-sub-left : (t : ℕ) → judge-term-lts.Need-sub-left (judge-term-claims t) (judge-term-at t) judge-term.Post judge-term-Inv-loop judge-term-μ-loop
+judge-term-sub-left t c =
+    let l = c .before .before .before .before .before .loop in
+    let e = entered _ _ _ _ _ (l .inv .0) _ (c .before .before .before .before .row-number .ensures) (c .before .before .before .if1 .left) in
     omega (arith, e .deep)
 
-judge-term-field-at-requires-2 : (t : ℕ) → judge-term-lts.Need-field-at-requires-2 (judge-term-claims t) (judge-term-at t) judge-term.Post
+judge-term-field-at-requires-2 : (t : ℕ) → judge-term-lts.Need-field-at-requires-2 (judge-term-claims t) (judge-term-at t) judge-term.Post judge-term-Inv-loop judge-term-μ-loop
 judge-term-field-at-requires-2 t c κs =
-    let s = c .before .before .before .before .before .before .before .before in
-    (s .pre .1 .full, entered _ _ _ _ _ (s .pre .1) _ (c .before .before .before .before .before .before .row-number .ensures) (c .before .before .before .before .before .if1 .left) .room, omega arith)
+    let l = c .before .before .before .before .before .before .loop in
+    (l .inv .0 .full, entered _ _ _ _ _ (l .inv .0) _ (c .before .before .before .before .before .row-number .ensures) (c .before .before .before .before .if1 .left) .room, omega arith)
 
-judge-term-cast-count : (t : ℕ) → judge-term-lts.Need-cast-count (judge-term-claims t) (judge-term-at t) judge-term.Post
+judge-term-cast-count : (t : ℕ) → judge-term-lts.Need-cast-count (judge-term-claims t) (judge-term-at t) judge-term.Post judge-term-Inv-loop judge-term-μ-loop
 judge-term-cast-count t c = search needs
 
-judge-term-judge-block-requires : (t : ℕ) → judge-term-lts.Need-judge-block-requires (judge-term-claims t) (judge-term-at t) judge-term.Post
+judge-term-judge-block-requires : (t : ℕ) → judge-term-lts.Need-judge-block-requires (judge-term-claims t) (judge-term-at t) judge-term.Post judge-term-Inv-loop judge-term-μ-loop
 judge-term-judge-block-requires t c κs =
-    let s = c .before .before .before .before .before .before .before .before .before in
-    let e = entered _ _ _ _ _ (c .before .before .before .before .before .before .before .before .before .pre .1) _ (c .before .before .before .before .before .before .before .row-number .ensures) (c .before .before .before .before .before .before .if1 .left) in
-    (omega (arith, s .pre .0, e .deep), (record { full = s .pre .1 .full; near = omega (arith, e .room); few = s .pre .1 .few }, block-count _ _ _ _ _ e _ (c .before .before .before .before .before .field-at .ensures) (c .before .if4 .taken) _ (c .field-at2 .ensures)))
+    let l = c .before .before .before .before .before .before .before .loop in
+    let e = entered _ _ _ _ _ (l .inv .0) _ (c .before .before .before .before .before .before .row-number .ensures) (c .before .before .before .before .before .if1 .left) in
+    (omega (arith, c .before .before .before .before .before .before .before .before .before .pre .0, l .inv .1, e .deep), (record { full = l .inv .0 .full; near = omega (arith, e .room); few = l .inv .0 .few }, block-count _ _ _ _ _ e _ (c .before .before .before .before .field-at .ensures) (c .before .if4 .taken) _ (c .field-at2 .ensures)))
 
-judge-term-returns-4 : (t : ℕ) → judge-term-lts.Need-returns-4 (judge-term-claims t) (judge-term-at t) judge-term.Post
+judge-term-returns-4 : (t : ℕ) → judge-term-lts.Need-returns-4 (judge-term-claims t) (judge-term-at t) judge-term.Post judge-term-Inv-loop judge-term-μ-loop
 judge-term-returns-4 t c =
-    let e = entered _ _ _ _ _ (c .before .before .before .before .before .before .before .before .before .before .pre .1) _ (c .before .before .before .before .before .before .before .before .row-number .ensures) (c .before .before .before .before .before .before .before .if1 .left) in
-    block-spans _ _ _ _ _ e _ (c .before .before .before .before .before .before .field-at .ensures) (c .before .before .if4 .taken) _ (c .before .field-at2 .ensures) _ (c .judge-block .ensures)
+    let l = c .before .before .before .before .before .before .before .before .loop in
+    let e = entered _ _ _ _ _ (l .inv .0) _ (c .before .before .before .before .before .before .before .row-number .ensures) (c .before .before .before .before .before .before .if1 .left) in
+    block-spans _ _ _ _ _ e _ (c .before .before .before .before .before .field-at .ensures) (c .before .before .if4 .taken) _ (c .before .field-at2 .ensures) _ (c .judge-block .ensures) ∙ l .inv .2
 
-judge-term-boxes-with-requires : (t : ℕ) → judge-term-lts.Need-boxes-with-requires (judge-term-claims t) (judge-term-at t) judge-term.Post
-judge-term-boxes-with-requires t c κs = c .before .before .before .before .before .before .before .before .pre .1 .few
+judge-term-boxes-with-requires : (t : ℕ) → judge-term-lts.Need-boxes-with-requires (judge-term-claims t) (judge-term-at t) judge-term.Post judge-term-Inv-loop judge-term-μ-loop
+judge-term-boxes-with-requires t c κs = c .before .before .before .before .before .before .loop .inv .0 .few
 
-judge-term-judge-term-requires : (t : ℕ) → judge-term-lts.Need-judge-term-requires (judge-term-claims t) (judge-term-at t) judge-term.Post
-judge-term-judge-term-requires t c κs =
-    let s = c .before .before .before .before .before .before .before .before .before in
-    let e = entered _ _ _ _ _ (c .before .before .before .before .before .before .before .before .before .pre .1) _ (c .before .before .before .before .before .before .before .row-number .ensures) (c .before .before .before .before .before .before .if1 .left) in
-    (omega (arith, s .pre .0, e .deep), record { full = s .pre .1 .full; near = omega (arith, e .room); few = boxed-few _ _ _ _ _ e _ (c .before .before .before .before .before .field-at .ensures) _ (c .boxes-with .ensures) })
+judge-term-loop-less : (t : ℕ) → judge-term-lts.Need-loop-less (judge-term-claims t) (judge-term-at t) judge-term.Post judge-term-Inv-loop judge-term-μ-loop
+judge-term-loop-less t c =
+    let l = c .before .before .before .before .before .before .before .loop in
+    let e = entered _ _ _ _ _ (l .inv .0) _ (c .before .before .before .before .before .before .row-number .ensures) (c .before .before .before .before .before .if1 .left) in
+    omega (arith, e .deep)
 
-judge-term-returns-5 : (t : ℕ) → judge-term-lts.Need-returns-5 (judge-term-claims t) (judge-term-at t) judge-term.Post
-judge-term-returns-5 t c =
-    let e = entered _ _ _ _ _ (c .before .before .before .before .before .before .before .before .before .before .pre .1) _ (c .before .before .before .before .before .before .before .before .row-number .ensures) (c .before .before .before .before .before .before .before .if1 .left) in
-    around-spans _ _ _ _ _ e _ (c .before .before .before .before .before .before .field-at .ensures) (c .before .before .before .before .if2 .left) (c .before .before .before .if3 .left) (c .before .before .if4 .left) _ (c .before .boxes-with .ensures) _ (c .judge-term .ensures)
+judge-term-loop-again : (t : ℕ) → judge-term-lts.Need-loop-again (judge-term-claims t) (judge-term-at t) judge-term.Post judge-term-Inv-loop judge-term-μ-loop
+judge-term-loop-again t c =
+    let l = c .before .before .before .before .before .before .before .loop in
+    let e = entered _ _ _ _ _ (l .inv .0) _ (c .before .before .before .before .before .before .row-number .ensures) (c .before .before .before .before .before .if1 .left) in
+    let k = c .before .before .before .before .field-at in (
+      record { full = l .inv .0 .full; near = omega (arith, e .room); few = boxed-few _ _ _ _ _ e _ (k .ensures) _ (c .boxes-with .ensures) },
+      omega (arith, l .inv .1),
+      around-spans _ _ _ _ _ e _ (k .ensures) (c .before .before .before .if2 .left) (c .before .before .if3 .left) (c .before .if4 .left) _ (c .boxes-with .ensures) _ refl ∙ l .inv .2,
+    )
 
 pub +judge-block+judge-term-spec : {M : Type 1} → statement M
 +judge-block+judge-term-spec = close μ-judge-block μ-judge-term (λ t. judge-block-lts.spec (judge-block-claims t) (judge-block-at t)
@@ -182,6 +211,9 @@ pub +judge-block+judge-term-spec : {M : Type 1} → statement M
     (judge-block-returns-2 t))
     λ t. judge-term-lts.spec (judge-term-claims t) (judge-term-at t)
     judge-term.Post
+    judge-term-Inv-loop
+    judge-term-μ-loop
+    (judge-term-loop-holds t)
     (judge-term-row-number-requires t)
     (judge-term-refused-requires t)
     (judge-term-returns t)
@@ -189,12 +221,13 @@ pub +judge-block+judge-term-spec : {M : Type 1} → statement M
     (judge-term-add-next t)
     (judge-term-counted-requires t)
     (judge-term-returns-2 t)
+    (judge-term-counted-requires-2 t)
     (judge-term-returns-3 t)
-    (judge-term-sub-deeper t)
+    (judge-term-sub-left t)
     (judge-term-field-at-requires-2 t)
     (judge-term-cast-count t)
     (judge-term-judge-block-requires t)
     (judge-term-returns-4 t)
     (judge-term-boxes-with-requires t)
-    (judge-term-judge-term-requires t)
-    (judge-term-returns-5 t)
+    (judge-term-loop-less t)
+    (judge-term-loop-again t)
