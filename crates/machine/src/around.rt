@@ -4,7 +4,7 @@ ghost use Prim.Native.Nat.{_<_, _≤_};
 ghost use Rattle.machine.specs.Words.{Tidy, Sound};
 ghost use Rattle.machine.specs.Parts.{withoutValue, enteredAt, Wrote, PlaceAssigned, InnerReady, BoxReady, Boxed, LetReady, Declared, Assigned, EndReady, BlockClosed};
 use crate::drops::close_variables;
-use crate::drops::drop_value;
+use crate::drops::drop_any;
 use crate::limits;
 use crate::locate::locate;
 use crate::operands::wide;
@@ -129,7 +129,7 @@ pub fn assign_place(store: &mut [u32], root: usize, follows: usize, kind: u32, p
         return found.fault;
     }
     let old = load(store, found.row);
-    let fault = drop_value(store, old.kind, old.payload);
+    let fault = drop_any(store, old.kind, old.payload);
     if fault != limits::NO_FAULT {
         return fault;
     }

@@ -25,6 +25,17 @@ pub fn drop_value(store: &mut [u32], kind: u32, payload: u32) -> u32
     drop_value(store, held.kind, held.payload)
 }
 
+// The same, with the call only where the value is an owner.
+pub fn drop_any(store: &mut [u32], kind: u32, payload: u32) -> u32
+    requires { ⌜ Tidy (now store) × Sound kind payload ⌝ }
+    ensures { λ r. ⌜ Dropped (now (store .entry)) kind payload (now (store .exit)) r ⌝ }
+{
+    if kind != limits::OWNER {
+        return limits::NO_FAULT;
+    }
+    drop_value(store, kind, payload)
+}
+
 // "the row is set to 0, then the value dropped".
 pub fn close_variable(store: &mut [u32], x: usize) -> u32
     requires { ⌜ Tidy (now store) × (x < 64) ⌝ }
@@ -32,7 +43,7 @@ pub fn close_variable(store: &mut [u32], x: usize) -> u32
 {
     let value = load(store, x);
     put_row(store, x, limits::CLOSED, limits::EMPTY, 0);
-    drop_value(store, value.kind, value.payload)
+    drop_any(store, value.kind, value.payload)
 }
 
 // "it closes its variables, last opened first": those of `opened` from `end` down to `begin`.

@@ -8,7 +8,7 @@ use crate::around::run_assign;
 use crate::around::run_box;
 use crate::around::run_let;
 use crate::around::without_value;
-use crate::drops::drop_value;
+use crate::drops::drop_any;
 use crate::limits;
 use crate::operands::operand;
 use crate::operands::wide;
@@ -93,7 +93,7 @@ pub fn run_block(
     let mut left = wide(operand(rows, block, 1));
     let mut at = entered(block, count, taken);
     while 0 < left {
-        let fault = drop_value(store, at.kind, at.payload);
+        let fault = drop_any(store, at.kind, at.payload);
         if fault != limits::NO_FAULT {
             return without_value(at, fault, block);
         }

@@ -12,15 +12,15 @@ load-requires c κs = (c .before .before .pre .0, omega (arith, c .before .befor
 put-row-requires : tie.Need-put-row-requires
 put-row-requires c κs = (c .before .before .before .before .pre .0, omega (arith, c .before .before .before .before .pre .1), closed-row)
 
-drop-value-requires : tie.Need-drop-value-requires
-drop-value-requires c κs = (c .before .before .before .put-row .ensures .tidy, c .before .before .before .before .before .load .ensures .sound)
+drop-any-requires : tie.Need-drop-any-requires
+drop-any-requires c κs = (c .before .before .before .put-row .ensures .tidy, c .before .before .before .before .before .load .ensures .sound)
 
 same-length : tie.Need-same-length
-same-length c = c .before .before .drop-value .kept .0 ∙ c .before .before .before .before .before .before .put-row .kept .0
+same-length c = c .before .before .drop-any .kept .0 ∙ c .before .before .before .before .before .before .put-row .kept .0
 
 returns : tie.Need-returns
-returns c = close-one _ _ (c .before .before .before .before .before .before .before .before .before .before .before .pre .1) _ (c .before .before .before .before .before .before .before .before .load .ensures) _ (c .before .before .before .before .before .before .put-row .ensures) _ _ (c .before .before .drop-value .ensures)
+returns c = close-one _ _ (c .before .before .before .before .before .before .before .before .before .before .before .pre .1) _ (c .before .before .before .before .before .before .before .before .load .ensures) _ (c .before .before .before .before .before .before .put-row .ensures) _ _ (c .before .before .drop-any .ensures)
 
 pub close-variable-spec : {M : Type 1} → statement M
 close-variable-spec =
-    tie.close (tie.spec load-requires put-row-requires drop-value-requires same-length returns)
+    tie.close (tie.spec load-requires put-row-requires drop-any-requires same-length returns)

@@ -20,7 +20,7 @@ use Rattle.machine.proofs.around.run_assign.Reads as run-assign-reads
 use Rattle.machine.proofs.around.run_box.Reads as run-box-reads
 use Rattle.machine.proofs.around.run_let.Reads as run-let-reads
 use Rattle.machine.proofs.around.without_value.Reads as without-value-reads
-use Rattle.machine.proofs.drops.drop_value.Reads as drop-value-reads
+use Rattle.machine.proofs.drops.drop_any.Reads as drop-any-reads
 use Rattle.machine.proofs.operands.operand.Reads as operand-reads
 use Rattle.machine.proofs.operands.wide.Reads as wide-reads
 use Rattle.machine.proofs.terms.run_plain.Reads as run-plain-reads
@@ -54,7 +54,7 @@ abbrev run-block-μ-loop : run-block-lts.MeasureT-loop
 run-block-μ-loop rows block levels readings store₀ opened₀ count taken left₀ at₀ store opened left at = left
 
 abbrev run-block-claims : ℕ → run-block-lts.Claims
-run-block-claims t = (operand-reads.Asked, operand-reads.Learnt, wide-reads.Asked, wide-reads.Learnt, entered-reads.Asked, entered-reads.Learnt, drop-value-reads.Asked, drop-value-reads.Learnt, without-value-reads.Asked, without-value-reads.Learnt, run-term-below t, run-term.Post)
+run-block-claims t = (operand-reads.Asked, operand-reads.Learnt, wide-reads.Asked, wide-reads.Learnt, entered-reads.Asked, entered-reads.Learnt, drop-any-reads.Asked, drop-any-reads.Learnt, without-value-reads.Asked, without-value-reads.Learnt, run-term-below t, run-term.Post)
 
 abbrev run-term-claims : ℕ → run-term-lts.Claims
 run-term-claims t = (operand-reads.Asked, operand-reads.Learnt, run-term-below t, run-term.Post, run-box-reads.Asked, run-box-reads.Learnt, run-let-reads.Asked, run-let-reads.Learnt, run-assign-reads.Asked, run-assign-reads.Learnt, run-block-below t, run-block.Post, close-block-reads.Asked, close-block-reads.Learnt, run-plain-reads.Asked, run-plain-reads.Learnt)
@@ -71,23 +71,23 @@ run-block-entered-requires t c κs = c .before .before .before .before .before .
 run-block-loop-holds : (t : ℕ) → run-block-lts.Need-loop-holds (run-block-claims t) (run-block-at t) run-block.Post run-block-Inv-loop run-block-μ-loop
 run-block-loop-holds t c = going-enters _ _ _ _ _ _ _ _ (c .before .before .before .before .before .before .pre .1) _ (c .before .wide .ensures ∙ c .before .before .operand .ensures) _ (c .entered .ensures)
 
-run-block-drop-value-requires : (t : ℕ) → run-block-lts.Need-drop-value-requires (run-block-claims t) (run-block-at t) run-block.Post run-block-Inv-loop run-block-μ-loop
-run-block-drop-value-requires t c κs = (c .before .before .loop .inv .ready .tidy, c .before .before .loop .inv .sound)
+run-block-drop-any-requires : (t : ℕ) → run-block-lts.Need-drop-any-requires (run-block-claims t) (run-block-at t) run-block.Post run-block-Inv-loop run-block-μ-loop
+run-block-drop-any-requires t c κs = (c .before .before .loop .inv .ready .tidy, c .before .before .loop .inv .sound)
 
 run-block-without-value-requires : (t : ℕ) → run-block-lts.Need-without-value-requires (run-block-claims t) (run-block-at t) run-block.Post run-block-Inv-loop run-block-μ-loop
 run-block-without-value-requires t c κs = search needs
 
 run-block-same-length : (t : ℕ) → run-block-lts.Need-same-length (run-block-claims t) (run-block-at t) run-block.Post run-block-Inv-loop run-block-μ-loop
-run-block-same-length t c = c .before .before .before .before .drop-value .ensures .tidy .long ∙ sym (c .before .before .before .before .before .before .before .before .before .before .before .before .before .before .pre .1 .ready .tidy .long)
+run-block-same-length t c = c .before .before .before .before .drop-any .ensures .tidy .long ∙ sym (c .before .before .before .before .before .before .before .before .before .before .before .before .before .before .pre .1 .ready .tidy .long)
 
 run-block-same-length-2 : (t : ℕ) → run-block-lts.Need-same-length-2 (run-block-claims t) (run-block-at t) run-block.Post run-block-Inv-loop run-block-μ-loop
 run-block-same-length-2 t c = c .before .before .before .before .before .before .before .loop .inv .ready .many ∙ sym (c .before .before .before .before .before .before .before .before .before .before .before .before .before .before .pre .1 .ready .many)
 
 run-block-returns : (t : ℕ) → run-block-lts.Need-returns (run-block-claims t) (run-block-at t) run-block.Post run-block-Inv-loop run-block-μ-loop
-run-block-returns t c = going-drops _ _ _ _ _ _ _ _ _ _ _ _ (c .before .before .before .before .before .before .before .loop .inv) (c .before .before .before .before .before .before .loop-test .taken) _ _ (c .before .before .before .before .drop-value .ensures) (c .before .if1 .taken) _ (c .without-value .ensures)
+run-block-returns t c = going-drops _ _ _ _ _ _ _ _ _ _ _ _ (c .before .before .before .before .before .before .before .loop .inv) (c .before .before .before .before .before .before .loop-test .taken) _ _ (c .before .before .before .before .drop-any .ensures) (c .before .if1 .taken) _ (c .without-value .ensures)
 
 run-block-run-term-requires : (t : ℕ) → run-block-lts.Need-run-term-requires (run-block-claims t) (run-block-at t) run-block.Post run-block-Inv-loop run-block-μ-loop
-run-block-run-term-requires t c κs = (omega (arith, c .before .before .before .before .before .before .before .before .before .before .before .before .before .before .before .pre .0), turn-ready _ _ _ _ _ _ _ _ _ _ _ _ (c .before .before .before .before .before .before .before .before .loop .inv) (c .before .before .before .before .before .before .before .loop-test .taken) _ _ (c .before .before .before .before .before .drop-value .ensures) (c .before .before .if1 .left))
+run-block-run-term-requires t c κs = (omega (arith, c .before .before .before .before .before .before .before .before .before .before .before .before .before .before .before .pre .0), turn-ready _ _ _ _ _ _ _ _ _ _ _ _ (c .before .before .before .before .before .before .before .before .loop .inv) (c .before .before .before .before .before .before .before .loop-test .taken) _ _ (c .before .before .before .before .before .drop-any .ensures) (c .before .before .if1 .left))
 
 run-block-same-length-3 : (t : ℕ) → run-block-lts.Need-same-length-3 (run-block-claims t) (run-block-at t) run-block.Post run-block-Inv-loop run-block-μ-loop
 run-block-same-length-3 t c = c .before .before .before .before .before .before .run-term .ensures .tidy .long ∙ sym (c .before .before .before .before .before .before .before .before .before .before .before .before .before .before .before .before .before .before .before .before .before .before .pre .1 .ready .tidy .long)
@@ -96,7 +96,7 @@ run-block-same-length-4 : (t : ℕ) → run-block-lts.Need-same-length-4 (run-bl
 run-block-same-length-4 t c = c .before .before .before .before .before .before .run-term .kept .1 .1 .1 .1 .1 .0 ∙ c .before .before .before .before .before .before .before .before .before .before .before .before .before .before .before .loop .inv .ready .many ∙ sym (c .before .before .before .before .before .before .before .before .before .before .before .before .before .before .before .before .before .before .before .before .before .before .pre .1 .ready .many)
 
 run-block-returns-2 : (t : ℕ) → run-block-lts.Need-returns-2 (run-block-claims t) (run-block-at t) run-block.Post run-block-Inv-loop run-block-μ-loop
-run-block-returns-2 t c = going-stops _ _ _ _ _ _ _ _ _ _ _ _ (c .before .before .before .before .before .before .before .before .before .before .before .before .before .before .before .loop .inv) (c .before .before .before .before .before .before .before .before .before .before .before .before .before .before .loop-test .taken) _ _ (c .before .before .before .before .before .before .before .before .before .before .before .before .drop-value .ensures) (c .before .before .before .before .before .before .before .before .before .if1 .left) _ _ _ (c .before .before .before .before .before .before .run-term .ensures) (c .if2 .taken)
+run-block-returns-2 t c = going-stops _ _ _ _ _ _ _ _ _ _ _ _ (c .before .before .before .before .before .before .before .before .before .before .before .before .before .before .before .loop .inv) (c .before .before .before .before .before .before .before .before .before .before .before .before .before .before .loop-test .taken) _ _ (c .before .before .before .before .before .before .before .before .before .before .before .before .drop-any .ensures) (c .before .before .before .before .before .before .before .before .before .if1 .left) _ _ _ (c .before .before .before .before .before .before .run-term .ensures) (c .if2 .taken)
 
 run-block-sub-left : (t : ℕ) → run-block-lts.Need-sub-left (run-block-claims t) (run-block-at t) run-block.Post run-block-Inv-loop run-block-μ-loop
 run-block-sub-left t c = omega arith
@@ -105,7 +105,7 @@ run-block-loop-less : (t : ℕ) → run-block-lts.Need-loop-less (run-block-clai
 run-block-loop-less t c = omega arith
 
 run-block-loop-again : (t : ℕ) → run-block-lts.Need-loop-again (run-block-claims t) (run-block-at t) run-block.Post run-block-Inv-loop run-block-μ-loop
-run-block-loop-again t c = going-goes _ _ _ _ _ _ _ _ _ _ _ _ (c .before .before .before .before .before .before .before .before .before .before .before .before .before .before .before .loop .inv) (c .before .before .before .before .before .before .before .before .before .before .before .before .before .before .loop-test .taken) _ _ (c .before .before .before .before .before .before .before .before .before .before .before .before .drop-value .ensures) (c .before .before .before .before .before .before .before .before .before .if1 .left) _ _ _ (c .before .before .before .before .before .before .run-term .ensures) (c .if2 .left) (c .before .before .before .before .before .before .run-term .kept .1 .1 .1 .1 .1 .0 ∙ c .before .before .before .before .before .before .before .before .before .before .before .before .before .before .before .loop .inv .ready .many)
+run-block-loop-again t c = going-goes _ _ _ _ _ _ _ _ _ _ _ _ (c .before .before .before .before .before .before .before .before .before .before .before .before .before .before .before .loop .inv) (c .before .before .before .before .before .before .before .before .before .before .before .before .before .before .loop-test .taken) _ _ (c .before .before .before .before .before .before .before .before .before .before .before .before .drop-any .ensures) (c .before .before .before .before .before .before .before .before .before .if1 .left) _ _ _ (c .before .before .before .before .before .before .run-term .ensures) (c .if2 .left) (c .before .before .before .before .before .before .run-term .kept .1 .1 .1 .1 .1 .0 ∙ c .before .before .before .before .before .before .before .before .before .before .before .before .before .before .before .loop .inv .ready .many)
 
 run-block-same-length-5 : (t : ℕ) → run-block-lts.Need-same-length-5 (run-block-claims t) (run-block-at t) run-block.Post run-block-Inv-loop run-block-μ-loop
 run-block-same-length-5 t c = c .before .loop .inv .ready .tidy .long ∙ sym (c .before .before .before .before .before .before .before .before .pre .1 .ready .tidy .long)
@@ -216,7 +216,7 @@ pub +run-block+run-term-spec : {M : Type 1} → statement M
     (run-block-wide-requires t)
     (run-block-entered-requires t)
     (run-block-loop-holds t)
-    (run-block-drop-value-requires t)
+    (run-block-drop-any-requires t)
     (run-block-without-value-requires t)
     (run-block-same-length t)
     (run-block-same-length-2 t)
