@@ -19,7 +19,7 @@ use Rattle.reader.specs.Within.{Formed, FormedAll, Under}
 use Rattle.reader.proofs.View.{Stands, Row, row, in-box, in-let, in-assign, in-block, at-last, at-more, stands, values}
 use Rattle.reader.proofs.RoundTrip.{decoded}
 use Rattle.reader.proofs.Lists.{under-all}
-use Rattle.machine.specs.RowTrees.{Decoded, tree, trees, rowKind, boxD, letD, assignD, blockD, lastD, consD, moreD, decodes, someOf, decodeAs, treeAt}
+use Rattle.machine.specs.RowTrees.{Decoded, tree, trees, rowKind, fieldIn, boxD, letD, assignD, blockD, lastD, consD, moreD, decodes, someOf, decodeAs, treeAt}
 
 kind-back : (k : Kind) → rowKind (byteOf k) ≡ some k
 unfolding rowKind byteOf
@@ -124,13 +124,15 @@ module _ (rs : List ℕ) where
 pub record Runnable (rows : List ℕ) (t : Term) : Type 0 where
   pub is : treeAt 16 rows 0 ≡ tree t (0 + size t)
   pub cells : boxesIn t ≤ 64
+  pub root : fieldIn rows 0 0 ≡ 11
 
 pub judged : (rows : List ℕ) (t : Term) → ((j : ℕ) → getD rows j 0 < 4294967296) → length rows ≡ 2560 → decode base rows ≡ ok t → Runnable rows t
-unfolding rowNumbers base
+unfolding rowNumbers base byteOf
 judged rows t w e h =
     let u : Under 4294967296 rows = under-all 4294967296 rows w in
     let q = decoded base rows t u e h .1 in
     record {
       is = placed rows t 16 0 (stands base rows t u e h) (q .formed) (q .levels) (omega (arith, q .terms));
       cells = q .boxes;
+      root = row rows 0 t (stands base rows t u e h) .kind ∙ ap byteOf (q .outermost);
     }

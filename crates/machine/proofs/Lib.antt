@@ -77,6 +77,7 @@ pub mod CellLaws
 pub mod AroundLaws
 pub mod RowLaws
 pub mod TermLaws
+pub mod WrapLaws
 pub mod BlockRunLaws
 pub mod JudgedRows
 pub mod ScriptLaws

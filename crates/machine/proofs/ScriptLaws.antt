@@ -24,7 +24,7 @@ use Rattle.machine.specs.Encode.{encode}
 use Rattle.machine.specs.Answers.{answered, refused, faulted, AnswerAndStore, toldRun, runFits, runnable, bitsOf, ranInto, runInto, runOf}
 use Rattle.machine.specs.RowTrees.{Decoded, tree, broken, IsTree, endOf, boxesAt, treeAt}
 use Rattle.machine.specs.Words.{valueOf, storeOf}
-use Rattle.machine.specs.Parts.{stateAt, since, Stop, seen, Stood, atRow, outcome, stood, runOn, runAt, TermReady, TermRan, ScriptReady, scriptOn, scriptRan}
+use Rattle.machine.specs.Parts.{stateAt, since, Stop, seen, Stood, atRow, outcome, stood, runOn, runAt, EndReady, BlockClosed, TermReady, TermRan, BlockReady, BlockRan, ScriptReady, scriptOn, scriptRan}
 use Rattle.machine.specs.declared.around.Standing.{Standing}
 use Rattle.machine.specs.declared.RunOutcome.the-variants as out
 use Rattle.machine.proofs.WordLaws.{cleared-store, cleared-tidy}
@@ -32,6 +32,7 @@ use Rattle.machine.proofs.LocateLaws.{value-number}
 use Rattle.machine.proofs.LeafLaws.{no-number}
 use Rattle.machine.proofs.AroundLaws.{stood-stops, stood-goes}
 use Rattle.machine.proofs.TermLaws.{same-ran}
+use Rattle.machine.proofs.BlockRunLaws.{block-ready, block-ending, block-returns}
 use Rattle.machine.proofs.JudgedRows.{Runnable, judged}
 
 -- ---- the end of a run
@@ -88,7 +89,7 @@ module _ (rows : List ℕ) (readings : List ℤ) (w : List ℕ) (g : ScriptReady
   closed-now : storeOf w₁ ≡ (λ l. closed)
   closed-now = cleared-store w₁ zeroed
 
-  pub script-ready : (opened : List ℕ) → length opened ≡ 512 → TermReady rows 0 16 readings w₁ opened 0 0
+  script-ready : (opened : List ℕ) → length opened ≡ 512 → TermReady rows 0 16 readings w₁ opened 0 0
   script-ready opened h = record {
     ready = record {
       long = g .long;
@@ -103,40 +104,51 @@ module _ (rows : List ℕ) (readings : List ℤ) (w : List ℕ) (g : ScriptReady
     cells = let a = g .cells in omega arith;
   }
 
-  module _ (opened w₂ opened₂ : List ℕ) (r : Standing) (t : TermRan rows 0 16 readings w₁ opened 0 0 w₂ opened₂ r) where
-    ran : stood w₂ opened₂ 0 r ≡ runAt readings (treeAt 16 rows 0) start
-    unfolding since
-    ran = t .is 0 (omega arith) ∙ ap (λ (S : Store). runAt readings (treeAt 16 rows 0) (record { store = S; taken = 0; opened = [] })) closed-now
+  module _ (opened : List ℕ) (h : length opened ≡ 512) where
+    pub script-begins : BlockReady rows 0 15 readings w₁ opened 0 0
+    script-begins = block-ready rows 0 16 readings w₁ opened 0 0 (script-ready opened h) (g .root)
 
-    -- A fault of a term.
-    pub script-faults : (r .fault ≡ 0 → ⊥) → _≡_ {A = AnswerAndStore} (toldRun (out.Faulted (r .fault) (r .term)), w₂) (scriptRan rows readings)
-    unfolding scriptRan toldRun
-    script-faults n = go (treeAt 16 rows 0) (g .is) (sym (stood-stops w₂ opened₂ 0 r n) ∙ ran)
-      where
-        go : (d : Decoded) → IsTree d → _≡_ {A = Stood} (err (record { number = r .fault; term = r .term; store = storeOf w₂ })) (runAt readings d start)
-            → _≡_ {A = AnswerAndStore} (faulted (r .fault) (r .term), w₂) (scriptOn readings d)
-        go (tree x j) h q = tree-faults readings x j w₂ (t .tidy .words) (r .fault) (r .term) q
-        go broken h q = absurd h
+    module _ (w₂ opened₂ : List ℕ) (inner : Standing) (t : BlockRan rows 0 15 readings w₁ opened 0 0 w₂ opened₂ inner) where
+      pub script-closes : length opened₂ ≡ 512 → EndReady w₂ opened₂ 0 inner
+      script-closes long = block-ending rows 0 16 readings w₁ opened 0 0 (script-ready opened h) (g .root) w₂ opened₂ inner t long
 
-    module _ (n : r .fault ≡ 0) where
-      -- The answer is no number.
-      pub script-wrong : (r .kind ≡ 1 → ⊥) → _≡_ {A = AnswerAndStore} (toldRun (out.Faulted 61 0), w₂) (scriptRan rows readings)
-      unfolding scriptRan toldRun
-      script-wrong k = go (treeAt 16 rows 0) (g .is) (sym (stood-goes w₂ opened₂ 0 r n) ∙ ran)
-        where
-          go : (d : Decoded) → IsTree d → _≡_ {A = Stood} (ok (outcome w₂ opened₂ 0 r, r .next)) (runAt readings d start) → _≡_ {A = AnswerAndStore} (faulted 61 0, w₂) (scriptOn readings d)
-          go (tree x j) h q = tree-wrong readings x j w₂ (t .tidy .words) opened₂ r q k
-          go broken h q = absurd h
+      module _ (w₃ : List ℕ) (r : Standing) (b : BlockClosed w₂ opened₂ 0 0 inner w₃ r) where
+        term-ran : TermRan rows 0 16 readings w₁ opened 0 0 w₃ opened₂ r
+        term-ran = block-returns rows 0 16 readings w₁ opened 0 0 (script-ready opened h) (g .root) w₂ opened₂ inner t w₃ r b
 
-      -- The answer.
-      pub script-answers : r .kind ≡ 1 → (a : ℤ) → a ≡ toZ w32 (r .payload) → _≡_ {A = AnswerAndStore} (toldRun (out.Answered a (r .taken)), w₂) (scriptRan rows readings)
-      unfolding scriptRan toldRun
-      script-answers k a ea = rw ea (go (treeAt 16 rows 0) (g .is) (sym (stood-goes w₂ opened₂ 0 r n) ∙ ran))
-        where
-          go : (d : Decoded) → IsTree d → _≡_ {A = Stood} (ok (outcome w₂ opened₂ 0 r, r .next)) (runAt readings d start)
-              → _≡_ {A = AnswerAndStore} (answered (toZ w32 (r .payload)) (r .taken), w₂) (scriptOn readings d)
-          go (tree x j) h q = tree-answers readings x j w₂ (t .tidy .words) opened₂ r q k
-          go broken h q = absurd h
+        ran : stood w₃ opened₂ 0 r ≡ runAt readings (treeAt 16 rows 0) start
+        unfolding since
+        ran = term-ran .is 0 (omega arith) ∙ ap (λ (S : Store). runAt readings (treeAt 16 rows 0) (record { store = S; taken = 0; opened = [] })) closed-now
+
+        -- A fault of a term.
+        pub script-faults : (r .fault ≡ 0 → ⊥) → _≡_ {A = AnswerAndStore} (toldRun (out.Faulted (r .fault) (r .term)), w₃) (scriptRan rows readings)
+        unfolding scriptRan toldRun
+        script-faults n = go (treeAt 16 rows 0) (g .is) (sym (stood-stops w₃ opened₂ 0 r n) ∙ ran)
+          where
+            go : (d : Decoded) → IsTree d → _≡_ {A = Stood} (err (record { number = r .fault; term = r .term; store = storeOf w₃ })) (runAt readings d start)
+                → _≡_ {A = AnswerAndStore} (faulted (r .fault) (r .term), w₃) (scriptOn readings d)
+            go (tree x j) h q = tree-faults readings x j w₃ (b .tidy .words) (r .fault) (r .term) q
+            go broken h q = absurd h
+
+        module _ (n : r .fault ≡ 0) where
+          -- The answer is no number.
+          pub script-wrong : (r .kind ≡ 1 → ⊥) → _≡_ {A = AnswerAndStore} (toldRun (out.Faulted 61 0), w₃) (scriptRan rows readings)
+          unfolding scriptRan toldRun
+          script-wrong k = go (treeAt 16 rows 0) (g .is) (sym (stood-goes w₃ opened₂ 0 r n) ∙ ran)
+            where
+              go : (d : Decoded) → IsTree d → _≡_ {A = Stood} (ok (outcome w₃ opened₂ 0 r, r .next)) (runAt readings d start) → _≡_ {A = AnswerAndStore} (faulted 61 0, w₃) (scriptOn readings d)
+              go (tree x j) h q = tree-wrong readings x j w₃ (b .tidy .words) opened₂ r q k
+              go broken h q = absurd h
+
+          -- The answer.
+          pub script-answers : r .kind ≡ 1 → (a : ℤ) → a ≡ toZ w32 (r .payload) → _≡_ {A = AnswerAndStore} (toldRun (out.Answered a (r .taken)), w₃) (scriptRan rows readings)
+          unfolding scriptRan toldRun
+          script-answers k a ea = rw ea (go (treeAt 16 rows 0) (g .is) (sym (stood-goes w₃ opened₂ 0 r n) ∙ ran))
+            where
+              go : (d : Decoded) → IsTree d → _≡_ {A = Stood} (ok (outcome w₃ opened₂ 0 r, r .next)) (runAt readings d start)
+                  → _≡_ {A = AnswerAndStore} (answered (toZ w32 (r .payload)) (r .taken), w₃) (scriptOn readings d)
+              go (tree x j) h q = tree-answers readings x j w₃ (b .tidy .words) opened₂ r q k
+              go broken h q = absurd h
 
 -- ---- the public function
 
@@ -197,6 +209,7 @@ module _ (rows : List ℕ) (readings : List ℤ) (w : List ℕ) where
             long = a;
             eight = c;
             size = b;
+            root = runs .root;
             is = rw (runs .is) tt;
             cells = rw (runs .is) (runs .cells);
           }

@@ -2,8 +2,9 @@
 -- is stated here. A fault number 0 is no fault.
 use Prim.Native.Nat.{ℕ, zero, suc, _+_, _-_, _*_, _≤_, _<_}
 use mathlib.Core.Path.{_≡_}
+use mathlib.Core.Bool.{Bool, true, _&&_}
 use mathlib.Core.List.{List, [], _∷_}
-use lib.Dec.{eqb}
+use lib.Dec.{eqb, ltb}
 use lib.IntN.{ℤ}
 use lib.ListN.{length, getD, set}
 use Rattle.reader.specs.Result.{Result, ok, err, pick, _>>=_}
@@ -243,6 +244,23 @@ pub record BlockClosed (w opened : List ℕ) (i begin : ℕ) (inner : Standing) 
   pub went : r .fault ≡ 0 → Went inner r
   pub count : r .fault ≡ 0 → r .opened ≡ begin
 
+-- A kind that stands around one inner term: box, let or assign.
+unfoldable pub wrapsOf : ℕ → Bool
+wrapsOf k = ltb 6 k && ltb k 10
+
+-- What follows the inner term of such a term, which is at row i, by its kind.
+pub record AfterReady (rows : List ℕ) (i : ℕ) (w opened : List ℕ) (inner : Standing) : Type 0 where
+  pub room : 5 * i + 5 ≤ length rows
+  pub wraps : wrapsOf (fieldIn rows i 0) ≡ true
+  pub box : fieldIn rows i 0 ≡ 7 → BoxReady w inner
+  pub bind : fieldIn rows i 0 ≡ 8 → LetReady w opened (fieldIn rows i 1) inner
+  pub assign : fieldIn rows i 0 ≡ 9 → InnerReady w inner × (fieldIn rows i 1 < 64)
+
+pub record AfterRan (rows : List ℕ) (i : ℕ) (w opened : List ℕ) (inner : Standing) (w′ opened′ : List ℕ) (r : Standing) : Type 0 where
+  pub box : fieldIn rows i 0 ≡ 7 → Boxed w inner w′ r × (opened′ ≡ opened)
+  pub bind : fieldIn rows i 0 ≡ 8 → Declared w opened i (fieldIn rows i 1) inner w′ opened′ r
+  pub assign : fieldIn rows i 0 ≡ 9 → Assigned w i (fieldIn rows i 1) (fieldIn rows i 2) inner w′ r × (opened′ ≡ opened)
+
 -- ---- terms and blocks
 
 -- A term without an inner term, after n variables opened and so many cells taken.
@@ -313,6 +331,7 @@ pub record ScriptReady (rows : List ℕ) (readings : List ℤ) (w : List ℕ) : 
   pub long : length rows ≡ 2560
   pub eight : length readings ≡ 8
   pub size : length w ≡ 384
+  pub root : fieldIn rows 0 0 ≡ 11
   pub is : IsTree (treeAt 16 rows 0)
   pub cells : boxesAt (treeAt 16 rows 0) ≤ 64
 

@@ -14,9 +14,10 @@ mod plain; // plain.rt: the terms without an inner term
 mod around; // around.rt: what follows an inner term
 mod terms; // terms.rt: terms and blocks
 
+use crate::around::close_block;
 use crate::signed::number_of;
 use crate::store::clear;
-use crate::terms::run_term;
+use crate::terms::run_block;
 
 // The answer and the cells taken; or a refusal and its place; or a fault and its term.
 pub enum RunOutcome {
@@ -25,14 +26,16 @@ pub enum RunOutcome {
     Faulted(u32, usize),
 }
 
-// Runs the script of judged rows.
+// Runs the script of judged rows, whose outermost term is a block.
 fn run_judged(rows: &[u32], readings: &[i32], store: &mut [u32]) -> RunOutcome
     requires { ⌜ ScriptReady (now rows) (now readings) (now store) ⌝ }
     ensures { λ r. ⌜ (toldRun r, now (store .exit)) ≡ scriptRan (now (rows .entry)) (now (readings .entry)) ⌝ }
 {
     clear(store);
     let mut opened: [u32; 512] = [0; 512];
-    let ran = run_term(rows, 0, limits::LEVELS, readings, store, &mut opened, 0, 0);
+    let deeper = limits::LEVELS - 1;
+    let inner = run_block(rows, 0, deeper, readings, store, &mut opened, 0, 0);
+    let ran = close_block(store, &opened, 0, 0, inner);
     if ran.fault != limits::NO_FAULT {
         return RunOutcome::Faulted(ran.fault, ran.term);
     }

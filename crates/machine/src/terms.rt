@@ -1,6 +1,9 @@
 // Terms and blocks, which call each other. The store and the variables opened are lent down.
+ghost use mathlib.Core.Path.{_≡_};
+ghost use mathlib.Core.Bool.{false};
 ghost use Prim.Native.Nat.{_<_};
-ghost use Rattle.machine.specs.Parts.{LeafReady, PlainRan, TermReady, TermRan, BlockReady, BlockRan};
+ghost use Rattle.machine.specs.RowTrees.{fieldIn};
+ghost use Rattle.machine.specs.Parts.{LeafReady, PlainRan, wrapsOf, AfterReady, AfterRan, TermReady, TermRan, BlockReady, BlockRan};
 use crate::around::Standing;
 use crate::around::close_block;
 use crate::around::entered;
@@ -38,8 +41,57 @@ fn run_plain(
     }
 }
 
-// The term at row i, nested at most as deep as levels says, after `count` variables opened and so many cells taken.
-pub fn run_term(
+// Box, let and assign: each stands around one inner term, which is in the next row.
+fn wraps(kind: u32) -> bool
+    ensures { λ r. ⌜ r ≡ wrapsOf kind ⌝ }
+{
+    6 < kind && kind < 10
+}
+
+// What follows the inner term of such a term, which is at row i.
+fn run_after(
+    rows: &[u32],
+    i: usize,
+    store: &mut [u32],
+    opened: &mut [u32],
+    inner: Standing,
+) -> Standing
+    requires { ⌜ AfterReady (now rows) i (now store) (now opened) inner ⌝ }
+    ensures { λ r. ⌜ AfterRan (now (rows .entry)) i (now (store .entry)) (now (opened .entry)) inner (now (store .exit)) (now (opened .exit)) r ⌝ }
+{
+    let kind = operand(rows, i, 0);
+    match kind {
+        7 => run_box(store, inner),
+        8 => run_let(store, opened, i, operand(rows, i, 1), inner),
+        _ => run_assign(store, i, operand(rows, i, 1), operand(rows, i, 2), inner),
+    }
+}
+
+// The term at row i, which is a block or has no inner term.
+fn run_inmost(
+    rows: &[u32],
+    i: usize,
+    levels: usize,
+    readings: &[i32],
+    store: &mut [u32],
+    opened: &mut [u32],
+    count: usize,
+    taken: usize,
+) -> Standing
+    requires { ⌜ TermReady (now rows) i levels (now readings) (now store) (now opened) count taken × (wrapsOf (fieldIn (now rows) i 0) ≡ false) ⌝ }
+    ensures { λ r. ⌜ TermRan (now (rows .entry)) i levels (now (readings .entry)) (now (store .entry)) (now (opened .entry)) count taken (now (store .exit)) (now (opened .exit)) r ⌝ }
+{
+    let kind = operand(rows, i, 0);
+    if kind == 11 {
+        let inner = run_block(rows, i, levels - 1, readings, store, opened, count, taken);
+        return close_block(store, opened, i, count, inner);
+    }
+    run_plain(rows, i, readings, store, count, taken)
+}
+
+// The term at row i, nested at most as deep as levels says, after `count` variables opened and so many cells taken:
+// the innermost term first, then what follows it, outwards. So calls nest for blocks only.
+fn run_term(
     rows: &[u32],
     i: usize,
     levels: usize,
@@ -52,28 +104,18 @@ pub fn run_term(
     requires { ⌜ TermReady (now rows) i levels (now readings) (now store) (now opened) count taken ⌝ }
     ensures { λ r. ⌜ TermRan (now (rows .entry)) i levels (now (readings .entry)) (now (store .entry)) (now (opened .entry)) count taken (now (store .exit)) (now (opened .exit)) r ⌝ }
 {
-    let next = i + 1;
-    let deeper = levels - 1;
-    let kind = operand(rows, i, 0);
-    match kind {
-        7 => {
-            let inner = run_term(rows, next, deeper, readings, store, opened, count, taken);
-            run_box(store, inner)
-        }
-        8 => {
-            let inner = run_term(rows, next, deeper, readings, store, opened, count, taken);
-            run_let(store, opened, i, operand(rows, i, 1), inner)
-        }
-        9 => {
-            let inner = run_term(rows, next, deeper, readings, store, opened, count, taken);
-            run_assign(store, i, operand(rows, i, 1), operand(rows, i, 2), inner)
-        }
-        11 => {
-            let inner = run_block(rows, i, deeper, readings, store, opened, count, taken);
-            close_block(store, opened, i, count, inner)
-        }
-        _ => run_plain(rows, i, readings, store, count, taken),
+    let mut around = 0;
+    while wraps(operand(rows, i + around, 0)) {
+        around += 1;
     }
+    let inmost = i + around;
+    let deeper = levels - around;
+    let mut ran = run_inmost(rows, inmost, deeper, readings, store, opened, count, taken);
+    while 0 < around {
+        around -= 1;
+        ran = run_after(rows, i + around, store, opened, ran);
+    }
+    ran
 }
 
 // The terms of the block at row `block`, from the next row on: it "drops every value but the last, after its term".

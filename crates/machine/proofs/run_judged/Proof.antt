@@ -1,5 +1,5 @@
 -- `machine::run_judged` meets its contract. Assumes nothing.
-use Rattle.machine.proofs.ScriptLaws.{script-ready, script-faults, script-wrong, script-answers}
+use Rattle.machine.proofs.ScriptLaws.{script-begins, script-closes, script-faults, script-wrong, script-answers}
 use borrow.Author.Needs.{needs}
 use native.Mathlib.Omega.{arith}
 use mathlib.Core.Path.{sym, _∙_}
@@ -12,42 +12,54 @@ use Rattle.machine.proofs.run_judged.Tie as tie
 clear-requires : tie.Need-clear-requires
 clear-requires c κs = search needs
 
-slice-aggregate-run-term : tie.Need-slice-aggregate-run-term
-slice-aggregate-run-term c = search needs
+sub-deeper : tie.Need-sub-deeper
+sub-deeper c = search needs
 
-run-term-requires : tie.Need-run-term-requires
-run-term-requires c κs = script-ready _ _ _ (c .before .before .before .before .before .before .before .before .pre) _ (c .before .before .before .before .clear .ensures) _ (omega arith)
+slice-aggregate-run-block : tie.Need-slice-aggregate-run-block
+slice-aggregate-run-block c = search needs
+
+run-block-requires : tie.Need-run-block-requires
+run-block-requires c κs = script-begins _ _ _ (c .before .before .before .before .before .before .before .before .pre) _ (c .before .before .before .before .clear .ensures) _ (omega arith)
+
+slice-aggregate-close-block : tie.Need-slice-aggregate-close-block
+slice-aggregate-close-block c = search needs
+
+close-block-requires : tie.Need-close-block-requires
+close-block-requires c κs = script-closes _ _ _ (c .before .before .before .before .before .before .before .before .before .before .before .before .before .before .pre) _ (c .before .before .before .before .before .before .before .before .before .before .clear .ensures) _ (omega arith) _ _ _ (c .before .before .before .before .before .run-block .ensures) (c .before .before .before .before .before .run-block .kept .1 .1 .1 .1 .1 .0)
 
 same-length : tie.Need-same-length
-same-length c = c .before .before .before .before .before .run-term .ensures .tidy .long ∙ sym (c .before .before .before .before .before .before .before .before .before .before .before .before .before .before .pre .size)
+same-length c = c .before .before .before .before .close-block .ensures .tidy .long ∙ sym (c .before .before .before .before .before .before .before .before .before .before .before .before .before .before .before .before .before .before .before .pre .size)
 
 returns : tie.Need-returns
-returns c = script-faults _ _ _ (c .before .before .before .before .before .before .before .before .before .before .before .before .before .before .pre) _ (c .before .before .before .before .before .before .before .before .before .before .clear .ensures) _ _ _ _ (c .before .before .before .before .before .run-term .ensures) (c .if1 .taken)
+returns c = script-faults _ _ _ (c .before .before .before .before .before .before .before .before .before .before .before .before .before .before .before .before .before .before .before .pre) _ (c .before .before .before .before .before .before .before .before .before .before .before .before .before .before .before .clear .ensures) _ (omega arith) _ _ _ (c .before .before .before .before .before .before .before .before .before .before .run-block .ensures) _ _ (c .before .before .before .before .close-block .ensures) (c .if1 .taken)
 
 same-length-2 : tie.Need-same-length-2
-same-length-2 c = c .before .before .before .before .before .before .before .run-term .ensures .tidy .long ∙ sym (c .before .before .before .before .before .before .before .before .before .before .before .before .before .before .before .before .pre .size)
+same-length-2 c = c .before .before .before .before .before .before .close-block .ensures .tidy .long ∙ sym (c .before .before .before .before .before .before .before .before .before .before .before .before .before .before .before .before .before .before .before .before .before .pre .size)
 
 returns-2 : tie.Need-returns-2
-returns-2 c = script-wrong _ _ _ (c .before .before .before .before .before .before .before .before .before .before .before .before .before .before .before .before .pre) _ (c .before .before .before .before .before .before .before .before .before .before .before .before .clear .ensures) _ _ _ _ (c .before .before .before .before .before .before .before .run-term .ensures) (c .before .before .if1 .left) (c .if2 .taken)
+returns-2 c = script-wrong _ _ _ (c .before .before .before .before .before .before .before .before .before .before .before .before .before .before .before .before .before .before .before .before .before .pre) _ (c .before .before .before .before .before .before .before .before .before .before .before .before .before .before .before .before .before .clear .ensures) _ (omega arith) _ _ _ (c .before .before .before .before .before .before .before .before .before .before .before .before .run-block .ensures) _ _ (c .before .before .before .before .before .before .close-block .ensures) (c .before .before .if1 .left) (c .if2 .taken)
 
 number-of-requires : tie.Need-number-of-requires
 number-of-requires c κs = search needs
 
 same-length-3 : tie.Need-same-length-3
-same-length-3 c = c .before .before .before .before .before .before .before .before .run-term .ensures .tidy .long ∙ sym (c .before .before .before .before .before .before .before .before .before .before .before .before .before .before .before .before .before .pre .size)
+same-length-3 c = c .before .before .before .before .before .before .before .close-block .ensures .tidy .long ∙ sym (c .before .before .before .before .before .before .before .before .before .before .before .before .before .before .before .before .before .before .before .before .before .before .pre .size)
 
 returns-3 : tie.Need-returns-3
 returns-3 c =
     let h : SFits w32 (c .number-of .result) = search needs in
-    script-answers _ _ _ (c .before .before .before .before .before .before .before .before .before .before .before .before .before .before .before .before .before .pre) _ (c .before .before .before .before .before .before .before .before .before .before .before .before .before .clear .ensures) _ _ _ _ (c .before .before .before .before .before .before .before .before .run-term .ensures) (c .before .before .before .if1 .left) (c .before .if2 .left) _ (toZ-ofZ h ∙ c .number-of .ensures)
+    script-answers _ _ _ (c .before .before .before .before .before .before .before .before .before .before .before .before .before .before .before .before .before .before .before .before .before .before .pre) _ (c .before .before .before .before .before .before .before .before .before .before .before .before .before .before .before .before .before .before .clear .ensures) _ (omega arith) _ _ _ (c .before .before .before .before .before .before .before .before .before .before .before .before .before .run-block .ensures) _ _ (c .before .before .before .before .before .before .before .close-block .ensures) (c .before .before .before .if1 .left) (c .before .if2 .left) _ (toZ-ofZ h ∙ c .number-of .ensures)
 
 pub run-judged-spec : {M : Type 1} → statement M
 run-judged-spec =
     tie.close
     (tie.spec
     clear-requires
-    slice-aggregate-run-term
-    run-term-requires
+    sub-deeper
+    slice-aggregate-run-block
+    run-block-requires
+    slice-aggregate-close-block
+    close-block-requires
     same-length
     returns
     same-length-2

@@ -1,0 +1,180 @@
+-- Terms around an inner term, which stands in the next row: the way inwards, and what follows the innermost term, outwards.
+use Prim.Native.Nat.{ℕ, _+_, _-_, _≤_, _<_}
+use native.Mathlib.Omega.{arith}
+use native.Mathlib.Decide.{ℕ-discrete}
+use mathlib.Core.Path.{_≡_, refl, sym, subst, _∙_}
+use mathlib.Core.Bool.{Bool, true, false, _&&_}
+use mathlib.Core.List.{List}
+use lib.Dec.{ltb}
+use lib.IntN.{ℤ}
+use lib.ListN.{length}
+use borrow.Author.Tests.{ltb-true, lt-ltb}
+use Rattle.machine.specs.RowTrees.{fieldIn}
+use Rattle.machine.specs.Parts.{LeafReady, PlainRan, Boxed, Declared, Assigned, wrapsOf, AfterReady, AfterRan, TermReady, TermRan}
+use Rattle.machine.specs.declared.around.Standing.{Standing}
+use Rattle.machine.proofs.RowLaws.{has-level, has-room, assign-root}
+use Rattle.machine.proofs.TermLaws.{box-ready, box-filling, box-returns, let-ready, let-opening, let-returns, assign-ready, assigning, assign-returns, leaf-ready, leaf-returns, term-room}
+
+-- ---- the kinds that stand around a term
+
+wraps-kinds : (k : ℕ) → wrapsOf k ≡ true → (6 < k) × (k < 10)
+unfolding wrapsOf
+wraps-kinds k e = go (ltb 6 k) (ltb k 10) refl refl e
+  where
+    go : (a b : Bool) → ltb 6 k ≡ a → ltb k 10 ≡ b → (a && b) ≡ true → (6 < k) × (k < 10)
+    go true true p q e = (ltb-true 6 k p, ltb-true k 10 q)
+    go true false p q e = let z : _≡_ {A = ℕ} 0 1 = cc in absurd (omega arith)
+    go false b p q e = let z : _≡_ {A = ℕ} 0 1 = cc in absurd (omega arith)
+
+no-wraps : (k : ℕ) → wrapsOf k ≡ false → 6 < k → k < 10 → ⊥
+unfolding wrapsOf
+no-wraps k e p q =
+    let t : _≡_ {A = Bool} true false = sym (rw (lt-ltb 6 k p, lt-ltb k 10 q)) ∙ e in
+    let z : _≡_ {A = ℕ} 0 1 = cc in
+    absurd (omega arith)
+
+-- ---- what follows the inner term
+
+module _ (rows : List ℕ) (i : ℕ) (w opened : List ℕ) (inner : Standing) (w′ : List ℕ) (r : Standing) (k : ℕ) (ek : k ≡ fieldIn rows i 0) where
+  pub after-box : k ≡ 7 → Boxed w inner w′ r → AfterRan rows i w opened inner w′ opened r
+  after-box e b = record { box = λ z. (b, refl); bind = λ z. absurd (omega arith); assign = λ z. absurd (omega arith) }
+
+  pub after-let : (opened′ : List ℕ) → k ≡ 8 → Declared w opened i (fieldIn rows i 1) inner w′ opened′ r → AfterRan rows i w opened inner w′ opened′ r
+  after-let opened′ e b = record { box = λ z. absurd (omega arith); bind = λ z. b; assign = λ z. absurd (omega arith) }
+
+  pub after-assign : (k ≡ 7 → ⊥) → (k ≡ 8 → ⊥) → Assigned w i (fieldIn rows i 1) (fieldIn rows i 2) inner w′ r → AfterRan rows i w opened inner w′ opened r
+  after-assign n₇ n₈ b = record { box = λ z. absurd (n₇ (ek ∙ z)); bind = λ z. absurd (n₈ (ek ∙ z)); assign = λ z. (b, refl) }
+
+pub after-last : (k n : ℕ) → k ≡ n → wrapsOf n ≡ true → (k ≡ 7 → ⊥) → (k ≡ 8 → ⊥) → n ≡ 9
+after-last k n e h n₇ n₈ =
+    let a = wraps-kinds n h in
+    let p = a .0 in
+    let q = a .1 in
+    omega arith
+
+-- ---- a term around another
+
+module _ (rows : List ℕ) (i levels : ℕ) (readings : List ℤ) (w opened : List ℕ) (n taken : ℕ) (g : TermReady rows i levels readings w opened n taken)
+    (h : wrapsOf (fieldIn rows i 0) ≡ true) where
+  by-kind : (X : Type 0) → (fieldIn rows i 0 ≡ 7 → X) → (fieldIn rows i 0 ≡ 8 → X) → (fieldIn rows i 0 ≡ 9 → X) → X
+  by-kind X a b c = go (ℕ-discrete (fieldIn rows i 0) 7) (ℕ-discrete (fieldIn rows i 0) 8)
+    where
+      go : Dec (fieldIn rows i 0 ≡ 7) → Dec (fieldIn rows i 0 ≡ 8) → X
+      go (yes z) y = a z
+      go (no x) (yes z) = b z
+      go (no x) (no y) = c (after-last (fieldIn rows i 0) (fieldIn rows i 0) refl h x y)
+
+  pub wrapped-ready : TermReady rows (i + 1) (levels - 1) readings w opened n taken
+  wrapped-ready = by-kind _ (box-ready rows i levels readings w opened n taken g) (let-ready rows i levels readings w opened n taken g) (assign-ready rows i levels readings w opened n taken g)
+
+  module _ (w₁ opened₁ : List ℕ) (inner : Standing) (t : TermRan rows (i + 1) (levels - 1) readings w opened n taken w₁ opened₁ inner) (long : length opened₁ ≡ 512) where
+    pub wrapped-after : AfterReady rows i w₁ opened₁ inner
+    wrapped-after = record {
+      room = has-room levels rows i (g .is);
+      wraps = h;
+      box = λ e. box-filling rows i levels readings w opened n taken g e w₁ opened₁ inner t;
+      bind = λ e. let-opening rows i levels readings w opened n taken g e w₁ opened₁ inner t long (fieldIn rows i 1) refl;
+      assign = λ e. (assigning rows i levels readings w opened n taken g e w₁ opened₁ inner t, assign-root levels rows i (g .is) e);
+    }
+
+    pub wrapped-returns : (w₂ opened₂ : List ℕ) (r : Standing) → AfterRan rows i w₁ opened₁ inner w₂ opened₂ r → TermRan rows i levels readings w opened n taken w₂ opened₂ r
+    wrapped-returns w₂ opened₂ r a = by-kind _
+        (λ e. subst (λ (o : List ℕ). TermRan rows i levels readings w opened n taken w₂ o r) (sym (a .box e .1)) (box-returns rows i levels readings w opened n taken g e w₁ opened₁ inner t w₂ r (a .box e .0)))
+        (λ e. let-returns rows i levels readings w opened n taken g e w₁ opened₁ inner t long (fieldIn rows i 1) refl w₂ opened₂ r (a .bind e))
+        (λ e. subst (λ (o : List ℕ). TermRan rows i levels readings w opened n taken w₂ o r) (sym (a .assign e .1)) (assign-returns rows i levels readings w opened n taken g e w₁ opened₁ inner t (fieldIn rows i 1) (fieldIn rows i 2) refl refl w₂ r (a .assign e .0)))
+
+-- ---- the innermost term, if it has no inner term
+
+module _ (rows : List ℕ) (i levels : ℕ) (readings : List ℤ) (w opened : List ℕ) (n taken : ℕ) (g : TermReady rows i levels readings w opened n taken)
+    (h : wrapsOf (fieldIn rows i 0) ≡ false) (k : ℕ) (ek : k ≡ fieldIn rows i 0) (d : k ≡ 11 → ⊥) where
+  none : 6 < k → k < 10 → ⊥
+  none p q = no-wraps (fieldIn rows i 0) h (omega arith) (omega arith)
+
+  pub inmost-ready : LeafReady rows i readings w
+  inmost-ready = leaf-ready rows i levels readings w opened n taken g k ek (λ z. none (omega arith) (omega arith)) (λ z. none (omega arith) (omega arith)) (λ z. none (omega arith) (omega arith)) d
+
+  pub inmost-returns : (w₁ : List ℕ) (r : Standing) → PlainRan rows i readings w n taken w₁ r → TermRan rows i levels readings w opened n taken w₁ opened r
+  inmost-returns w₁ r x = leaf-returns rows i levels readings w opened n taken g k ek (λ z. none (omega arith) (omega arith)) (λ z. none (omega arith) (omega arith)) (λ z. none (omega arith) (omega arith)) d w₁ r x
+
+-- ---- the two loops
+
+-- The way inwards: `around` terms from row i on stand each around the next.
+pub record Inwards (rows : List ℕ) (i levels : ℕ) (readings : List ℤ) (w opened : List ℕ) (n taken around : ℕ) : Type 0 where
+  pub ready : (k : ℕ) → k ≤ around → TermReady rows (i + k) (levels - k) readings w opened n taken
+  pub wraps : (k : ℕ) → k < around → wrapsOf (fieldIn rows (i + k) 0) ≡ true
+
+-- The way outwards: from where the innermost term left off, with all but `around` of the terms around it run.
+pub record Outwards (rows : List ℕ) (i levels : ℕ) (readings : List ℤ) (n taken : ℕ) (w₁ opened₁ : List ℕ) (around₁ : ℕ) (r₁ : Standing) (w opened : List ℕ) (around : ℕ) (r : Standing) : Type 0 where
+  pub some : around ≤ around₁
+  pub long : length opened ≡ 512
+  pub ran : (w₀ opened₀ : List ℕ) → Inwards rows i levels readings w₀ opened₀ n taken around₁ → TermRan rows (i + around₁) (levels - around₁) readings w₀ opened₀ n taken w₁ opened₁ r₁ → TermRan rows (i + around) (levels - around) readings w₀ opened₀ n taken w opened r
+
+module _ (rows : List ℕ) (readings : List ℤ) (w opened : List ℕ) (n taken : ℕ) where
+  moved-ready : (j l j′ l′ : ℕ) → j ≡ j′ → l ≡ l′ → TermReady rows j l readings w opened n taken → TermReady rows j′ l′ readings w opened n taken
+  moved-ready j l j′ l′ p q t = rw (← p, ← q) t
+
+  moved-ran : (j l j′ l′ : ℕ) (w₁ opened₁ : List ℕ) (r : Standing) → j ≡ j′ → l ≡ l′ → TermRan rows j l readings w opened n taken w₁ opened₁ r → TermRan rows j′ l′ readings w opened n taken w₁ opened₁ r
+  moved-ran j l j′ l′ w₁ opened₁ r p q t = rw (← p, ← q) t
+
+module _ (rows : List ℕ) (i levels : ℕ) (readings : List ℤ) (w opened : List ℕ) (n taken : ℕ) where
+  pub inwards-starts : TermReady rows i levels readings w opened n taken → Inwards rows i levels readings w opened n taken 0
+  inwards-starts g = record {
+    ready = λ k h. moved-ready rows readings w opened n taken i levels (i + k) (levels - k) (omega arith) (omega arith) g;
+    wraps = λ k h. absurd (omega arith);
+  }
+
+  module _ (around : ℕ) (g : Inwards rows i levels readings w opened n taken around) where
+    pub inwards-here : TermReady rows (i + around) (levels - around) readings w opened n taken
+    inwards-here = g .ready around (omega arith)
+
+    pub inwards-room : i + around + 1 ≤ 512
+    inwards-room = term-room rows (i + around) (levels - around) readings w opened n taken inwards-here
+
+    pub inwards-level : around < levels
+    inwards-level = let a = has-level (levels - around) rows (i + around) (inwards-here .is) in omega arith
+
+    pub inwards-goes : wrapsOf (fieldIn rows (i + around) 0) ≡ true → Inwards rows i levels readings w opened n taken (around + 1)
+    inwards-goes h = record {
+      ready = λ k b. here k b (ℕ-discrete k (around + 1));
+      wraps = λ k b. there k b (ℕ-discrete k around);
+    }
+      where
+        here : (k : ℕ) → k ≤ around + 1 → Dec (k ≡ around + 1) → TermReady rows (i + k) (levels - k) readings w opened n taken
+        here k b (yes e) = moved-ready rows readings w opened n taken (i + around + 1) (levels - around - 1) (i + k) (levels - k) (omega arith) (omega arith) (wrapped-ready rows (i + around) (levels - around) readings w opened n taken inwards-here h)
+        here k b (no e) = g .ready k (omega arith)
+
+        there : (k : ℕ) → k < around + 1 → Dec (k ≡ around) → wrapsOf (fieldIn rows (i + k) 0) ≡ true
+        there k b (yes e) = rw e h
+        there k b (no e) = g .wraps k (omega arith)
+
+module _ (rows : List ℕ) (i levels : ℕ) (readings : List ℤ) (n taken : ℕ) (w₁ opened₁ : List ℕ) (around₁ : ℕ) (r₁ : Standing) where
+  pub outwards-starts : length opened₁ ≡ 512 → Outwards rows i levels readings n taken w₁ opened₁ around₁ r₁ w₁ opened₁ around₁ r₁
+  outwards-starts long = record { some = omega arith; long = long; ran = λ w₀ opened₀ g t. t }
+
+  module _ (w opened : List ℕ) (around : ℕ) (r : Standing) (u : Outwards rows i levels readings n taken w₁ opened₁ around₁ r₁ w opened around r) where
+    module _ (w₀ opened₀ : List ℕ) (g : Inwards rows i levels readings w₀ opened₀ n taken around₁) (t : TermRan rows (i + around₁) (levels - around₁) readings w₀ opened₀ n taken w₁ opened₁ r₁) where
+      pub outwards-ends : around ≤ 0 → TermRan rows i levels readings w₀ opened₀ n taken w opened r
+      outwards-ends h = moved-ran rows readings w₀ opened₀ n taken (i + around) (levels - around) i levels w opened r (omega arith) (omega arith) (u .ran w₀ opened₀ g t)
+
+      module _ (more : 0 < around) where
+        outer : TermReady rows (i + (around - 1)) (levels - (around - 1)) readings w₀ opened₀ n taken
+        outer = let a = u .some in g .ready (around - 1) (omega arith)
+
+        wraps : wrapsOf (fieldIn rows (i + (around - 1)) 0) ≡ true
+        wraps = let a = u .some in g .wraps (around - 1) (omega arith)
+
+        inner : TermRan rows (i + (around - 1) + 1) (levels - (around - 1) - 1) readings w₀ opened₀ n taken w opened r
+        inner = moved-ran rows readings w₀ opened₀ n taken (i + around) (levels - around) (i + (around - 1) + 1) (levels - (around - 1) - 1) w opened r (omega arith) (omega arith) (u .ran w₀ opened₀ g t)
+
+        pub outwards-after : AfterReady rows (i + (around - 1)) w opened r
+        outwards-after = wrapped-after rows (i + (around - 1)) (levels - (around - 1)) readings w₀ opened₀ n taken outer wraps w opened r inner (u .long)
+
+        pub outwards-ran : (w₂ opened₂ : List ℕ) (r₂ : Standing) → AfterRan rows (i + (around - 1)) w opened r w₂ opened₂ r₂ → TermRan rows (i + (around - 1)) (levels - (around - 1)) readings w₀ opened₀ n taken w₂ opened₂ r₂
+        outwards-ran w₂ opened₂ r₂ a = wrapped-returns rows (i + (around - 1)) (levels - (around - 1)) readings w₀ opened₀ n taken outer wraps w opened r inner (u .long) w₂ opened₂ r₂ a
+
+    pub outwards-goes : 0 < around → (w₂ opened₂ : List ℕ) (r₂ : Standing) → AfterRan rows (i + (around - 1)) w opened r w₂ opened₂ r₂ → length opened₂ ≡ 512 → Outwards rows i levels readings n taken w₁ opened₁ around₁ r₁ w₂ opened₂ (around - 1) r₂
+    outwards-goes more w₂ opened₂ r₂ a long = record {
+      some = let b = u .some in omega arith;
+      long = long;
+      ran = λ w₀ opened₀ g t. outwards-ran w₀ opened₀ g t more w₂ opened₂ r₂ a;
+    }

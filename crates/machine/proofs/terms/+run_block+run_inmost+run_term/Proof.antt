@@ -1,0 +1,296 @@
+-- Terms and blocks, which call each other. The measure is three times the levels left, one more for a term and two for a block. The block's loop has the invariant `Going`, the term's two loops `Inwards` and `Outwards`. Assumes nothing.
+use Rattle.machine.specs.Parts.{wrapsOf}
+use Rattle.machine.proofs.BlockRunLaws.{Going, going-ends, going-drops, turn-ready, going-stops, going-goes, going-enters, block-ready, block-ending, block-returns}
+use Rattle.machine.proofs.RowLaws.{has-level, has-room}
+use Rattle.machine.proofs.WrapLaws.{inmost-ready, inmost-returns, Inwards, Outwards, inwards-starts, inwards-here, inwards-room, inwards-level, inwards-goes, outwards-starts, outwards-ends, outwards-after, outwards-goes}
+use borrow.Author.Needs.{needs}
+use native.Mathlib.Omega.{arith}
+use mathlib.Core.Path.{sym, ap, _∙_}
+use Prim.Native.Nat.{ℕ, _+_, _-_, _*_, _<_}
+use borrow.Fn.Kinds.{In}
+use borrow.Fn.PlainCycle.{Measures, is, falls, and}
+use Rattle.machine.proofs.terms.run_block.Reads as run-block
+use Rattle.machine.proofs.terms.run_block.Kinds as run-block-kinds
+use Rattle.machine.proofs.terms.+run_block+run_inmost+run_term.Lts-run_block as run-block-lts
+use Rattle.machine.proofs.terms.run_inmost.Reads as run-inmost
+use Rattle.machine.proofs.terms.run_inmost.Kinds as run-inmost-kinds
+use Rattle.machine.proofs.terms.+run_block+run_inmost+run_term.Lts-run_inmost as run-inmost-lts
+use Rattle.machine.proofs.terms.run_term.Reads as run-term
+use Rattle.machine.proofs.terms.run_term.Kinds as run-term-kinds
+use Rattle.machine.proofs.terms.+run_block+run_inmost+run_term.Lts-run_term as run-term-lts
+use Rattle.machine.proofs.around.close_block.Reads as close-block-reads
+use Rattle.machine.proofs.around.entered.Reads as entered-reads
+use Rattle.machine.proofs.around.without_value.Reads as without-value-reads
+use Rattle.machine.proofs.drops.drop_any.Reads as drop-any-reads
+use Rattle.machine.proofs.operands.operand.Reads as operand-reads
+use Rattle.machine.proofs.operands.wide.Reads as wide-reads
+use Rattle.machine.proofs.terms.run_after.Reads as run-after-reads
+use Rattle.machine.proofs.terms.run_plain.Reads as run-plain-reads
+use Rattle.machine.proofs.terms.wraps.Reads as wraps-reads
+use Rattle.machine.proofs.terms.+run_block+run_inmost+run_term.{statement}
+use Rattle.machine.proofs.terms.+run_block+run_inmost+run_term.Tie.{close}
+
+abbrev μ-run-block : Measures 4 run-block-kinds.ps ℕ
+μ-run-block κs a = a .1 .1 .0 * 3 + 2
+
+abbrev μ-run-inmost : Measures 4 run-inmost-kinds.ps ℕ
+μ-run-inmost κs a = a .1 .1 .0 * 3
+
+abbrev μ-run-term : Measures 4 run-term-kinds.ps ℕ
+μ-run-term κs a = a .1 .1 .0 * 3 + 1
+
+abbrev run-block-at : ℕ → In 4 run-block-kinds.ps
+run-block-at t = and 4 run-block-kinds.ps (is 4 run-block-kinds.ps μ-run-block t) run-block.Pre
+
+abbrev run-block-below : ℕ → In 4 run-block-kinds.ps
+run-block-below t =
+    and 4 run-block-kinds.ps (falls 4 run-block-kinds.ps _<_ μ-run-block t) run-block.Pre
+
+abbrev run-inmost-at : ℕ → In 4 run-inmost-kinds.ps
+run-inmost-at t =
+    and 4 run-inmost-kinds.ps (is 4 run-inmost-kinds.ps μ-run-inmost t) run-inmost.Pre
+
+abbrev run-inmost-below : ℕ → In 4 run-inmost-kinds.ps
+run-inmost-below t =
+    and 4 run-inmost-kinds.ps (falls 4 run-inmost-kinds.ps _<_ μ-run-inmost t) run-inmost.Pre
+
+abbrev run-term-at : ℕ → In 4 run-term-kinds.ps
+run-term-at t = and 4 run-term-kinds.ps (is 4 run-term-kinds.ps μ-run-term t) run-term.Pre
+
+abbrev run-term-below : ℕ → In 4 run-term-kinds.ps
+run-term-below t =
+    and 4 run-term-kinds.ps (falls 4 run-term-kinds.ps _<_ μ-run-term t) run-term.Pre
+
+abbrev run-block-Inv-loop : run-block-lts.InvT-loop
+run-block-Inv-loop rows block levels readings store₀ opened₀ count taken left₀ at₀ store opened left at = Going rows block levels readings store₀ opened₀ count taken store opened left at
+
+abbrev run-block-μ-loop : run-block-lts.MeasureT-loop
+run-block-μ-loop rows block levels readings store₀ opened₀ count taken left₀ at₀ store opened left at = left
+
+abbrev run-block-claims : ℕ → run-block-lts.Claims
+run-block-claims t = (operand-reads.Asked, operand-reads.Learnt, wide-reads.Asked, wide-reads.Learnt, entered-reads.Asked, entered-reads.Learnt, drop-any-reads.Asked, drop-any-reads.Learnt, without-value-reads.Asked, without-value-reads.Learnt, run-term-below t, run-term.Post)
+
+abbrev run-inmost-claims : ℕ → run-inmost-lts.Claims
+run-inmost-claims t = (operand-reads.Asked, operand-reads.Learnt, run-block-below t, run-block.Post, close-block-reads.Asked, close-block-reads.Learnt, run-plain-reads.Asked, run-plain-reads.Learnt)
+
+abbrev run-term-claims : ℕ → run-term-lts.Claims
+run-term-claims t = (operand-reads.Asked, operand-reads.Learnt, wraps-reads.Asked, wraps-reads.Learnt, run-inmost-below t, run-inmost.Post, run-after-reads.Asked, run-after-reads.Learnt)
+
+run-block-operand-requires : (t : ℕ) → run-block-lts.Need-operand-requires (run-block-claims t) (run-block-at t) run-block.Post run-block-Inv-loop run-block-μ-loop
+run-block-operand-requires t c κs = (omega (arith, c .before .before .before .pre .1 .room, c .before .before .before .pre .1 .ready .long), omega arith)
+
+run-block-wide-requires : (t : ℕ) → run-block-lts.Need-wide-requires (run-block-claims t) (run-block-at t) run-block.Post run-block-Inv-loop run-block-μ-loop
+run-block-wide-requires t c κs = search needs
+
+run-block-entered-requires : (t : ℕ) → run-block-lts.Need-entered-requires (run-block-claims t) (run-block-at t) run-block.Post run-block-Inv-loop run-block-μ-loop
+run-block-entered-requires t c κs = c .before .before .before .before .before .pre .1 .room
+
+run-block-loop-holds : (t : ℕ) → run-block-lts.Need-loop-holds (run-block-claims t) (run-block-at t) run-block.Post run-block-Inv-loop run-block-μ-loop
+run-block-loop-holds t c = going-enters _ _ _ _ _ _ _ _ (c .before .before .before .before .before .before .pre .1) _ (c .before .wide .ensures ∙ c .before .before .operand .ensures) _ (c .entered .ensures)
+
+run-block-drop-any-requires : (t : ℕ) → run-block-lts.Need-drop-any-requires (run-block-claims t) (run-block-at t) run-block.Post run-block-Inv-loop run-block-μ-loop
+run-block-drop-any-requires t c κs = (c .before .before .loop .inv .ready .tidy, c .before .before .loop .inv .sound)
+
+run-block-without-value-requires : (t : ℕ) → run-block-lts.Need-without-value-requires (run-block-claims t) (run-block-at t) run-block.Post run-block-Inv-loop run-block-μ-loop
+run-block-without-value-requires t c κs = search needs
+
+run-block-same-length : (t : ℕ) → run-block-lts.Need-same-length (run-block-claims t) (run-block-at t) run-block.Post run-block-Inv-loop run-block-μ-loop
+run-block-same-length t c = c .before .before .before .before .drop-any .ensures .tidy .long ∙ sym (c .before .before .before .before .before .before .before .before .before .before .before .before .before .before .pre .1 .ready .tidy .long)
+
+run-block-same-length-2 : (t : ℕ) → run-block-lts.Need-same-length-2 (run-block-claims t) (run-block-at t) run-block.Post run-block-Inv-loop run-block-μ-loop
+run-block-same-length-2 t c = c .before .before .before .before .before .before .before .loop .inv .ready .many ∙ sym (c .before .before .before .before .before .before .before .before .before .before .before .before .before .before .pre .1 .ready .many)
+
+run-block-returns : (t : ℕ) → run-block-lts.Need-returns (run-block-claims t) (run-block-at t) run-block.Post run-block-Inv-loop run-block-μ-loop
+run-block-returns t c = going-drops _ _ _ _ _ _ _ _ _ _ _ _ (c .before .before .before .before .before .before .before .loop .inv) (c .before .before .before .before .before .before .loop-test .taken) _ _ (c .before .before .before .before .drop-any .ensures) (c .before .if1 .taken) _ (c .without-value .ensures)
+
+run-block-run-term-requires : (t : ℕ) → run-block-lts.Need-run-term-requires (run-block-claims t) (run-block-at t) run-block.Post run-block-Inv-loop run-block-μ-loop
+run-block-run-term-requires t c κs = (omega (arith, c .before .before .before .before .before .before .before .before .before .before .before .before .before .before .before .pre .0), turn-ready _ _ _ _ _ _ _ _ _ _ _ _ (c .before .before .before .before .before .before .before .before .loop .inv) (c .before .before .before .before .before .before .before .loop-test .taken) _ _ (c .before .before .before .before .before .drop-any .ensures) (c .before .before .if1 .left))
+
+run-block-same-length-3 : (t : ℕ) → run-block-lts.Need-same-length-3 (run-block-claims t) (run-block-at t) run-block.Post run-block-Inv-loop run-block-μ-loop
+run-block-same-length-3 t c = c .before .before .before .before .before .before .run-term .ensures .tidy .long ∙ sym (c .before .before .before .before .before .before .before .before .before .before .before .before .before .before .before .before .before .before .before .before .before .before .pre .1 .ready .tidy .long)
+
+run-block-same-length-4 : (t : ℕ) → run-block-lts.Need-same-length-4 (run-block-claims t) (run-block-at t) run-block.Post run-block-Inv-loop run-block-μ-loop
+run-block-same-length-4 t c = c .before .before .before .before .before .before .run-term .kept .1 .1 .1 .1 .1 .0 ∙ c .before .before .before .before .before .before .before .before .before .before .before .before .before .before .before .loop .inv .ready .many ∙ sym (c .before .before .before .before .before .before .before .before .before .before .before .before .before .before .before .before .before .before .before .before .before .before .pre .1 .ready .many)
+
+run-block-returns-2 : (t : ℕ) → run-block-lts.Need-returns-2 (run-block-claims t) (run-block-at t) run-block.Post run-block-Inv-loop run-block-μ-loop
+run-block-returns-2 t c = going-stops _ _ _ _ _ _ _ _ _ _ _ _ (c .before .before .before .before .before .before .before .before .before .before .before .before .before .before .before .loop .inv) (c .before .before .before .before .before .before .before .before .before .before .before .before .before .before .loop-test .taken) _ _ (c .before .before .before .before .before .before .before .before .before .before .before .before .drop-any .ensures) (c .before .before .before .before .before .before .before .before .before .if1 .left) _ _ _ (c .before .before .before .before .before .before .run-term .ensures) (c .if2 .taken)
+
+run-block-sub-left : (t : ℕ) → run-block-lts.Need-sub-left (run-block-claims t) (run-block-at t) run-block.Post run-block-Inv-loop run-block-μ-loop
+run-block-sub-left t c = omega arith
+
+run-block-loop-less : (t : ℕ) → run-block-lts.Need-loop-less (run-block-claims t) (run-block-at t) run-block.Post run-block-Inv-loop run-block-μ-loop
+run-block-loop-less t c = omega arith
+
+run-block-loop-again : (t : ℕ) → run-block-lts.Need-loop-again (run-block-claims t) (run-block-at t) run-block.Post run-block-Inv-loop run-block-μ-loop
+run-block-loop-again t c = going-goes _ _ _ _ _ _ _ _ _ _ _ _ (c .before .before .before .before .before .before .before .before .before .before .before .before .before .before .before .loop .inv) (c .before .before .before .before .before .before .before .before .before .before .before .before .before .before .loop-test .taken) _ _ (c .before .before .before .before .before .before .before .before .before .before .before .before .drop-any .ensures) (c .before .before .before .before .before .before .before .before .before .if1 .left) _ _ _ (c .before .before .before .before .before .before .run-term .ensures) (c .if2 .left) (c .before .before .before .before .before .before .run-term .kept .1 .1 .1 .1 .1 .0 ∙ c .before .before .before .before .before .before .before .before .before .before .before .before .before .before .before .loop .inv .ready .many)
+
+run-block-same-length-5 : (t : ℕ) → run-block-lts.Need-same-length-5 (run-block-claims t) (run-block-at t) run-block.Post run-block-Inv-loop run-block-μ-loop
+run-block-same-length-5 t c = c .before .loop .inv .ready .tidy .long ∙ sym (c .before .before .before .before .before .before .before .before .pre .1 .ready .tidy .long)
+
+run-block-same-length-6 : (t : ℕ) → run-block-lts.Need-same-length-6 (run-block-claims t) (run-block-at t) run-block.Post run-block-Inv-loop run-block-μ-loop
+run-block-same-length-6 t c = c .before .loop .inv .ready .many ∙ sym (c .before .before .before .before .before .before .before .before .pre .1 .ready .many)
+
+run-block-returns-3 : (t : ℕ) → run-block-lts.Need-returns-3 (run-block-claims t) (run-block-at t) run-block.Post run-block-Inv-loop run-block-μ-loop
+run-block-returns-3 t c = going-ends _ _ _ _ _ _ _ _ _ _ _ _ (c .before .loop .inv) (c .loop-test .left)
+
+run-inmost-operand-requires : (t : ℕ) → run-inmost-lts.Need-operand-requires (run-inmost-claims t) (run-inmost-at t) run-inmost.Post
+run-inmost-operand-requires t c κs = (has-room _ _ _ (c .before .before .before .pre .1 .0 .is), omega arith)
+
+run-inmost-sub-run-block : (t : ℕ) → run-inmost-lts.Need-sub-run-block (run-inmost-claims t) (run-inmost-at t) run-inmost.Post
+run-inmost-sub-run-block t c = omega (arith, has-level _ _ _ (c .before .before .before .before .before .pre .1 .0 .is))
+
+run-inmost-run-block-requires : (t : ℕ) → run-inmost-lts.Need-run-block-requires (run-inmost-claims t) (run-inmost-at t) run-inmost.Post
+run-inmost-run-block-requires t c κs = (omega (arith, c .before .before .before .before .before .before .before .pre .0, has-level _ _ _ (c .before .before .before .before .before .before .before .pre .1 .0 .is)), block-ready _ _ _ _ _ _ _ _ (c .before .before .before .before .before .before .before .pre .1 .0) (sym (c .before .before .before .operand .ensures) ∙ c .before .before .if1 .taken))
+
+run-inmost-close-block-requires : (t : ℕ) → run-inmost-lts.Need-close-block-requires (run-inmost-claims t) (run-inmost-at t) run-inmost.Post
+run-inmost-close-block-requires t c κs = block-ending _ _ _ _ _ _ _ _ (c .before .before .before .before .before .before .before .before .before .before .before .before .before .before .pre .1 .0) (sym (c .before .before .before .before .before .before .before .before .before .before .operand .ensures) ∙ c .before .before .before .before .before .before .before .before .before .if1 .taken) _ _ _ (c .before .before .before .before .before .before .run-block .ensures) (c .before .before .before .before .before .before .run-block .kept .1 .1 .1 .1 .1 .0 ∙ c .before .before .before .before .before .before .before .before .before .before .before .before .before .before .pre .1 .0 .ready .many)
+
+run-inmost-same-length : (t : ℕ) → run-inmost-lts.Need-same-length (run-inmost-claims t) (run-inmost-at t) run-inmost.Post
+run-inmost-same-length t c = c .before .before .close-block .ensures .tidy .long ∙ sym (c .before .before .before .before .before .before .before .before .before .before .before .before .before .before .before .before .before .pre .1 .0 .ready .tidy .long)
+
+run-inmost-same-length-2 : (t : ℕ) → run-inmost-lts.Need-same-length-2 (run-inmost-claims t) (run-inmost-at t) run-inmost.Post
+run-inmost-same-length-2 t c = c .before .before .before .before .before .before .before .before .before .run-block .kept .1 .1 .1 .1 .1 .0
+
+run-inmost-returns : (t : ℕ) → run-inmost-lts.Need-returns (run-inmost-claims t) (run-inmost-at t) run-inmost.Post
+run-inmost-returns t c = block-returns _ _ _ _ _ _ _ _ (c .before .before .before .before .before .before .before .before .before .before .before .before .before .before .before .before .before .pre .1 .0) (sym (c .before .before .before .before .before .before .before .before .before .before .before .before .before .operand .ensures) ∙ c .before .before .before .before .before .before .before .before .before .before .before .before .if1 .taken) _ _ _ (c .before .before .before .before .before .before .before .before .before .run-block .ensures) _ _ (c .before .before .close-block .ensures)
+
+run-inmost-run-plain-requires : (t : ℕ) → run-inmost-lts.Need-run-plain-requires (run-inmost-claims t) (run-inmost-at t) run-inmost.Post
+run-inmost-run-plain-requires t c κs = (inmost-ready _ _ _ _ _ _ _ _ (c .before .before .before .before .before .before .pre .1 .0) (c .before .before .before .before .before .before .pre .1 .1) _ (c .before .before .operand .ensures) (c .before .if1 .left), omega (arith, has-room _ _ _ (c .before .before .before .before .before .before .pre .1 .0 .is), c .before .before .before .before .before .before .pre .1 .0 .ready .long))
+
+run-inmost-same-length-3 : (t : ℕ) → run-inmost-lts.Need-same-length-3 (run-inmost-claims t) (run-inmost-at t) run-inmost.Post
+run-inmost-same-length-3 t c = c .before .before .run-plain .ensures .ran .tidy .long ∙ sym (c .before .before .before .before .before .before .before .before .before .pre .1 .0 .ready .tidy .long)
+
+run-inmost-returns-2 : (t : ℕ) → run-inmost-lts.Need-returns-2 (run-inmost-claims t) (run-inmost-at t) run-inmost.Post
+run-inmost-returns-2 t c = inmost-returns _ _ _ _ _ _ _ _ (c .before .before .before .before .before .before .before .before .before .pre .1 .0) (c .before .before .before .before .before .before .before .before .before .pre .1 .1) _ (c .before .before .before .before .before .operand .ensures) (c .before .before .before .before .if1 .left) _ _ (c .before .before .run-plain .ensures)
+
+abbrev run-term-Inv-loop : run-term-lts.InvT-loop
+run-term-Inv-loop rows i levels readings store opened count taken around₀ around = Inwards rows i levels readings store opened count taken around
+
+abbrev run-term-μ-loop : run-term-lts.MeasureT-loop
+run-term-μ-loop rows i levels readings store opened count taken around₀ around = levels - around
+
+abbrev run-term-Inv-loop2 : run-term-lts.InvT-loop2
+run-term-Inv-loop2 rows i levels readings store₀ opened₀ count taken around₀ inmost deeper ran₀ store opened around ran = Outwards rows i levels readings count taken store₀ opened₀ around₀ ran₀ store opened around ran
+
+abbrev run-term-μ-loop2 : run-term-lts.MeasureT-loop2
+run-term-μ-loop2 rows i levels readings store₀ opened₀ count taken around₀ inmost deeper ran₀ store opened around ran = around
+
+run-term-loop-holds : (t : ℕ) → run-term-lts.Need-loop-holds (run-term-claims t) (run-term-at t) run-term.Post run-term-Inv-loop run-term-μ-loop run-term-Inv-loop2 run-term-μ-loop2
+run-term-loop-holds t c = inwards-starts _ _ _ _ _ _ _ _ (c .before .before .before .pre .1)
+
+run-term-add-operand : (t : ℕ) → run-term-lts.Need-add-operand (run-term-claims t) (run-term-at t) run-term.Post run-term-Inv-loop run-term-μ-loop run-term-Inv-loop2 run-term-μ-loop2
+run-term-add-operand t c = omega (arith, inwards-room _ _ _ _ _ _ _ _ _ (c .loop .inv))
+
+run-term-operand-requires : (t : ℕ) → run-term-lts.Need-operand-requires (run-term-claims t) (run-term-at t) run-term.Post run-term-Inv-loop run-term-μ-loop run-term-Inv-loop2 run-term-μ-loop2
+run-term-operand-requires t c κs = (has-room _ _ _ (inwards-here _ _ _ _ _ _ _ _ _ (c .loop .inv) .is), omega arith)
+
+run-term-wraps-requires : (t : ℕ) → run-term-lts.Need-wraps-requires (run-term-claims t) (run-term-at t) run-term.Post run-term-Inv-loop run-term-μ-loop run-term-Inv-loop2 run-term-μ-loop2
+run-term-wraps-requires t c κs = search needs
+
+run-term-add-around : (t : ℕ) → run-term-lts.Need-add-around (run-term-claims t) (run-term-at t) run-term.Post run-term-Inv-loop run-term-μ-loop run-term-Inv-loop2 run-term-μ-loop2
+run-term-add-around t c = omega (arith, inwards-room _ _ _ _ _ _ _ _ _ (c .before .before .before .loop .inv))
+
+run-term-loop-less : (t : ℕ) → run-term-lts.Need-loop-less (run-term-claims t) (run-term-at t) run-term.Post run-term-Inv-loop run-term-μ-loop run-term-Inv-loop2 run-term-μ-loop2
+run-term-loop-less t c = omega (arith, inwards-level _ _ _ _ _ _ _ _ _ (c .before .before .before .loop .inv))
+
+run-term-loop-again : (t : ℕ) → run-term-lts.Need-loop-again (run-term-claims t) (run-term-at t) run-term.Post run-term-Inv-loop run-term-μ-loop run-term-Inv-loop2 run-term-μ-loop2
+run-term-loop-again t c = inwards-goes _ _ _ _ _ _ _ _ _ (c .before .before .before .loop .inv) (ap wrapsOf (sym (c .before .before .operand .ensures)) ∙ sym (c .before .wraps .ensures) ∙ c .if1 .taken)
+
+run-term-add-inmost : (t : ℕ) → run-term-lts.Need-add-inmost (run-term-claims t) (run-term-at t) run-term.Post run-term-Inv-loop run-term-μ-loop run-term-Inv-loop2 run-term-μ-loop2
+run-term-add-inmost t c = omega (arith, inwards-room _ _ _ _ _ _ _ _ _ (c .before .before .before .loop .inv))
+
+run-term-sub-deeper : (t : ℕ) → run-term-lts.Need-sub-deeper (run-term-claims t) (run-term-at t) run-term.Post run-term-Inv-loop run-term-μ-loop run-term-Inv-loop2 run-term-μ-loop2
+run-term-sub-deeper t c = omega (arith, inwards-level _ _ _ _ _ _ _ _ _ (c .before .before .before .loop .inv))
+
+run-term-run-inmost-requires : (t : ℕ) → run-term-lts.Need-run-inmost-requires (run-term-claims t) (run-term-at t) run-term.Post run-term-Inv-loop run-term-μ-loop run-term-Inv-loop2 run-term-μ-loop2
+run-term-run-inmost-requires t c κs = (omega (arith, c .before .before .before .before .before .before .before .before .before .pre .0), (inwards-here _ _ _ _ _ _ _ _ _ (c .before .before .before .before .before .loop .inv), ap wrapsOf (sym (c .before .before .before .before .operand .ensures)) ∙ sym (c .before .before .before .wraps .ensures) ∙ c .before .before .if1 .left))
+
+run-term-loop2-holds : (t : ℕ) → run-term-lts.Need-loop2-holds (run-term-claims t) (run-term-at t) run-term.Post run-term-Inv-loop run-term-μ-loop run-term-Inv-loop2 run-term-μ-loop2
+run-term-loop2-holds t c = outwards-starts _ _ _ _ _ _ _ _ _ _ (c .before .before .before .before .run-inmost .kept .1 .1 .1 .1 .1 .0 ∙ c .before .before .before .before .before .before .before .before .before .before .before .before .before .before .pre .1 .ready .many)
+
+run-term-sub-around : (t : ℕ) → run-term-lts.Need-sub-around (run-term-claims t) (run-term-at t) run-term.Post run-term-Inv-loop run-term-μ-loop run-term-Inv-loop2 run-term-μ-loop2
+run-term-sub-around t c = omega arith
+
+run-term-add-run-after : (t : ℕ) → run-term-lts.Need-add-run-after (run-term-claims t) (run-term-at t) run-term.Post run-term-Inv-loop run-term-μ-loop run-term-Inv-loop2 run-term-μ-loop2
+run-term-add-run-after t c = omega (arith, c .before .loop2 .inv .some, inwards-room _ _ _ _ _ _ _ _ _ (c .before .before .before .before .before .before .before .before .before .before .before .before .loop .inv))
+
+run-term-run-after-requires : (t : ℕ) → run-term-lts.Need-run-after-requires (run-term-claims t) (run-term-at t) run-term.Post run-term-Inv-loop run-term-μ-loop run-term-Inv-loop2 run-term-μ-loop2
+run-term-run-after-requires t c κs = outwards-after _ _ _ _ _ _ _ _ _ _ _ _ _ _ (c .before .before .before .loop2 .inv) _ _ (c .before .before .before .before .before .before .before .before .before .before .before .before .before .before .loop .inv) (c .before .before .before .before .before .before .before .before .run-inmost .ensures) (c .before .before .loop2-test .taken)
+
+run-term-loop2-less : (t : ℕ) → run-term-lts.Need-loop2-less (run-term-claims t) (run-term-at t) run-term.Post run-term-Inv-loop run-term-μ-loop run-term-Inv-loop2 run-term-μ-loop2
+run-term-loop2-less t c = omega arith
+
+run-term-loop2-again : (t : ℕ) → run-term-lts.Need-loop2-again (run-term-claims t) (run-term-at t) run-term.Post run-term-Inv-loop run-term-μ-loop run-term-Inv-loop2 run-term-μ-loop2
+run-term-loop2-again t c = outwards-goes _ _ _ _ _ _ _ _ _ _ _ _ _ _ (c .before .before .before .before .before .before .before .before .loop2 .inv) (c .before .before .before .before .before .before .before .loop2-test .taken) _ _ _ (c .before .before .before .before .run-after .ensures) (c .before .before .before .before .run-after .kept .1 .1 .1 .0 ∙ c .before .before .before .before .before .before .before .before .loop2 .inv .long)
+
+run-term-same-length : (t : ℕ) → run-term-lts.Need-same-length (run-term-claims t) (run-term-at t) run-term.Post run-term-Inv-loop run-term-μ-loop run-term-Inv-loop2 run-term-μ-loop2
+run-term-same-length t c = c .before .loop2 .inv .ran _ _ (c .before .before .before .before .before .before .before .before .before .before .before .before .loop .inv) (c .before .before .before .before .before .before .run-inmost .ensures) .tidy .long ∙ sym (c .before .before .before .before .before .before .before .before .before .before .before .before .before .before .before .before .pre .1 .ready .tidy .long)
+
+run-term-same-length-2 : (t : ℕ) → run-term-lts.Need-same-length-2 (run-term-claims t) (run-term-at t) run-term.Post run-term-Inv-loop run-term-μ-loop run-term-Inv-loop2 run-term-μ-loop2
+run-term-same-length-2 t c = c .before .loop2 .inv .long ∙ sym (c .before .before .before .before .before .before .before .before .before .before .before .before .before .before .before .before .pre .1 .ready .many)
+
+run-term-returns : (t : ℕ) → run-term-lts.Need-returns (run-term-claims t) (run-term-at t) run-term.Post run-term-Inv-loop run-term-μ-loop run-term-Inv-loop2 run-term-μ-loop2
+run-term-returns t c = outwards-ends _ _ _ _ _ _ _ _ _ _ _ _ _ _ (c .before .loop2 .inv) _ _ (c .before .before .before .before .before .before .before .before .before .before .before .before .loop .inv) (c .before .before .before .before .before .before .run-inmost .ensures) (c .loop2-test .left)
+
+pub +run-block+run-inmost+run-term-spec : {M : Type 1} → statement M
++run-block+run-inmost+run-term-spec =
+    close μ-run-block μ-run-inmost μ-run-term (λ t. run-block-lts.spec (run-block-claims t) (run-block-at t)
+    run-block.Post
+    run-block-Inv-loop
+    run-block-μ-loop
+    (run-block-operand-requires t)
+    (run-block-wide-requires t)
+    (run-block-entered-requires t)
+    (run-block-loop-holds t)
+    (run-block-drop-any-requires t)
+    (run-block-without-value-requires t)
+    (run-block-same-length t)
+    (run-block-same-length-2 t)
+    (run-block-returns t)
+    (run-block-run-term-requires t)
+    (run-block-same-length-3 t)
+    (run-block-same-length-4 t)
+    (run-block-returns-2 t)
+    (run-block-sub-left t)
+    (run-block-loop-less t)
+    (run-block-loop-again t)
+    (run-block-same-length-5 t)
+    (run-block-same-length-6 t)
+    (run-block-returns-3 t))
+    (λ t. run-inmost-lts.spec (run-inmost-claims t) (run-inmost-at t)
+    run-inmost.Post
+    (run-inmost-operand-requires t)
+    (run-inmost-sub-run-block t)
+    (run-inmost-run-block-requires t)
+    (run-inmost-close-block-requires t)
+    (run-inmost-same-length t)
+    (run-inmost-same-length-2 t)
+    (run-inmost-returns t)
+    (run-inmost-run-plain-requires t)
+    (run-inmost-same-length-3 t)
+    (run-inmost-returns-2 t))
+    λ t. run-term-lts.spec (run-term-claims t) (run-term-at t)
+    run-term.Post
+    run-term-Inv-loop
+    run-term-μ-loop
+    run-term-Inv-loop2
+    run-term-μ-loop2
+    (run-term-loop-holds t)
+    (run-term-add-operand t)
+    (run-term-operand-requires t)
+    (run-term-wraps-requires t)
+    (run-term-add-around t)
+    (run-term-loop-less t)
+    (run-term-loop-again t)
+    (run-term-add-inmost t)
+    (run-term-sub-deeper t)
+    (run-term-run-inmost-requires t)
+    (run-term-loop2-holds t)
+    (run-term-sub-around t)
+    (run-term-add-run-after t)
+    (run-term-run-after-requires t)
+    (run-term-loop2-less t)
+    (run-term-loop2-again t)
+    (run-term-same-length t)
+    (run-term-same-length-2 t)
+    (run-term-returns t)
