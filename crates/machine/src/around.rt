@@ -81,7 +81,7 @@ pub fn run_box(store: &mut [u32], inner: Standing) -> Standing
 }
 
 // "Let runs its inner term, then opens its row."
-pub fn run_let(store: &mut [u32], opened: &mut [u32], i: usize, x: u32, inner: Standing) -> Standing
+pub fn run_let(store: &mut [u32], opened: &mut [u8], i: usize, x: u32, inner: Standing) -> Standing
     requires { ⌜ LetReady (now store) (now opened) x inner ⌝ }
     ensures { λ r. ⌜ Declared (now (store .entry)) (now (opened .entry)) i x inner (now (store .exit)) (now (opened .exit)) r ⌝ }
 {
@@ -95,7 +95,7 @@ pub fn run_let(store: &mut [u32], opened: &mut [u32], i: usize, x: u32, inner: S
     }
     put_row(store, row, limits::OPEN, inner.kind, inner.payload);
     let at = inner.opened;
-    opened[at] = x;
+    opened[at] = x as u8;
     Standing {
         fault: limits::NO_FAULT,
         term: i,
@@ -152,7 +152,7 @@ pub fn run_assign(store: &mut [u32], i: usize, root: u32, follows: u32, inner: S
 // "At its end it closes its variables": those opened from `begin` on.
 pub fn close_block(
     store: &mut [u32],
-    opened: &[u32],
+    opened: &[u8],
     i: usize,
     begin: usize,
     inner: Standing,

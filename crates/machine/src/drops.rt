@@ -47,7 +47,7 @@ pub fn close_variable(store: &mut [u32], x: usize) -> u32
 }
 
 // "it closes its variables, last opened first": those of `opened` from `end` down to `begin`.
-pub fn close_variables(store: &mut [u32], opened: &[u32], begin: usize, end: usize) -> u32
+pub fn close_variables(store: &mut [u32], opened: &[u8], begin: usize, end: usize) -> u32
     requires { ⌜ Tidy (now store) × (begin ≤ end) × (end ≤ length (now opened)) × Listed (now opened) end ⌝ }
     ensures { λ r. ⌜ ClosedAll (now (store .entry)) (now (opened .entry)) begin end (now (store .exit)) r ⌝ }
 {

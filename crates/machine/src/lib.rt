@@ -32,7 +32,7 @@ fn run_judged(rows: &[u32], readings: &[i32], store: &mut [u32]) -> RunOutcome
     ensures { λ r. ⌜ (toldRun r, now (store .exit)) ≡ scriptRan (now (rows .entry)) (now (readings .entry)) ⌝ }
 {
     clear(store);
-    let mut opened: [u32; 512] = [0; 512];
+    let mut opened: [u8; 512] = [0; 512];
     let deeper = limits::LEVELS - 1;
     let inner = run_block(rows, 0, deeper, readings, store, &mut opened, 0, 0);
     let ran = close_block(store, &opened, 0, 0, inner);

@@ -53,7 +53,7 @@ fn run_after(
     rows: &[u32],
     i: usize,
     store: &mut [u32],
-    opened: &mut [u32],
+    opened: &mut [u8],
     inner: Standing,
 ) -> Standing
     requires { ⌜ AfterReady (now rows) i (now store) (now opened) inner ⌝ }
@@ -74,7 +74,7 @@ fn run_inmost(
     levels: usize,
     readings: &[i32],
     store: &mut [u32],
-    opened: &mut [u32],
+    opened: &mut [u8],
     count: usize,
     taken: usize,
 ) -> Standing
@@ -97,7 +97,7 @@ fn run_term(
     levels: usize,
     readings: &[i32],
     store: &mut [u32],
-    opened: &mut [u32],
+    opened: &mut [u8],
     count: usize,
     taken: usize,
 ) -> Standing
@@ -125,7 +125,7 @@ pub fn run_block(
     levels: usize,
     readings: &[i32],
     store: &mut [u32],
-    opened: &mut [u32],
+    opened: &mut [u8],
     count: usize,
     taken: usize,
 ) -> Standing

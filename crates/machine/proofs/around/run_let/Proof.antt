@@ -25,14 +25,14 @@ returns-2 c = let-open _ _ _ _ _ (c .before .before .before .before .before .if1
 put-row-requires : tie.Need-put-row-requires
 put-row-requires c κs = (c .before .before .before .before .before .before .before .before .before .pre .ready .tidy, omega (arith, c .before .before .before .before .before .before .before .before .before .pre .variable), open-row _ _ (c .before .before .before .before .before .before .before .before .before .pre .ready .fine (c .before .before .before .before .before .if1 .left) .sound))
 
-mul-opened : tie.Need-mul-opened
-mul-opened c = omega (arith, c .before .before .before .before .before .before .before .before .before .before .before .before .pre .few (c .before .before .before .before .before .before .before .before .if1 .left))
+cast-opened : tie.Need-cast-opened
+cast-opened c = omega (arith, c .before .before .before .before .before .before .before .before .before .before .before .before .pre .variable)
 
 slice-write-opened : tie.Need-slice-write-opened
 slice-write-opened c = omega (arith, c .before .before .before .before .before .before .before .before .before .before .before .before .pre .few (c .before .before .before .before .before .before .before .before .if1 .left))
 
-add-t15 : tie.Need-add-t15
-add-t15 c = omega (arith, c .before .before .before .before .before .before .before .before .before .before .before .before .before .pre .few (c .before .before .before .before .before .before .before .before .before .if1 .left))
+add-t17 : tie.Need-add-t17
+add-t17 c = omega (arith, c .before .before .before .before .before .before .before .before .before .before .before .before .before .pre .few (c .before .before .before .before .before .before .before .before .before .if1 .left))
 
 same-length-2 : tie.Need-same-length-2
 same-length-2 c = c .before .before .before .put-row .kept .0
@@ -53,9 +53,9 @@ run-let-spec =
     same-length
     returns-2
     put-row-requires
-    mul-opened
+    cast-opened
     slice-write-opened
-    add-t15
+    add-t17
     same-length-2
     same-length-3
     returns-3)

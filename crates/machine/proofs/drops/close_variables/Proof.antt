@@ -19,9 +19,6 @@ loop-holds c = closing-starts _ _ _ _ (c .before .before .pre .0) (c .before .be
 sub-left : tie.Need-sub-left Inv-loop μ-loop
 sub-left c = omega arith
 
-mul-x : tie.Need-mul-x Inv-loop μ-loop
-mul-x c = search needs
-
 shared-slice-read-x : tie.Need-shared-slice-read-x Inv-loop μ-loop
 shared-slice-read-x c = search needs
 
@@ -57,7 +54,6 @@ close-variables-spec =
     μ-loop
     loop-holds
     sub-left
-    mul-x
     shared-slice-read-x
     cast-x
     close-variable-requires
