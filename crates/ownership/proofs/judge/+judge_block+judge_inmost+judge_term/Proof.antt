@@ -8,7 +8,7 @@ use Rattle.rules.specs.declared.verdicts.Value.{Value}
 use Rattle.rules.specs.declared.verdicts.Value.the-variants as value
 use Rattle.rules.specs.declared.verdicts.Verdict.the-variants as verdict
 use Rattle.rules.specs.Table.{TableFor, environmentOf}
-use Rattle.rules.specs.Verdicts.{begun, answered}
+use Rattle.rules.specs.Verdicts.{answered}
 use Rattle.reader.specs.Result.{_>>=_}
 use Rattle.ownership.specs.RowTrees.{treeAt}
 use Rattle.ownership.specs.JudgeRows.{ended, wrapsOf, outwards, IsRest, restAt}
@@ -247,8 +247,7 @@ judge-term-judge-before-requires : (t : ℕ) → judge-term-lts.Need-judge-befor
 judge-term-judge-before-requires t c κs =
     let at-wraps = c .before .before in
     let at-loop = at-wraps .before .before in
-    let kind = at-wraps .before .number-at .ensures in
-    let w = sym (at-wraps .wraps .ensures ∙ ap wrapsOf kind) ∙ c .before .if1 .taken in
+    let w = sym (at-wraps .wraps .ensures ∙ ap wrapsOf (at-wraps .before .number-at .ensures)) ∙ c .before .if1 .taken in
     (wrapped _ _ _ _ (at-loop .loop .inv .2 .inner) w, at-loop .loop .inv .1)
 
 judge-term-enum-known-begun : (t : ℕ) → judge-term-lts.Need-enum-known-begun (judge-term-claims t) (judge-term-at t) judge-term.Post judge-term-Inv-loop judge-term-μ-loop judge-term-Inv-loop2 judge-term-μ-loop2
@@ -324,9 +323,8 @@ judge-term-loop2-again t c =
 
 judge-term-same-length-2 : (t : ℕ) → judge-term-lts.Need-same-length-2 (judge-term-claims t) (judge-term-at t) judge-term.Post judge-term-Inv-loop judge-term-μ-loop judge-term-Inv-loop2 judge-term-μ-loop2
 judge-term-same-length-2 t c =
-    let at-loop2 = c .before in
-    let at-judge-inmost = at-loop2 .before .before .before in
-    at-loop2 .loop2 .inv .1 ∙ at-judge-inmost .judge-inmost .kept .1 .1 .1 .0 ∙ at-judge-inmost .before .before .before .before .before .loop .inv .0
+    let at-judge-inmost = c .before .before .before .before in
+    c .before .loop2 .inv .1 ∙ at-judge-inmost .judge-inmost .kept .1 .1 .1 .0 ∙ at-judge-inmost .before .before .before .before .before .loop .inv .0
 
 judge-term-returns-2 : (t : ℕ) → judge-term-lts.Need-returns-2 (judge-term-claims t) (judge-term-at t) judge-term.Post judge-term-Inv-loop judge-term-μ-loop judge-term-Inv-loop2 judge-term-μ-loop2
 judge-term-returns-2 t c =
