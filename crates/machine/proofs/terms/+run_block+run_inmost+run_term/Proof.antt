@@ -86,7 +86,11 @@ run-block-entered-requires : (t : ℕ) → run-block-lts.Need-entered-requires (
 run-block-entered-requires t c κs = c .before .before .before .before .before .pre .1 .room
 
 run-block-loop-holds : (t : ℕ) → run-block-lts.Need-loop-holds (run-block-claims t) (run-block-at t) run-block.Post run-block-Inv-loop run-block-μ-loop
-run-block-loop-holds t c = going-enters _ _ _ _ _ _ _ _ (c .before .before .before .before .before .before .pre .1) _ (c .before .wide .ensures ∙ c .before .before .operand .ensures) _ (c .entered .ensures)
+run-block-loop-holds t c =
+    let at-wide = c .before in
+    let at-operand = at-wide .before in
+    let start = at-operand .before .before .before .before in
+    going-enters _ _ _ _ _ _ _ _ (start .pre .1) _ (at-wide .wide .ensures ∙ at-operand .operand .ensures) _ (c .entered .ensures)
 
 run-block-drop-any-requires : (t : ℕ) → run-block-lts.Need-drop-any-requires (run-block-claims t) (run-block-at t) run-block.Post run-block-Inv-loop run-block-μ-loop
 run-block-drop-any-requires t c κs = (c .before .before .loop .inv .ready .tidy, c .before .before .loop .inv .sound)
@@ -95,25 +99,55 @@ run-block-without-value-requires : (t : ℕ) → run-block-lts.Need-without-valu
 run-block-without-value-requires t c κs = search needs
 
 run-block-same-length : (t : ℕ) → run-block-lts.Need-same-length (run-block-claims t) (run-block-at t) run-block.Post run-block-Inv-loop run-block-μ-loop
-run-block-same-length t c = c .before .before .before .before .drop-any .ensures .tidy .long ∙ sym (c .before .before .before .before .before .before .before .before .before .before .before .before .before .before .pre .1 .ready .tidy .long)
+run-block-same-length t c =
+    let at-drop-any = c .before .before .before .before in
+    let start = at-drop-any .before .before .before .before .before .before .before .before .before .before in
+    at-drop-any .drop-any .ensures .tidy .long ∙ sym (start .pre .1 .ready .tidy .long)
 
 run-block-same-length-2 : (t : ℕ) → run-block-lts.Need-same-length-2 (run-block-claims t) (run-block-at t) run-block.Post run-block-Inv-loop run-block-μ-loop
-run-block-same-length-2 t c = c .before .before .before .before .before .before .before .loop .inv .ready .many ∙ sym (c .before .before .before .before .before .before .before .before .before .before .before .before .before .before .pre .1 .ready .many)
+run-block-same-length-2 t c =
+    let at-loop = c .before .before .before .before .before .before .before in
+    let start = at-loop .before .before .before .before .before .before .before in
+    at-loop .loop .inv .ready .many ∙ sym (start .pre .1 .ready .many)
 
 run-block-returns : (t : ℕ) → run-block-lts.Need-returns (run-block-claims t) (run-block-at t) run-block.Post run-block-Inv-loop run-block-μ-loop
-run-block-returns t c = going-drops _ _ _ _ _ _ _ _ _ _ _ _ (c .before .before .before .before .before .before .before .loop .inv) (c .before .before .before .before .before .before .loop-test .taken) _ _ (c .before .before .before .before .drop-any .ensures) (c .before .if1 .taken) _ (c .without-value .ensures)
+run-block-returns t c =
+    let at-if1 = c .before in
+    let at-drop-any = at-if1 .before .before .before in
+    let at-loop-test = at-drop-any .before .before in
+    let at-loop = at-loop-test .before in
+    going-drops _ _ _ _ _ _ _ _ _ _ _ _ (at-loop .loop .inv) (at-loop-test .loop-test .taken) _ _ (at-drop-any .drop-any .ensures) (at-if1 .if1 .taken) _ (c .without-value .ensures)
 
 run-block-run-term-requires : (t : ℕ) → run-block-lts.Need-run-term-requires (run-block-claims t) (run-block-at t) run-block.Post run-block-Inv-loop run-block-μ-loop
-run-block-run-term-requires t c κs = (omega (arith, c .before .before .before .before .before .before .before .before .before .before .before .before .before .before .before .pre .0), turn-ready _ _ _ _ _ _ _ _ _ _ _ _ (c .before .before .before .before .before .before .before .before .loop .inv) (c .before .before .before .before .before .before .before .loop-test .taken) _ _ (c .before .before .before .before .before .drop-any .ensures) (c .before .before .if1 .left))
+run-block-run-term-requires t c κs =
+    let at-if1 = c .before .before in
+    let at-drop-any = at-if1 .before .before .before in
+    let at-loop-test = at-drop-any .before .before in
+    let at-loop = at-loop-test .before in
+    let start = at-loop .before .before .before .before .before .before .before in
+    (omega (arith, start .pre .0), turn-ready _ _ _ _ _ _ _ _ _ _ _ _ (at-loop .loop .inv) (at-loop-test .loop-test .taken) _ _ (at-drop-any .drop-any .ensures) (at-if1 .if1 .left))
 
 run-block-same-length-3 : (t : ℕ) → run-block-lts.Need-same-length-3 (run-block-claims t) (run-block-at t) run-block.Post run-block-Inv-loop run-block-μ-loop
-run-block-same-length-3 t c = c .before .before .before .before .before .before .run-term .ensures .tidy .long ∙ sym (c .before .before .before .before .before .before .before .before .before .before .before .before .before .before .before .before .before .before .before .before .before .before .pre .1 .ready .tidy .long)
+run-block-same-length-3 t c =
+    let at-run-term = c .before .before .before .before .before .before in
+    let start = at-run-term .before .before .before .before .before .before .before .before .before .before .before .before .before .before .before .before in
+    at-run-term .run-term .ensures .tidy .long ∙ sym (start .pre .1 .ready .tidy .long)
 
 run-block-same-length-4 : (t : ℕ) → run-block-lts.Need-same-length-4 (run-block-claims t) (run-block-at t) run-block.Post run-block-Inv-loop run-block-μ-loop
-run-block-same-length-4 t c = c .before .before .before .before .before .before .run-term .kept .1 .1 .1 .1 .1 .0 ∙ c .before .before .before .before .before .before .before .before .before .before .before .before .before .before .before .loop .inv .ready .many ∙ sym (c .before .before .before .before .before .before .before .before .before .before .before .before .before .before .before .before .before .before .before .before .before .before .pre .1 .ready .many)
+run-block-same-length-4 t c =
+    let at-run-term = c .before .before .before .before .before .before in
+    let at-loop = at-run-term .before .before .before .before .before .before .before .before .before in
+    let start = at-loop .before .before .before .before .before .before .before in
+    at-run-term .run-term .kept .1 .1 .1 .1 .1 .0 ∙ at-loop .loop .inv .ready .many ∙ sym (start .pre .1 .ready .many)
 
 run-block-returns-2 : (t : ℕ) → run-block-lts.Need-returns-2 (run-block-claims t) (run-block-at t) run-block.Post run-block-Inv-loop run-block-μ-loop
-run-block-returns-2 t c = going-stops _ _ _ _ _ _ _ _ _ _ _ _ (c .before .before .before .before .before .before .before .before .before .before .before .before .before .before .before .loop .inv) (c .before .before .before .before .before .before .before .before .before .before .before .before .before .before .loop-test .taken) _ _ (c .before .before .before .before .before .before .before .before .before .before .before .before .drop-any .ensures) (c .before .before .before .before .before .before .before .before .before .if1 .left) _ _ _ (c .before .before .before .before .before .before .run-term .ensures) (c .if2 .taken)
+run-block-returns-2 t c =
+    let at-run-term = c .before .before .before .before .before .before in
+    let at-if1 = at-run-term .before .before .before in
+    let at-drop-any = at-if1 .before .before .before in
+    let at-loop-test = at-drop-any .before .before in
+    let at-loop = at-loop-test .before in
+    going-stops _ _ _ _ _ _ _ _ _ _ _ _ (at-loop .loop .inv) (at-loop-test .loop-test .taken) _ _ (at-drop-any .drop-any .ensures) (at-if1 .if1 .left) _ _ _ (at-run-term .run-term .ensures) (c .if2 .taken)
 
 run-block-sub-left : (t : ℕ) → run-block-lts.Need-sub-left (run-block-claims t) (run-block-at t) run-block.Post run-block-Inv-loop run-block-μ-loop
 run-block-sub-left t c = omega arith
@@ -122,13 +156,25 @@ run-block-loop-less : (t : ℕ) → run-block-lts.Need-loop-less (run-block-clai
 run-block-loop-less t c = omega arith
 
 run-block-loop-again : (t : ℕ) → run-block-lts.Need-loop-again (run-block-claims t) (run-block-at t) run-block.Post run-block-Inv-loop run-block-μ-loop
-run-block-loop-again t c = going-goes _ _ _ _ _ _ _ _ _ _ _ _ (c .before .before .before .before .before .before .before .before .before .before .before .before .before .before .before .loop .inv) (c .before .before .before .before .before .before .before .before .before .before .before .before .before .before .loop-test .taken) _ _ (c .before .before .before .before .before .before .before .before .before .before .before .before .drop-any .ensures) (c .before .before .before .before .before .before .before .before .before .if1 .left) _ _ _ (c .before .before .before .before .before .before .run-term .ensures) (c .if2 .left) (c .before .before .before .before .before .before .run-term .kept .1 .1 .1 .1 .1 .0 ∙ c .before .before .before .before .before .before .before .before .before .before .before .before .before .before .before .loop .inv .ready .many)
+run-block-loop-again t c =
+    let at-run-term = c .before .before .before .before .before .before in
+    let at-if1 = at-run-term .before .before .before in
+    let at-drop-any = at-if1 .before .before .before in
+    let at-loop-test = at-drop-any .before .before in
+    let at-loop = at-loop-test .before in
+    going-goes _ _ _ _ _ _ _ _ _ _ _ _ (at-loop .loop .inv) (at-loop-test .loop-test .taken) _ _ (at-drop-any .drop-any .ensures) (at-if1 .if1 .left) _ _ _ (at-run-term .run-term .ensures) (c .if2 .left) (at-run-term .run-term .kept .1 .1 .1 .1 .1 .0 ∙ at-loop .loop .inv .ready .many)
 
 run-block-same-length-5 : (t : ℕ) → run-block-lts.Need-same-length-5 (run-block-claims t) (run-block-at t) run-block.Post run-block-Inv-loop run-block-μ-loop
-run-block-same-length-5 t c = c .before .loop .inv .ready .tidy .long ∙ sym (c .before .before .before .before .before .before .before .before .pre .1 .ready .tidy .long)
+run-block-same-length-5 t c =
+    let at-loop = c .before in
+    let start = at-loop .before .before .before .before .before .before .before in
+    at-loop .loop .inv .ready .tidy .long ∙ sym (start .pre .1 .ready .tidy .long)
 
 run-block-same-length-6 : (t : ℕ) → run-block-lts.Need-same-length-6 (run-block-claims t) (run-block-at t) run-block.Post run-block-Inv-loop run-block-μ-loop
-run-block-same-length-6 t c = c .before .loop .inv .ready .many ∙ sym (c .before .before .before .before .before .before .before .before .pre .1 .ready .many)
+run-block-same-length-6 t c =
+    let at-loop = c .before in
+    let start = at-loop .before .before .before .before .before .before .before in
+    at-loop .loop .inv .ready .many ∙ sym (start .pre .1 .ready .many)
 
 run-block-returns-3 : (t : ℕ) → run-block-lts.Need-returns-3 (run-block-claims t) (run-block-at t) run-block.Post run-block-Inv-loop run-block-μ-loop
 run-block-returns-3 t c = going-ends _ _ _ _ _ _ _ _ _ _ _ _ (c .before .loop .inv) (c .loop-test .left)
@@ -140,28 +186,58 @@ run-inmost-sub-run-block : (t : ℕ) → run-inmost-lts.Need-sub-run-block (run-
 run-inmost-sub-run-block t c = omega (arith, has-level _ _ _ (c .before .before .before .before .before .pre .1 .0 .is))
 
 run-inmost-run-block-requires : (t : ℕ) → run-inmost-lts.Need-run-block-requires (run-inmost-claims t) (run-inmost-at t) run-inmost.Post
-run-inmost-run-block-requires t c κs = (omega (arith, c .before .before .before .before .before .before .before .pre .0, has-level _ _ _ (c .before .before .before .before .before .before .before .pre .1 .0 .is)), block-ready _ _ _ _ _ _ _ _ (c .before .before .before .before .before .before .before .pre .1 .0) (sym (c .before .before .before .operand .ensures) ∙ c .before .before .if1 .taken))
+run-inmost-run-block-requires t c κs =
+    let at-if1 = c .before .before in
+    let at-operand = at-if1 .before in
+    let start = at-operand .before .before .before .before in
+    (omega (arith, start .pre .0, has-level _ _ _ (start .pre .1 .0 .is)), block-ready _ _ _ _ _ _ _ _ (start .pre .1 .0) (sym (at-operand .operand .ensures) ∙ at-if1 .if1 .taken))
 
 run-inmost-close-block-requires : (t : ℕ) → run-inmost-lts.Need-close-block-requires (run-inmost-claims t) (run-inmost-at t) run-inmost.Post
-run-inmost-close-block-requires t c κs = block-ending _ _ _ _ _ _ _ _ (c .before .before .before .before .before .before .before .before .before .before .before .before .before .before .pre .1 .0) (sym (c .before .before .before .before .before .before .before .before .before .before .operand .ensures) ∙ c .before .before .before .before .before .before .before .before .before .if1 .taken) _ _ _ (c .before .before .before .before .before .before .run-block .ensures) (c .before .before .before .before .before .before .run-block .kept .1 .1 .1 .1 .1 .0 ∙ c .before .before .before .before .before .before .before .before .before .before .before .before .before .before .pre .1 .0 .ready .many)
+run-inmost-close-block-requires t c κs =
+    let at-run-block = c .before .before .before .before .before .before in
+    let at-if1 = at-run-block .before .before .before in
+    let at-operand = at-if1 .before in
+    let start = at-operand .before .before .before .before in
+    block-ending _ _ _ _ _ _ _ _ (start .pre .1 .0) (sym (at-operand .operand .ensures) ∙ at-if1 .if1 .taken) _ _ _ (at-run-block .run-block .ensures) (at-run-block .run-block .kept .1 .1 .1 .1 .1 .0 ∙ start .pre .1 .0 .ready .many)
 
 run-inmost-same-length : (t : ℕ) → run-inmost-lts.Need-same-length (run-inmost-claims t) (run-inmost-at t) run-inmost.Post
-run-inmost-same-length t c = c .before .before .close-block .ensures .tidy .long ∙ sym (c .before .before .before .before .before .before .before .before .before .before .before .before .before .before .before .before .before .pre .1 .0 .ready .tidy .long)
+run-inmost-same-length t c =
+    let at-close-block = c .before .before in
+    let start = at-close-block .before .before .before .before .before .before .before .before .before .before .before .before .before .before .before in
+    at-close-block .close-block .ensures .tidy .long ∙ sym (start .pre .1 .0 .ready .tidy .long)
 
 run-inmost-same-length-2 : (t : ℕ) → run-inmost-lts.Need-same-length-2 (run-inmost-claims t) (run-inmost-at t) run-inmost.Post
 run-inmost-same-length-2 t c = c .before .before .before .before .before .before .before .before .before .run-block .kept .1 .1 .1 .1 .1 .0
 
 run-inmost-returns : (t : ℕ) → run-inmost-lts.Need-returns (run-inmost-claims t) (run-inmost-at t) run-inmost.Post
-run-inmost-returns t c = block-returns _ _ _ _ _ _ _ _ (c .before .before .before .before .before .before .before .before .before .before .before .before .before .before .before .before .before .pre .1 .0) (sym (c .before .before .before .before .before .before .before .before .before .before .before .before .before .operand .ensures) ∙ c .before .before .before .before .before .before .before .before .before .before .before .before .if1 .taken) _ _ _ (c .before .before .before .before .before .before .before .before .before .run-block .ensures) _ _ (c .before .before .close-block .ensures)
+run-inmost-returns t c =
+    let at-close-block = c .before .before in
+    let at-run-block = at-close-block .before .before .before .before .before .before .before in
+    let at-if1 = at-run-block .before .before .before in
+    let at-operand = at-if1 .before in
+    let start = at-operand .before .before .before .before in
+    block-returns _ _ _ _ _ _ _ _ (start .pre .1 .0) (sym (at-operand .operand .ensures) ∙ at-if1 .if1 .taken) _ _ _ (at-run-block .run-block .ensures) _ _ (at-close-block .close-block .ensures)
 
 run-inmost-run-plain-requires : (t : ℕ) → run-inmost-lts.Need-run-plain-requires (run-inmost-claims t) (run-inmost-at t) run-inmost.Post
-run-inmost-run-plain-requires t c κs = (inmost-ready _ _ _ _ _ _ _ _ (c .before .before .before .before .before .before .pre .1 .0) (c .before .before .before .before .before .before .pre .1 .1) _ (c .before .before .operand .ensures) (c .before .if1 .left), omega (arith, has-room _ _ _ (c .before .before .before .before .before .before .pre .1 .0 .is), c .before .before .before .before .before .before .pre .1 .0 .ready .long))
+run-inmost-run-plain-requires t c κs =
+    let at-if1 = c .before in
+    let at-operand = at-if1 .before in
+    let start = at-operand .before .before .before .before in
+    (inmost-ready _ _ _ _ _ _ _ _ (start .pre .1 .0) (start .pre .1 .1) _ (at-operand .operand .ensures) (at-if1 .if1 .left), omega (arith, has-room _ _ _ (start .pre .1 .0 .is), start .pre .1 .0 .ready .long))
 
 run-inmost-same-length-3 : (t : ℕ) → run-inmost-lts.Need-same-length-3 (run-inmost-claims t) (run-inmost-at t) run-inmost.Post
-run-inmost-same-length-3 t c = c .before .before .run-plain .ensures .ran .tidy .long ∙ sym (c .before .before .before .before .before .before .before .before .before .pre .1 .0 .ready .tidy .long)
+run-inmost-same-length-3 t c =
+    let at-run-plain = c .before .before in
+    let start = at-run-plain .before .before .before .before .before .before .before in
+    at-run-plain .run-plain .ensures .ran .tidy .long ∙ sym (start .pre .1 .0 .ready .tidy .long)
 
 run-inmost-returns-2 : (t : ℕ) → run-inmost-lts.Need-returns-2 (run-inmost-claims t) (run-inmost-at t) run-inmost.Post
-run-inmost-returns-2 t c = inmost-returns _ _ _ _ _ _ _ _ (c .before .before .before .before .before .before .before .before .before .pre .1 .0) (c .before .before .before .before .before .before .before .before .before .pre .1 .1) _ (c .before .before .before .before .before .operand .ensures) (c .before .before .before .before .if1 .left) _ _ (c .before .before .run-plain .ensures)
+run-inmost-returns-2 t c =
+    let at-run-plain = c .before .before in
+    let at-if1 = at-run-plain .before .before in
+    let at-operand = at-if1 .before in
+    let start = at-operand .before .before .before .before in
+    inmost-returns _ _ _ _ _ _ _ _ (start .pre .1 .0) (start .pre .1 .1) _ (at-operand .operand .ensures) (at-if1 .if1 .left) _ _ (at-run-plain .run-plain .ensures)
 
 abbrev run-term-Inv-loop : run-term-lts.InvT-loop
 run-term-Inv-loop rows i levels readings store opened count taken around₀ around = Inwards rows i levels readings store opened count taken around
@@ -203,34 +279,67 @@ run-term-sub-deeper : (t : ℕ) → run-term-lts.Need-sub-deeper (run-term-claim
 run-term-sub-deeper t c = omega (arith, inwards-level _ _ _ _ _ _ _ _ _ (c .before .before .before .loop .inv))
 
 run-term-run-inmost-requires : (t : ℕ) → run-term-lts.Need-run-inmost-requires (run-term-claims t) (run-term-at t) run-term.Post run-term-Inv-loop run-term-μ-loop run-term-Inv-loop2 run-term-μ-loop2
-run-term-run-inmost-requires t c κs = (omega (arith, c .before .before .before .before .before .before .before .before .before .pre .0), (inwards-here _ _ _ _ _ _ _ _ _ (c .before .before .before .before .before .loop .inv), ap wrapsOf (sym (c .before .before .before .before .operand .ensures)) ∙ sym (c .before .before .before .wraps .ensures) ∙ c .before .before .if1 .left))
+run-term-run-inmost-requires t c κs =
+    let at-if1 = c .before .before in
+    let at-wraps = at-if1 .before in
+    let at-operand = at-wraps .before in
+    let at-loop = at-operand .before in
+    let start = at-loop .before .before .before .before in
+    (omega (arith, start .pre .0), (inwards-here _ _ _ _ _ _ _ _ _ (at-loop .loop .inv), ap wrapsOf (sym (at-operand .operand .ensures)) ∙ sym (at-wraps .wraps .ensures) ∙ at-if1 .if1 .left))
 
 run-term-loop2-holds : (t : ℕ) → run-term-lts.Need-loop2-holds (run-term-claims t) (run-term-at t) run-term.Post run-term-Inv-loop run-term-μ-loop run-term-Inv-loop2 run-term-μ-loop2
-run-term-loop2-holds t c = outwards-starts _ _ _ _ _ _ _ _ _ _ (c .before .before .before .before .run-inmost .kept .1 .1 .1 .1 .1 .0 ∙ c .before .before .before .before .before .before .before .before .before .before .before .before .before .before .pre .1 .ready .many)
+run-term-loop2-holds t c =
+    let at-run-inmost = c .before .before .before .before in
+    let start = at-run-inmost .before .before .before .before .before .before .before .before .before .before in
+    outwards-starts _ _ _ _ _ _ _ _ _ _ (at-run-inmost .run-inmost .kept .1 .1 .1 .1 .1 .0 ∙ start .pre .1 .ready .many)
 
 run-term-sub-around : (t : ℕ) → run-term-lts.Need-sub-around (run-term-claims t) (run-term-at t) run-term.Post run-term-Inv-loop run-term-μ-loop run-term-Inv-loop2 run-term-μ-loop2
 run-term-sub-around t c = omega arith
 
 run-term-add-run-after : (t : ℕ) → run-term-lts.Need-add-run-after (run-term-claims t) (run-term-at t) run-term.Post run-term-Inv-loop run-term-μ-loop run-term-Inv-loop2 run-term-μ-loop2
-run-term-add-run-after t c = omega (arith, c .before .loop2 .inv .some, inwards-room _ _ _ _ _ _ _ _ _ (c .before .before .before .before .before .before .before .before .before .before .before .before .loop .inv))
+run-term-add-run-after t c =
+    let at-loop2 = c .before in
+    let at-loop = at-loop2 .before .before .before .before .before .before .before .before .before .before .before in
+    omega (arith, at-loop2 .loop2 .inv .some, inwards-room _ _ _ _ _ _ _ _ _ (at-loop .loop .inv))
 
 run-term-run-after-requires : (t : ℕ) → run-term-lts.Need-run-after-requires (run-term-claims t) (run-term-at t) run-term.Post run-term-Inv-loop run-term-μ-loop run-term-Inv-loop2 run-term-μ-loop2
-run-term-run-after-requires t c κs = outwards-after _ _ _ _ _ _ _ _ _ _ _ _ _ _ (c .before .before .before .loop2 .inv) _ _ (c .before .before .before .before .before .before .before .before .before .before .before .before .before .before .loop .inv) (c .before .before .before .before .before .before .before .before .run-inmost .ensures) (c .before .before .loop2-test .taken)
+run-term-run-after-requires t c κs =
+    let at-loop2-test = c .before .before in
+    let at-loop2 = at-loop2-test .before in
+    let at-run-inmost = at-loop2 .before .before .before .before .before in
+    let at-loop = at-run-inmost .before .before .before .before .before .before in
+    outwards-after _ _ _ _ _ _ _ _ _ _ _ _ _ _ (at-loop2 .loop2 .inv) _ _ (at-loop .loop .inv) (at-run-inmost .run-inmost .ensures) (at-loop2-test .loop2-test .taken)
 
 run-term-loop2-less : (t : ℕ) → run-term-lts.Need-loop2-less (run-term-claims t) (run-term-at t) run-term.Post run-term-Inv-loop run-term-μ-loop run-term-Inv-loop2 run-term-μ-loop2
 run-term-loop2-less t c = omega arith
 
 run-term-loop2-again : (t : ℕ) → run-term-lts.Need-loop2-again (run-term-claims t) (run-term-at t) run-term.Post run-term-Inv-loop run-term-μ-loop run-term-Inv-loop2 run-term-μ-loop2
-run-term-loop2-again t c = outwards-goes _ _ _ _ _ _ _ _ _ _ _ _ _ _ (c .before .before .before .before .before .before .before .before .loop2 .inv) (c .before .before .before .before .before .before .before .loop2-test .taken) _ _ _ (c .before .before .before .before .run-after .ensures) (c .before .before .before .before .run-after .kept .1 .1 .1 .0 ∙ c .before .before .before .before .before .before .before .before .loop2 .inv .long)
+run-term-loop2-again t c =
+    let at-run-after = c .before .before .before .before in
+    let at-loop2-test = at-run-after .before .before .before in
+    let at-loop2 = at-loop2-test .before in
+    outwards-goes _ _ _ _ _ _ _ _ _ _ _ _ _ _ (at-loop2 .loop2 .inv) (at-loop2-test .loop2-test .taken) _ _ _ (at-run-after .run-after .ensures) (at-run-after .run-after .kept .1 .1 .1 .0 ∙ at-loop2 .loop2 .inv .long)
 
 run-term-same-length : (t : ℕ) → run-term-lts.Need-same-length (run-term-claims t) (run-term-at t) run-term.Post run-term-Inv-loop run-term-μ-loop run-term-Inv-loop2 run-term-μ-loop2
-run-term-same-length t c = c .before .loop2 .inv .ran _ _ (c .before .before .before .before .before .before .before .before .before .before .before .before .loop .inv) (c .before .before .before .before .before .before .run-inmost .ensures) .tidy .long ∙ sym (c .before .before .before .before .before .before .before .before .before .before .before .before .before .before .before .before .pre .1 .ready .tidy .long)
+run-term-same-length t c =
+    let at-loop2 = c .before in
+    let at-run-inmost = at-loop2 .before .before .before .before .before in
+    let at-loop = at-run-inmost .before .before .before .before .before .before in
+    let start = at-loop .before .before .before .before in
+    at-loop2 .loop2 .inv .ran _ _ (at-loop .loop .inv) (at-run-inmost .run-inmost .ensures) .tidy .long ∙ sym (start .pre .1 .ready .tidy .long)
 
 run-term-same-length-2 : (t : ℕ) → run-term-lts.Need-same-length-2 (run-term-claims t) (run-term-at t) run-term.Post run-term-Inv-loop run-term-μ-loop run-term-Inv-loop2 run-term-μ-loop2
-run-term-same-length-2 t c = c .before .loop2 .inv .long ∙ sym (c .before .before .before .before .before .before .before .before .before .before .before .before .before .before .before .before .pre .1 .ready .many)
+run-term-same-length-2 t c =
+    let at-loop2 = c .before in
+    let start = at-loop2 .before .before .before .before .before .before .before .before .before .before .before .before .before .before .before in
+    at-loop2 .loop2 .inv .long ∙ sym (start .pre .1 .ready .many)
 
 run-term-returns : (t : ℕ) → run-term-lts.Need-returns (run-term-claims t) (run-term-at t) run-term.Post run-term-Inv-loop run-term-μ-loop run-term-Inv-loop2 run-term-μ-loop2
-run-term-returns t c = outwards-ends _ _ _ _ _ _ _ _ _ _ _ _ _ _ (c .before .loop2 .inv) _ _ (c .before .before .before .before .before .before .before .before .before .before .before .before .loop .inv) (c .before .before .before .before .before .before .run-inmost .ensures) (c .loop2-test .left)
+run-term-returns t c =
+    let at-loop2 = c .before in
+    let at-run-inmost = at-loop2 .before .before .before .before .before in
+    let at-loop = at-run-inmost .before .before .before .before .before .before in
+    outwards-ends _ _ _ _ _ _ _ _ _ _ _ _ _ _ (at-loop2 .loop2 .inv) _ _ (at-loop .loop .inv) (at-run-inmost .run-inmost .ensures) (c .loop2-test .left)
 
 pub +run-block+run-inmost+run-term-spec : {M : Type 1} → statement M
 +run-block+run-inmost+run-term-spec =
