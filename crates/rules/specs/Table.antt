@@ -97,15 +97,17 @@ weightOf s r = pick (heldBy borrowsExclusive s r) 65536 (pick (heldBy borrowsAny
 unfoldable pub weightBelow : ℕ → Slot → ℕ → ℕ
 weightBelow n s r = pick (ltb r n) (weightOf s r) 0
 
+-- What the variables below n add.
 unfoldable pub holders : ℕ → Environment → ℕ → ℕ
 holders zero Γ r = 0
 holders (suc n) Γ r = weightOf (Γ n) r + holders n Γ r
 
+-- The notes f, with that of row y raised where it is less.
 unfoldable pub raisedAt : ℕ → ℕ → (ℕ → ℕ) → ℕ → ℕ
 raisedAt y least f r = pick (eqb y r) (pick (ltb (f r) least) least (f r)) (f r)
 
 -- The notes are right. Two rows follow those of the n variables: the note of the first is no less than any variable's level, that of
--- the second than any number taken.
+-- the second is above any number taken.
 pub record Noted (env : List ℕ) (n : ℕ) : Type 0 where
   pub held : (r : ℕ) → r < n → noteAt env r ≡ holders n (environmentOf env) r
   pub levels : (x : ℕ) → levelOf (environmentOf env x) ≤ noteAt env n

@@ -25,7 +25,7 @@ use crate::table::word_at;
 // In the note of a root each holder of a shared borrow counts 1, each holder of an exclusive one this.
 pub const EXCLUSIVE_HOLDER: u32 = 65536;
 
-// x holds a borrow of a place with the root; any, or an exclusive one. The root is compared first: it seldom is the one.
+// x holds a borrow of a place with the root; any, or an exclusive one.
 fn holds(env: &[u32], x: usize, root: u32, any: bool) -> bool
     requires { ⌜ x * 8 + 8 ≤ length (now env) ⌝ }
     ensures { λ r. ⌜ r ≡ heldBy (borrowsBy any) (environmentOf (now (env .entry)) x) root ⌝ }
@@ -62,7 +62,7 @@ fn weight(env: &[u32], x: usize, root: u32) -> u32
     0
 }
 
-// Takes what x adds out of the note of the root that it borrows.
+// Takes what x adds out of the note of the root that it borrows. Most variables borrow nothing.
 fn forget_holder(env: &mut [u32], variables: usize, x: usize)
     requires { ⌜ (variables * 8 ≤ length (now env)) × (x < variables) × ((r : ℕ) → r < variables → weightOf (environmentOf (now env) x) r ≤ noteAt (now env) r) ⌝ }
     ensures { λ _. ⌜ (environmentOf (now (env .exit)) ≡ environmentOf (now (env .entry))) × ((r : ℕ) → noteAt (now (env .exit)) r + weightBelow variables (environmentOf (now (env .entry)) x) r ≡ noteAt (now (env .entry)) r) ⌝ }
@@ -77,7 +77,7 @@ fn forget_holder(env: &mut [u32], variables: usize, x: usize)
     }
 }
 
-// Adds it.
+// Adds what x adds to that note.
 fn note_holder(env: &mut [u32], variables: usize, x: usize)
     requires { ⌜ (variables * 8 ≤ length (now env)) × (x < variables) × ((r : ℕ) → r < variables → noteAt (now env) r ≤ 8388608) ⌝ }
     ensures { λ _. ⌜ (environmentOf (now (env .exit)) ≡ environmentOf (now (env .entry))) × ((r : ℕ) → noteAt (now (env .exit)) r ≡ noteAt (now (env .entry)) r + weightBelow variables (environmentOf (now (env .entry)) x) r) ⌝ }
