@@ -3,35 +3,18 @@ use Prim.Native.Nat.{ℕ, _+_, _-_, _≤_, _<_}
 use native.Mathlib.Omega.{arith}
 use native.Mathlib.Decide.{ℕ-discrete}
 use mathlib.Core.Path.{_≡_, refl, sym, subst, _∙_}
-use mathlib.Core.Bool.{Bool, true, false, _&&_}
+use mathlib.Core.Logic.{⊎-elim}
+use mathlib.Core.Bool.{true, false}
 use mathlib.Core.List.{List}
-use lib.Dec.{ltb}
 use lib.IntN.{ℤ}
 use lib.ListN.{length}
-use borrow.Author.Tests.{ltb-true, lt-ltb}
+use Rattle.reader.specs.Kinds.{wrapsOf}
+use Rattle.reader.proofs.KindBytes.{wrapping, not-wrapping}
 use Rattle.machine.specs.RowTrees.{fieldIn}
-use Rattle.machine.specs.Parts.{LeafReady, PlainRan, Boxed, Declared, Assigned, wrapsOf, AfterReady, AfterRan, TermReady, TermRan}
+use Rattle.machine.specs.Parts.{LeafReady, PlainRan, Boxed, Declared, Assigned, AfterReady, AfterRan, TermReady, TermRan}
 use Rattle.machine.specs.declared.around.Standing.{Standing}
 use Rattle.machine.proofs.RowLaws.{has-level, has-room, assign-root}
 use Rattle.machine.proofs.TermLaws.{box-ready, box-filling, box-returns, let-ready, let-opening, let-returns, assign-ready, assigning, assign-returns, leaf-ready, leaf-returns, term-room}
-
--- ---- the kinds that stand around a term
-
-wraps-kinds : (k : ℕ) → wrapsOf k ≡ true → (6 < k) × (k < 10)
-unfolding wrapsOf
-wraps-kinds k e = go (ltb 6 k) (ltb k 10) refl refl e
-  where
-    go : (a b : Bool) → ltb 6 k ≡ a → ltb k 10 ≡ b → (a && b) ≡ true → (6 < k) × (k < 10)
-    go true true p q e = (ltb-true 6 k p, ltb-true k 10 q)
-    go true false p q e = let z : _≡_ {A = ℕ} 0 1 = cc in absurd (omega arith)
-    go false b p q e = let z : _≡_ {A = ℕ} 0 1 = cc in absurd (omega arith)
-
-no-wraps : (k : ℕ) → wrapsOf k ≡ false → 6 < k → k < 10 → ⊥
-unfolding wrapsOf
-no-wraps k e p q =
-    let t : _≡_ {A = Bool} true false = sym (rw (lt-ltb 6 k p, lt-ltb k 10 q)) ∙ e in
-    let z : _≡_ {A = ℕ} 0 1 = cc in
-    absurd (omega arith)
 
 -- ---- what follows the inner term
 
@@ -46,11 +29,7 @@ module _ (rows : List ℕ) (i : ℕ) (w opened : List ℕ) (inner : Standing) (w
   after-assign n₇ n₈ b = record { box = λ z. absurd (n₇ (ek ∙ z)); bind = λ z. absurd (n₈ (ek ∙ z)); assign = λ z. (b, refl) }
 
 pub after-last : (k n : ℕ) → k ≡ n → wrapsOf n ≡ true → (k ≡ 7 → ⊥) → (k ≡ 8 → ⊥) → n ≡ 9
-after-last k n e h n₇ n₈ =
-    let a = wraps-kinds n h in
-    let p = a .0 in
-    let q = a .1 in
-    omega arith
+after-last k n e h n₇ n₈ = ⊎-elim (λ z. absurd (n₇ (e ∙ z))) (λ m. ⊎-elim (λ z. absurd (n₈ (e ∙ z))) (λ z. z) m) (wrapping n h)
 
 -- ---- a term around another
 
@@ -87,14 +66,14 @@ module _ (rows : List ℕ) (i levels : ℕ) (readings : List ℤ) (w opened : Li
 
 module _ (rows : List ℕ) (i levels : ℕ) (readings : List ℤ) (w opened : List ℕ) (n taken : ℕ) (g : TermReady rows i levels readings w opened n taken)
     (h : wrapsOf (fieldIn rows i 0) ≡ false) (k : ℕ) (ek : k ≡ fieldIn rows i 0) (d : k ≡ 11 → ⊥) where
-  none : 6 < k → k < 10 → ⊥
-  none p q = no-wraps (fieldIn rows i 0) h (omega arith) (omega arith)
+  other : (k ≡ 7 → ⊥) × (k ≡ 8 → ⊥) × (k ≡ 9 → ⊥)
+  other = not-wrapping ek h
 
   pub inmost-ready : LeafReady rows i readings w
-  inmost-ready = leaf-ready rows i levels readings w opened n taken g k ek (λ z. none (omega arith) (omega arith)) (λ z. none (omega arith) (omega arith)) (λ z. none (omega arith) (omega arith)) d
+  inmost-ready = leaf-ready rows i levels readings w opened n taken g k ek (other .0) (other .1) (other .2) d
 
   pub inmost-returns : (w₁ : List ℕ) (r : Standing) → PlainRan rows i readings w n taken w₁ r → TermRan rows i levels readings w opened n taken w₁ opened r
-  inmost-returns w₁ r x = leaf-returns rows i levels readings w opened n taken g k ek (λ z. none (omega arith) (omega arith)) (λ z. none (omega arith) (omega arith)) (λ z. none (omega arith) (omega arith)) d w₁ r x
+  inmost-returns w₁ r x = leaf-returns rows i levels readings w opened n taken g k ek (other .0) (other .1) (other .2) d w₁ r x
 
 -- ---- the two loops
 

@@ -2,11 +2,12 @@
 -- is stated here. A fault number 0 is no fault.
 use Prim.Native.Nat.{ℕ, zero, suc, _+_, _-_, _*_, _≤_, _<_}
 use mathlib.Core.Path.{_≡_}
-use mathlib.Core.Bool.{Bool, true, _&&_}
+use mathlib.Core.Bool.{true}
 use mathlib.Core.List.{List, [], _∷_}
-use lib.Dec.{eqb, ltb}
+use lib.Dec.{eqb}
 use lib.IntN.{ℤ}
 use lib.ListN.{length, getD, set}
+use Rattle.reader.specs.Kinds.{wrapsOf}
 use Rattle.reader.specs.Result.{Result, ok, err, pick, _>>=_}
 use Rattle.reader.specs.Limits.{base}
 use Rattle.reader.specs.Script.{Place, number}
@@ -244,11 +245,7 @@ pub record BlockClosed (w opened : List ℕ) (i begin : ℕ) (inner : Standing) 
   pub went : r .fault ≡ 0 → Went inner r
   pub count : r .fault ≡ 0 → r .opened ≡ begin
 
--- A kind that stands around one inner term: box, let or assign.
-unfoldable pub wrapsOf : ℕ → Bool
-wrapsOf k = ltb 6 k && ltb k 10
-
--- What follows the inner term of such a term, which is at row i, by its kind.
+-- What follows the inner term of a term around one, which is at row i, by its kind.
 pub record AfterReady (rows : List ℕ) (i : ℕ) (w opened : List ℕ) (inner : Standing) : Type 0 where
   pub room : 5 * i + 5 ≤ length rows
   pub wraps : wrapsOf (fieldIn rows i 0) ≡ true

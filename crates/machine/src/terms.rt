@@ -2,8 +2,9 @@
 ghost use mathlib.Core.Path.{_≡_};
 ghost use mathlib.Core.Bool.{false};
 ghost use Prim.Native.Nat.{_<_};
+ghost use Rattle.reader.specs.Kinds.{wrapsOf};
 ghost use Rattle.machine.specs.RowTrees.{fieldIn};
-ghost use Rattle.machine.specs.Parts.{LeafReady, PlainRan, wrapsOf, AfterReady, AfterRan, TermReady, TermRan, BlockReady, BlockRan};
+ghost use Rattle.machine.specs.Parts.{LeafReady, PlainRan, AfterReady, AfterRan, TermReady, TermRan, BlockReady, BlockRan};
 use crate::around::Standing;
 use crate::around::close_block;
 use crate::around::entered;
@@ -45,7 +46,13 @@ fn run_plain(
 fn wraps(kind: u32) -> bool
     ensures { λ r. ⌜ r ≡ wrapsOf kind ⌝ }
 {
-    6 < kind && kind < 10
+    if kind == 7 {
+        return true;
+    }
+    if kind == 8 {
+        return true;
+    }
+    kind == 9
 }
 
 // What follows the inner term of such a term, which is at row i.

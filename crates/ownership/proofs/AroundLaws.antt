@@ -6,13 +6,11 @@ use native.Mathlib.Decide.{ℕ-discrete}
 use native.Mathlib.Nat.{add-zero}
 use native.Mathlib.Numerals.{add-one}
 use mathlib.Core.Path.{_≡_, refl, sym, _∙_, ap, fun-ext}
-use mathlib.Core.Logic.{_⊎_, inl, inr, ⊎-elim}
+use mathlib.Core.Logic.{_⊎_, ⊎-elim}
 use mathlib.Core.Bool.{Bool, true, false}
 use mathlib.Core.Option.{none, some}
 use mathlib.Core.List.{List}
-use lib.Dec.{leb}
-use borrow.Author.Tests.{leb-true}
-use Rattle.reader.specs.Result.{ok, err, Refusal, need, pick, _>>=_}
+use Rattle.reader.specs.Result.{ok, err, Refusal, need, _>>=_}
 use Rattle.reader.specs.Script.{Term, box, declare, assign}
 use Rattle.rules.specs.declared.table.Place.{Place}
 use Rattle.rules.specs.declared.rules.Requirement.{Requirement}
@@ -27,29 +25,11 @@ use Rattle.rules.specs.Table.{asPlace}
 use Rattle.rules.specs.Verdicts.{begun, asValue, answered}
 use Rattle.ownership.specs.declared.judge.JudgedTerm.{JudgedTerm}
 use Rattle.ownership.specs.RowTrees.{rowNumber, rowPlace, RowTree, IsTree, around, treeAt}
-use Rattle.ownership.specs.JudgeRows.{Ended, ended, judgedAt, judgeAt, wrapsOf, Wraps, beginAt, ruleAfter, afterAt, outwards}
+use Rattle.ownership.specs.JudgeRows.{Ended, ended, judgedAt, judgeAt, Wraps, beginAt, ruleAfter, afterAt, outwards}
+use Rattle.reader.specs.Kinds.{wrapsOf}
+use Rattle.reader.proofs.KindBytes.{wrapping}
 use Rattle.ownership.proofs.RowLaws.{tree-room, box-is, box-inner, let-number, let-is, let-inner, assign-is, assign-inner}
 use Rattle.ownership.proofs.JudgeLaws.{inner-step}
-
-pub wrapping : (k : ℕ) → wrapsOf k ≡ true → (k ≡ 7) ⊎ (k ≡ 8) ⊎ (k ≡ 9)
-unfolding wrapsOf
-wrapping k e = go (leb 7 k) refl e
-  where
-    kinds : 7 ≤ k → k ≤ 9 → Dec (k ≡ 7) → Dec (k ≡ 8) → (k ≡ 7) ⊎ (k ≡ 8) ⊎ (k ≡ 9)
-    kinds a b (yes p) q = inl p
-    kinds a b (no p) (yes q) = inr (inl q)
-    kinds a b (no p) (no q) = inr (inr (omega arith))
-
-    go : (b : Bool) → leb 7 k ≡ b → pick b (leb k 9) false ≡ true → (k ≡ 7) ⊎ (k ≡ 8) ⊎ (k ≡ 9)
-    go true a h = kinds (leb-true 7 k a) (leb-true k 9 h) (ℕ-discrete k 7) (ℕ-discrete k 8)
-    go false a h = let z : _≡_ {A = ℕ} 0 1 = cc in absurd (omega arith)
-
-pub not-wrapping : {k n : ℕ} → k ≡ n → wrapsOf n ≡ false → (k ≡ 7 → ⊥) × (k ≡ 8 → ⊥) × (k ≡ 9 → ⊥)
-unfolding wrapsOf
-not-wrapping {k} {n} q e = (λ h. clash 7 h refl, λ h. clash 8 h refl, λ h. clash 9 h refl)
-  where
-    clash : (m : ℕ) → k ≡ m → wrapsOf m ≡ true → ⊥
-    clash m h t = let z : wrapsOf m ≡ false = rw (← h, q) e in let y : _≡_ {A = ℕ} 0 1 = cc in absurd (omega arith)
 
 -- What a let asks before its inner term.
 begin-ok : (b : Bool) (e : Refusal) (Γ Γ₀ : Environment) → (need b e >>= λ _. ok Γ) ≡ ok Γ₀ → (b ≡ true) × (Γ ≡ Γ₀)

@@ -1,14 +1,14 @@
 -- The judge at a row: the rules' judge at the tree that stands there, and the row after it.
 use Prim.Native.Nat.{ℕ, zero, suc, _+_, _*_, _≤_, _<_}
 use mathlib.Core.Path.{_≡_}
-use mathlib.Core.Bool.{Bool, true, false}
+use mathlib.Core.Bool.{true}
 use mathlib.Core.Option.{Option, none, some}
 use mathlib.Core.List.{List}
-use lib.Dec.{leb, eqb}
+use lib.Dec.{eqb}
 use lib.ListN.{length}
 use Rattle.reader.specs.Result.{ok, err, pick, _>>=_}
 use Rattle.reader.specs.Script.{Place, Term, Terms}
-use Rattle.reader.specs.Kinds.{Kind, kNumber, kReading, kCopy, kMove, kShared, kExclusive, kBox, kLet, kAssign, kBelow, kBlock}
+use Rattle.reader.specs.Kinds.{Kind, kNumber, kReading, kCopy, kMove, kShared, kExclusive, kBox, kLet, kAssign, kBelow, kBlock, wrapsOf}
 use Rattle.rules.specs.declared.verdicts.Value.{Value}
 use Rattle.rules.specs.Environment.{Environment}
 use Rattle.rules.specs.Rules.{Judged, Out, numberTy, judgeCopy, judgeMove, judgeShared, judgeExclusive, judgeBox, judgeLet, judgeAssign, judgeBelow}
@@ -39,11 +39,7 @@ judgeAt nv d level Γ = judgedAt (λ t. judge nv t level Γ) d
 abbrev pub judgesAt : ℕ → RowTree Terms → ℕ → Environment → Ended
 judgesAt nv d level Γ = judgedAt (λ ts. judges nv ts level Γ) d
 
--- A kind that stands around one inner term: box, let or assign.
-unfoldable pub wrapsOf : ℕ → Bool
-wrapsOf k = pick (leb 7 k) (leb k 9) false
-
--- Such a term at row i.
+-- At row i stands a term around one inner term.
 pub record Wraps (nv : ℕ) (rows : List ℕ) (i : ℕ) : Type 0 where
   pub room : 5 * i + 5 ≤ length rows
   pub kind : wrapsOf (rowNumber rows i 0) ≡ true

@@ -2,12 +2,12 @@
 ghost use mathlib.Core.Path.{_≡_};
 ghost use mathlib.Core.Bool.{false};
 ghost use Prim.Native.Nat.{_<_, _+_};
-ghost use Rattle.reader.specs.Kinds.{kindOf};
+ghost use Rattle.reader.specs.Kinds.{kindOf, wrapsOf};
 ghost use Rattle.rules.specs.Judge.{nothingTaken};
 ghost use Rattle.rules.specs.Table.{TableFor, environmentOf, asPlace};
 ghost use Rattle.rules.specs.Verdicts.{asRequirement, begun, answered};
 ghost use Rattle.ownership.specs.RowTrees.{rowNumber, IsTree, treeAt};
-ghost use Rattle.ownership.specs.JudgeRows.{judgeLeaf, ended, judgeAt, wrapsOf, Wraps, beginAt, afterAt, IsRest, restAt, scriptAt};
+ghost use Rattle.ownership.specs.JudgeRows.{judgeLeaf, ended, judgeAt, Wraps, beginAt, afterAt, IsRest, restAt, scriptAt};
 use crate::row;
 use crate::row::index_at;
 use crate::row::number_at;
@@ -61,10 +61,13 @@ fn judge_leaf(
 fn wraps(kind: u32) -> bool
     ensures { λ r. ⌜ r ≡ wrapsOf kind ⌝ }
 {
-    if kind < row::BOX {
-        return false;
+    if kind == row::BOX {
+        return true;
     }
-    kind <= row::ASSIGN
+    if kind == row::LET {
+        return true;
+    }
+    kind == row::ASSIGN
 }
 
 // What comes before the inner term of such a term: a let takes its number.

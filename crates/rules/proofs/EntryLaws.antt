@@ -1,7 +1,7 @@
 -- An entry that the code has loaded, in the rules' terms: in scope, or not.
 use Prim.Native.Nat.{ℕ, _<_}
 use native.Mathlib.Omega.{arith}
-use native.Mathlib.Decide.{ℕ-discrete, decLt}
+use native.Mathlib.Decide.{ℕ-discrete}
 use mathlib.Core.Path.{_≡_, refl, fun-ext}
 use mathlib.Core.Logic.{⊎-elim}
 use mathlib.Core.Bool.{false}
@@ -19,7 +19,7 @@ use Rattle.rules.specs.Environment.{Borrow, live, update, refilled}
 use Rattle.rules.specs.Follow.{wholeAt}
 use Rattle.rules.specs.Rules.{inScope}
 use Rattle.rules.specs.Table.{entryAt, asVariable, asSlot, environmentOf, TableFor}
-use Rattle.rules.proofs.NotedLaws.{entry-past}
+use Rattle.rules.proofs.NotedLaws.{live-inside}
 
 -- What an `else` knows: the entry is one of the first two.
 abbrev pub NotLive : Entry → Type 0
@@ -31,11 +31,7 @@ module _ (l : List ℕ) (x : ℕ) (e : Entry) (loaded : e ≡ entryAt l x) where
   slot-live v q = rw (← loaded, q)
 
   pub in-range : (n : ℕ) (v : VariableState) → TableFor l n → e ≡ entry.Live v → x < n
-  in-range n v T q = go (decLt x n)
-    where
-      go : Dec (x < n) → x < n
-      go (yes b) = b
-      go (no b) = let f = entry-past l n T x (omega arith) in let z : _≡_ {A = ℕ} 0 1 = cc in absurd (omega arith)
+  in-range n v T q = live-inside l n T x (asVariable v) (slot-live v q)
 
   pub not-in-scope : (r : Refusal) → NotLive e → inScope (environmentOf l x) r ≡ err r
   unfolding environmentOf inScope asSlot

@@ -1,5 +1,5 @@
 -- Terms and blocks, which call each other. The measure is three times the levels left, one more for a term and two for a block. The block's loop has the invariant `Going`, the term's two loops `Inwards` and `Outwards`. Assumes nothing.
-use Rattle.machine.specs.Parts.{wrapsOf}
+use Rattle.reader.specs.Kinds.{wrapsOf}
 use Rattle.machine.proofs.BlockRunLaws.{Going, going-ends, going-drops, turn-ready, going-stops, going-goes, going-enters, block-ready, block-ending, block-returns}
 use Rattle.machine.proofs.RowLaws.{has-level, has-room}
 use Rattle.machine.proofs.WrapLaws.{inmost-ready, inmost-returns, Inwards, Outwards, inwards-starts, inwards-here, inwards-room, inwards-level, inwards-goes, outwards-starts, outwards-ends, outwards-after, outwards-goes}

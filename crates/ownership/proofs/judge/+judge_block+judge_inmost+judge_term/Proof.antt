@@ -10,10 +10,12 @@ use Rattle.rules.specs.declared.verdicts.Verdict.the-variants as verdict
 use Rattle.rules.specs.Table.{TableFor, environmentOf}
 use Rattle.rules.specs.Verdicts.{answered}
 use Rattle.reader.specs.Result.{_>>=_}
+use Rattle.reader.specs.Kinds.{wrapsOf}
+use Rattle.reader.proofs.KindBytes.{not-wrapping}
 use Rattle.ownership.specs.RowTrees.{treeAt}
-use Rattle.ownership.specs.JudgeRows.{ended, wrapsOf, outwards, IsRest, restAt}
+use Rattle.ownership.specs.JudgeRows.{ended, outwards, IsRest, restAt}
 use Rattle.ownership.proofs.RowLaws.{tree-level, tree-room, block-rest}
-use Rattle.ownership.proofs.AroundLaws.{not-wrapping, met-begun, refused-begun, wrapped, Inwards, inwards-start, inwards-more, inwards-refused, outwards-less, outwards-none}
+use Rattle.ownership.proofs.AroundLaws.{met-begun, refused-begun, wrapped, Inwards, inwards-start, inwards-more, inwards-refused, outwards-less, outwards-none}
 use Rattle.ownership.proofs.BlockTerm.{block-refused, block-fine}
 use Rattle.ownership.proofs.LeafLaws.{leaf-judged}
 use Rattle.ownership.proofs.BlockLaws.{first-is, rest-refused, rest-fine, rest-none}
