@@ -5,12 +5,16 @@ use native.Mathlib.Numerals.{sub-one}
 use native.Mathlib.Decide.{ℕ-discrete, decLt}
 use mathlib.Core.Path.{_≡_, refl, sym, ap, _∙_}
 use mathlib.Core.Bool.{true, false}
+use mathlib.Core.Option.{none, some}
 use mathlib.Core.List.{List, [], _∷_}
 use lib.Dec.{leb, ltb, eqb}
 use lib.ListN.{length, take, drop}
 use borrow.Author.Tests.{eq-eqb, ne-eqb, lt-ltb, le-ltb, le-leb, lt-leb, leb-true}
+use Rattle.reader.specs.Result.{pick}
+use Rattle.rules.specs.declared.chains.Rest.{Rest}
+use Rattle.rules.specs.declared.chains.Rest.the-variants as rest
 use Rattle.rules.specs.Links.{Link, maxLinks, leadingBoxes, noShared, isNumber, copies}
-use Rattle.rules.specs.Chains.{linkOf, chainBy, chainOf, oneMoreFits}
+use Rattle.rules.specs.Chains.{linkOf, chainBy, chainOf, restOf, asRest, oneMoreFits}
 
 -- Any bound that is large enough gives the same chain.
 bounded : (f g n : ℕ) → n ≤ f → n ≤ g → chainBy f n ≡ chainBy g n
@@ -135,21 +139,50 @@ pub without-none : (n : ℕ) → n ≤ 0 → chainOf 0 ≡ drop 1 (chainOf n)
 unfolding chainOf chainBy
 without-none n h = rw (chain-none n h)
 
-pub from-more : (n r left : ℕ) → 0 < left → chainOf r ≡ drop 1 (chainOf n) → drop (left - 1) (chainOf r) ≡ drop left (chainOf n)
-from-more n r zero h e = absurd (omega arith)
-from-more n r (suc j) h e = rw (sub-one, e) (go (chainOf n))
+pub rest-short : (n left : ℕ) → 0 < left → n ≡ 0 → restOf left (chainOf n) ≡ none
+unfolding restOf
+rest-short n left h e = rw (chain-none n (omega arith), lt-leb left 0 h)
+
+rest-less : (j : ℕ) (k : Link) (ks : List Link) → restOf j ks ≡ restOf (suc j) (k ∷ ks)
+unfolding restOf
+rest-less j k ks = go (decLt (length ks) j)
   where
-    nil : (j : ℕ) → _≡_ {A = List Link} (drop j []) []
-    nil zero = refl
-    nil (suc j) = refl
+    go : Dec (length ks < j) → pick (leb j (length ks)) (some (drop j ks)) none ≡ pick (leb (suc j) (suc (length ks))) (some (drop j ks)) none
+    go (yes h) = rw (lt-leb j (length ks) h, lt-leb (suc j) (suc (length ks)) (omega arith))
+    go (no h) = rw (le-leb j (length ks) (omega arith), le-leb (suc j) (suc (length ks)) (omega arith))
 
-    go : (ks : List Link) → drop j (drop 1 ks) ≡ drop (suc j) ks
-    go [] = nil j
-    go (k ∷ ks) = refl
+pub rest-more : (n r left : ℕ) → 0 < left → (n ≡ 0 → ⊥) → chainOf r ≡ drop 1 (chainOf n) → restOf (left - 1) (chainOf r) ≡ restOf left (chainOf n)
+rest-more n r zero h z e = absurd (omega arith)
+rest-more n r (suc j) h z e = rw (sub-one, e, chain-pos n (omega arith)) (rest-less j (linkOf ((n - 1) % 3)) (chainOf ((n - 1) / 3)))
 
-pub from-end : (left n : ℕ) (ks : List Link) → left ≤ 0 → drop left (chainOf n) ≡ ks → chainOf n ≡ ks
-from-end zero n ks h e = e
-from-end (suc j) n ks h e = absurd (omega arith)
+pub rest-end : (left n : ℕ) → left ≤ 0 → restOf left (chainOf n) ≡ some (chainOf n)
+unfolding restOf
+rest-end zero n h = rw (le-leb 0 (length (chainOf n)) (omega arith))
+rest-end (suc j) n h = absurd (omega arith)
+
+-- What the code is told of the chain from link k on.
+module _ {r : Rest} (k : ℕ) (ks : List Link) (answered : asRest r ≡ restOf k ks) where
+  pub rest-there : {n : ℕ} → r ≡ rest.Links n → (k ≤ length ks) × (drop k ks ≡ chainOf n)
+  unfolding asRest restOf
+  rest-there {n} e = go (decLt (length ks) k)
+    where
+      told : some (chainOf n) ≡ pick (leb k (length ks)) (some (drop k ks)) none
+      told = ap asRest (sym e) ∙ answered
+
+      go : Dec (length ks < k) → (k ≤ length ks) × (drop k ks ≡ chainOf n)
+      go (yes h) = let w = told ∙ ap (λ b. pick b (some (drop k ks)) none) (lt-leb k (length ks) h) in let z : _≡_ {A = ℕ} 0 1 = cc in absurd (omega arith)
+      go (no h) = let w = told ∙ ap (λ b. pick b (some (drop k ks)) none) (le-leb k (length ks) (omega arith)) in (omega arith, cc)
+
+  pub rest-missing : r ≡ rest.TooShort → length ks < k
+  unfolding asRest restOf
+  rest-missing e = go (decLt (length ks) k)
+    where
+      told : none ≡ pick (leb k (length ks)) (some (drop k ks)) none
+      told = ap asRest (sym e) ∙ answered
+
+      go : Dec (length ks < k) → length ks < k
+      go (yes h) = h
+      go (no h) = let w = told ∙ ap (λ b. pick b (some (drop k ks)) none) (le-leb k (length ks) (omega arith)) in let z : _≡_ {A = ℕ} 0 1 = cc in absurd (omega arith)
 
 -- Only boxes and exclusive links.
 shared-none : (j : ℕ) → noShared (take j []) ≡ true

@@ -1,21 +1,18 @@
 -- An entry that the code has loaded, in the rules' terms: in scope, or not.
 use Prim.Native.Nat.{ℕ, _<_}
 use native.Mathlib.Omega.{arith}
-use native.Mathlib.Decide.{ℕ-discrete}
-use mathlib.Core.Path.{_≡_, refl, fun-ext}
+use mathlib.Core.Path.{_≡_, refl}
 use mathlib.Core.Logic.{⊎-elim}
 use mathlib.Core.Bool.{false}
 use mathlib.Core.List.{List, [], _∷_}
-use lib.Dec.{eqb}
-use borrow.Author.Tests.{eq-eqb, ne-eqb}
 use types.Run.{OneOf}
 use denote.Enum.Declared.{tagOf}
-use Rattle.reader.specs.Result.{err, Refusal, pick}
+use Rattle.reader.specs.Result.{err, Refusal}
 use Rattle.rules.specs.declared.table.VariableState.{VariableState}
 use Rattle.rules.specs.declared.table.Entry.{Entry}
 use Rattle.rules.specs.declared.table.Entry.the-variants as entry
 use Rattle.rules.proofs.table.Entry.{the-type}
-use Rattle.rules.specs.Environment.{Borrow, live, update, refilled}
+use Rattle.rules.specs.Environment.{live}
 use Rattle.rules.specs.Follow.{wholeAt}
 use Rattle.rules.specs.Rules.{inScope}
 use Rattle.rules.specs.Table.{entryAt, asVariable, asSlot, environmentOf, TableFor}
@@ -50,20 +47,3 @@ module _ (l : List ℕ) (x : ℕ) (e : Entry) (loaded : e ≡ entryAt l x) where
       go entry.Free h = refl
       go entry.Used h = refl
       go (entry.Live v) h = ⊎-elim (λ z. absurd (omega arith)) (λ z. absurd (omega arith)) h
-
-  same-slot : (b : Borrow) → NotLive e → refilled (environmentOf l x) b ≡ environmentOf l x
-  unfolding environmentOf asSlot
-  same-slot b h = rw (← loaded) (go e h)
-    where
-      go : (e : Entry) → NotLive e → refilled (asSlot e) b ≡ asSlot e
-      go entry.Free h = refl
-      go entry.Used h = refl
-      go (entry.Live v) h = ⊎-elim (λ z. absurd (omega arith)) (λ z. absurd (omega arith)) h
-
-  pub refilled-none : (b : Borrow) → NotLive e → environmentOf l ≡ update (environmentOf l) x (refilled (environmentOf l x) b)
-  unfolding update
-  refilled-none b h = fun-ext λ y. go y (ℕ-discrete x y)
-    where
-      go : (y : ℕ) → Dec (x ≡ y) → environmentOf l y ≡ pick (eqb x y) (refilled (environmentOf l x) b) (environmentOf l y)
-      go y (yes q) = rw (eq-eqb x y q, same-slot b h, q)
-      go y (no q) = rw (ne-eqb x y q)

@@ -34,11 +34,11 @@ other-root any k r f root n = go any (eqb k 1) (eqb k 2)
     go false false true = ne-eqb r root n
     go false false false = refl
 
-pick-false : (b : Bool) → pick b false false ≡ false
+pub pick-false : (b : Bool) → pick b false false ≡ false
 pick-false true = refl
 pick-false false = refl
 
-pick-true : (b : Bool) → pick b true false ≡ b
+pub pick-true : (b : Bool) → pick b true false ≡ b
 pick-true true = refl
 pick-true false = refl
 

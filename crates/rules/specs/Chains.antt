@@ -2,8 +2,12 @@
 use Prim.Native.Nat.{ℕ, zero, suc, _/_, _%_}
 use mathlib.Core.Bool.{Bool}
 use mathlib.Core.List.{List, [], _∷_}
-use lib.ListN.{length}
+use mathlib.Core.Option.{Option, none, some}
+use lib.ListN.{length, drop}
 use lib.Dec.{leb}
+use Rattle.reader.specs.Result.{pick}
+use Rattle.rules.specs.declared.chains.Rest.{Rest}
+use Rattle.rules.specs.declared.chains.Rest.the-variants as rest
 use Rattle.rules.specs.Links.{Link, boxed, shared, exclusive, maxLinks}
 
 -- The link of a digit less one.
@@ -20,6 +24,14 @@ chainBy (suc f) (suc n) = linkOf (n % 3) ∷ chainBy f (n / 3)
 
 unfoldable pub chainOf : ℕ → List Link
 chainOf n = chainBy n n
+
+-- The links from link k on, where k links come before.
+unfoldable pub restOf : ℕ → List Link → Option (List Link)
+restOf k ks = pick (leb k (length ks)) (some (drop k ks)) none
+
+unfoldable pub asRest : Rest → Option (List Link)
+asRest (rest.Links n) = some (chainOf n)
+asRest rest.TooShort = none
 
 -- One more link makes at most 8.
 abbrev pub oneMoreFits : ℕ → Bool

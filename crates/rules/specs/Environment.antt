@@ -44,6 +44,12 @@ fresh ks b l = record { chain = ks; movedFrom = suc (leadingBoxes ks); borrow = 
 abbrev pub movedAway : Variable → ℕ → Variable
 movedAway v d = record { chain = v .chain; movedFrom = d; borrow = v .borrow; level = v .level }
 
+-- The same of a number: what is not in scope stays as it is.
+abbrev pub movedAwayAt : Slot → ℕ → Slot
+movedAwayAt free d = free
+movedAwayAt used d = used
+movedAwayAt (live v) d = live (movedAway v d)
+
 -- A variable that a value is written to: whole again, with the new value's borrow end.
 abbrev pub refilled : Slot → Borrow → Slot
 refilled free b = free

@@ -3,7 +3,7 @@ use Prim.Native.Nat.{ℕ}
 use mathlib.Core.Path.{_≡_}
 use mathlib.Core.Option.{Option, none, some}
 use mathlib.Core.List.{List}
-use lib.ListN.{length}
+use lib.ListN.{length, drop}
 use lib.Dec.{leb}
 use Rattle.reader.specs.Result.{ok, err, need, _>>=_}
 use Rattle.reader.specs.Script.{Place}
@@ -23,12 +23,12 @@ use Rattle.rules.specs.Judge.{isAnswer}
 use Rattle.rules.specs.Chains.{chainOf}
 use Rattle.rules.specs.Table.{asBorrow}
 
--- Of a place's root the code keeps the links.
-unfoldable pub foundOf : Judged rules.Located → Judged (List Link × Place)
-foundOf judged = judged >>= λ l. ok (l .root .chain, l .to)
+-- Of a place's root the code keeps the links, and those after its k follows.
+unfoldable pub foundOf : ℕ → Judged rules.Located → Judged (List Link × List Link × Place)
+foundOf k judged = judged >>= λ l. ok (l .root .chain, drop k (l .root .chain), l .to)
 
-unfoldable pub asLocated : Located → Judged (List Link × Place)
-asLocated (located.At links x r) = ok (chainOf links, record { root = x; follows = r })
+unfoldable pub asLocated : Located → Judged (List Link × List Link × Place)
+asLocated (located.At links rest x r) = ok (chainOf links, chainOf rest, record { root = x; follows = r })
 asLocated (located.Refused n at) = err (n, at)
 
 unfoldable pub asRequirement : Requirement → Judged (Unit {0})

@@ -6,7 +6,7 @@ ghost use mathlib.Core.List.{_∷_};
 ghost use Prim.Native.Nat.{_<_, _≤_, _+_, _*_, _-_};
 ghost use lib.ListN.{length, take, drop};
 ghost use Rattle.rules.specs.Links.{leadingBoxes, noShared, isNumber, copies};
-ghost use Rattle.rules.specs.Chains.{linkOf, chainOf, oneMoreFits};
+ghost use Rattle.rules.specs.Chains.{linkOf, chainOf, asRest, restOf, oneMoreFits};
 
 // The digits.
 pub const BOX: u32 = 1;
@@ -65,17 +65,26 @@ fn without_first(links: u32) -> u32
     if 0 < links { (links - 1) / 3 } else { 0 }
 }
 
-// The chain from link k on.
-pub fn links_from(links: u32, k: usize) -> u32
-    ensures { λ r. ⌜ chainOf r ≡ drop k (chainOf links) ⌝ }
+// The chain from some link on, or no such link.
+pub enum Rest {
+    Links(u32),
+    TooShort,
+}
+
+// The chain from link k on, where k links come before.
+pub fn links_from(links: u32, k: usize) -> Rest
+    ensures { λ r. ⌜ asRest r ≡ restOf k (chainOf links) ⌝ }
 {
     let mut rest = links;
     let mut left = k;
     while 0 < left {
+        if rest == 0 {
+            return Rest::TooShort;
+        }
         rest = without_first(rest);
         left -= 1;
     }
-    rest
+    Rest::Links(rest)
 }
 
 // Only boxes and exclusive links before link k.

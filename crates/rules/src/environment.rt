@@ -2,11 +2,10 @@
 ghost use mathlib.Core.Path.{_≡_};
 ghost use Prim.Native.Nat.{_≤_, _+_, _*_};
 ghost use lib.ListN.{length};
-ghost use Rattle.rules.specs.Environment.{update, fresh, refilled, isFree, levelOf, borrowOf, livesAt, leave};
+ghost use Rattle.rules.specs.Environment.{fresh, isFree, levelOf, borrowOf, livesAt, leave};
 ghost use Rattle.rules.specs.Chains.{chainOf};
 ghost use Rattle.rules.specs.Table.{TableFor, environmentOf, asBorrow, asVariable, isDeeper};
 use crate::chains::leading_boxes;
-use crate::notes::store;
 use crate::notes::take_number;
 use crate::table::BorrowEnd;
 use crate::table::Entry;
@@ -81,27 +80,15 @@ pub fn fresh_state(links: u32, end: BorrowEnd, level: u32) -> VariableState
     }
 }
 
-// A value is written to x: whole again, with the new value's borrow end.
-pub fn refill(env: &mut [u32], variables: usize, x: usize, end: BorrowEnd)
-    requires { ⌜ TableFor (now env) variables ⌝ }
-    ensures { λ _. ⌜ (environmentOf (now (env .exit)) ≡ update (environmentOf (now (env .entry))) x (refilled (environmentOf (now (env .entry)) x) (asBorrow end))) × TableFor (now (env .exit)) variables ⌝ }
-{
-    let entry = load(env, variables, x);
-    if let Entry::Live(state) = entry {
-        let whole = fresh_state(state.links, end, state.level);
-        store(env, variables, x, whole);
-    }
-}
-
 // In scope, in a block inside that of the level.
 fn is_deeper(env: &[u32], x: usize, level: u32) -> bool
     requires { ⌜ x * 8 + 8 ≤ length (now env) ⌝ }
     ensures { λ r. ⌜ r ≡ isDeeper (now (env .entry)) x level ⌝ }
 {
-    if word_at(env, x, STATUS) < LIVE {
+    if word_at(env, x, LEVEL) <= level {
         return false;
     }
-    level < word_at(env, x, LEVEL)
+    LIVE <= word_at(env, x, STATUS)
 }
 
 // The variables of the blocks inside that of the level leave scope. Most blocks have none.

@@ -1,7 +1,8 @@
 // Following a place: to one of a variable's own links, through its boxes, and beyond its borrow link through the borrowed place.
 ghost use mathlib.Core.Path.{_≡_};
 ghost use mathlib.Core.Option.{some};
-ghost use Prim.Native.Nat.{_≤_};
+ghost use Prim.Native.Nat.{_≤_, _+_};
+ghost use lib.ListN.{length};
 ghost use Rattle.rules.specs.Chains.{chainOf};
 ghost use Rattle.rules.specs.Follow.{follow, wholeAt, wholeTo};
 ghost use Rattle.rules.specs.Table.{TableFor, entryAt, environmentOf};
@@ -115,20 +116,21 @@ fn link_whole(env: &[u32], variables: usize, y: usize, link: usize) -> bool
     link < wide(end.moved_from)
 }
 
-// The same as `value_whole` of the place's root, where the place is known to lead to that link of y. Most places name
-// the end of the chain, so there is nothing more to follow.
+// The same as `value_whole` of the place's root, where the place is known to lead to that link of y, and `rest` are the
+// links after its follows. Most places name the end of the chain, so there is nothing more to follow.
 pub fn whole_at(
     env: &[u32],
     variables: usize,
     place: Place,
     links: u32,
+    rest: u32,
     y: usize,
     link: usize,
 ) -> bool
-    requires { ⌜ TableFor (now env) variables × (follow variables (environmentOf (now env)) (place .root) (place .follows) ≡ some (record { root = y; follows = link })) ⌝ }
+    requires { ⌜ TableFor (now env) variables × (follow variables (environmentOf (now env)) (place .root) (place .follows) ≡ some (record { root = y; follows = link })) × (length (chainOf links) ≡ place .follows + length (chainOf rest)) ⌝ }
     ensures { λ r. ⌜ r ≡ wholeTo variables (environmentOf (now (env .entry))) (place .root) (chainOf links) ⌝ }
 {
-    if chain_length(links) == wide(place.follows) {
+    if rest == 0 {
         return link_whole(env, variables, y, link);
     }
     value_whole(env, variables, wide(place.root), links)

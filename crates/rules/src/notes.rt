@@ -4,11 +4,12 @@ ghost use mathlib.Core.Path.{_≡_};
 ghost use Prim.Native.Nat.{ℕ, _<_, _≤_, _+_, _*_};
 ghost use lib.ListN.{length};
 ghost use Rattle.rules.specs.Bars.{heldBy};
-ghost use Rattle.rules.specs.Environment.{used, live, update};
-ghost use Rattle.rules.specs.Table.{TableFor, environmentOf, asVariable, borrowsBy, noteAt, weightOf, weightBelow, raisedAt};
+ghost use Rattle.rules.specs.Environment.{used, live, update, movedAwayAt, refilled};
+ghost use Rattle.rules.specs.Table.{TableFor, environmentOf, asBorrow, asVariable, borrowsBy, noteAt, weightOf, weightBelow, raisedAt};
 use crate::chains::leading_boxes;
 use crate::table::BORROW;
 use crate::table::BORROWED_ROOT;
+use crate::table::BorrowEnd;
 use crate::table::EXCLUSIVE;
 use crate::table::LINKS;
 use crate::table::LIVE;
@@ -18,7 +19,9 @@ use crate::table::SHARED;
 use crate::table::STATUS;
 use crate::table::VariableState;
 use crate::table::put_live;
+use crate::table::put_moved;
 use crate::table::put_used;
+use crate::table::put_whole;
 use crate::table::wide;
 use crate::table::word_at;
 
@@ -122,4 +125,26 @@ pub fn take_number(env: &mut [u32], variables: usize, x: usize)
     forget_holder(env, variables, x);
     put_used(env, x);
     raise_note(env, variables + 1, (x + 1) as u32);
+}
+
+// The links of x from k on are moved away.
+pub fn move_away(env: &mut [u32], variables: usize, x: usize, k: u32)
+    requires { ⌜ TableFor (now env) variables × (x < variables) ⌝ }
+    ensures { λ _. ⌜ (environmentOf (now (env .exit)) ≡ update (environmentOf (now (env .entry))) x (movedAwayAt (environmentOf (now (env .entry)) x) k)) × TableFor (now (env .exit)) variables ⌝ }
+{
+    forget_holder(env, variables, x);
+    put_moved(env, x, k);
+    note_holder(env, variables, x);
+}
+
+// A value is written to x: whole again, with the new value's borrow end.
+pub fn refill(env: &mut [u32], variables: usize, x: usize, end: BorrowEnd)
+    requires { ⌜ TableFor (now env) variables ⌝ }
+    ensures { λ _. ⌜ (environmentOf (now (env .exit)) ≡ update (environmentOf (now (env .entry))) x (refilled (environmentOf (now (env .entry)) x) (asBorrow end))) × TableFor (now (env .exit)) variables ⌝ }
+{
+    if x < variables {
+        forget_holder(env, variables, x);
+        put_whole(env, x, end);
+        note_holder(env, variables, x);
+    }
 }

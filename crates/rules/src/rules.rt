@@ -9,8 +9,8 @@ use crate::bars::read_barred;
 use crate::bars::write_barred;
 use crate::chains::BOX;
 use crate::chains::EXCLUSIVE;
+use crate::chains::Rest;
 use crate::chains::SHARED;
-use crate::chains::chain_length;
 use crate::chains::is_copied;
 use crate::chains::is_number;
 use crate::chains::leading_boxes;
@@ -22,18 +22,18 @@ use crate::environment::is_free;
 use crate::environment::leave_blocks;
 use crate::environment::level_at;
 use crate::environment::lives_at;
-use crate::environment::refill;
 use crate::follow::Followed;
 use crate::follow::follow_place;
 use crate::follow::value_whole;
 use crate::follow::whole_at;
+use crate::notes::move_away;
+use crate::notes::refill;
 use crate::notes::store;
 use crate::notes::take_number;
 use crate::refusals;
 use crate::table::BorrowEnd;
 use crate::table::Entry;
 use crate::table::Place;
-use crate::table::VariableState;
 use crate::table::load;
 use crate::table::wide;
 use crate::verdicts::Value;
@@ -43,9 +43,10 @@ use crate::verdicts::longer_value;
 use crate::verdicts::number_value;
 use crate::verdicts::value_of;
 
-// The links of the place's root, with the variable and its own link that the place leads to; or the refusal.
+// The links of the place's root, those of them after the follows, and the variable and its own link that the place
+// leads to; or the refusal.
 pub enum Located {
-    At(u32, usize, usize),
+    At(u32, u32, usize, usize),
     Refused(u32, usize),
 }
 
@@ -57,7 +58,7 @@ pub enum Requirement {
 // "Judging a place, in order: root in scope (31), long enough chain (32), nothing moved away on the path (33)."
 pub fn judge_place(env: &[u32], variables: usize, term: usize, place: Place) -> Located
     requires { ⌜ TableFor (now env) variables ⌝ }
-    ensures { λ r. ⌜ asLocated r ≡ foundOf (judgePlace variables (environmentOf (now (env .entry))) term (asPlace place)) ⌝ }
+    ensures { λ r. ⌜ asLocated r ≡ foundOf (place .follows) (judgePlace variables (environmentOf (now (env .entry))) term (asPlace place)) ⌝ }
 {
     let root = wide(place.root);
     let follows = wide(place.follows);
@@ -65,26 +66,27 @@ pub fn judge_place(env: &[u32], variables: usize, term: usize, place: Place) -> 
     let Entry::Live(state) = entry else {
         return Located::Refused(refusals::NOT_IN_SCOPE, term);
     };
-    if chain_length(state.links) < follows {
+    let after = links_from(state.links, follows);
+    let Rest::Links(rest) = after else {
         return Located::Refused(refusals::CHAIN_TOO_SHORT, term);
-    }
+    };
     let followed = follow_place(env, variables, root, follows);
     let Followed::At(variable, link) = followed else {
         return Located::Refused(refusals::MOVED_AWAY, term);
     };
-    Located::At(state.links, variable, link)
+    Located::At(state.links, rest, variable, link)
 }
 
 // The place of copy, shared borrow and below: "place; value whole (33); reading not barred (34)".
 pub fn judge_readable(env: &[u32], variables: usize, term: usize, place: Place) -> Located
     requires { ⌜ TableFor (now env) variables ⌝ }
-    ensures { λ r. ⌜ asLocated r ≡ foundOf (judgeReadable variables (environmentOf (now (env .entry))) term (asPlace place)) ⌝ }
+    ensures { λ r. ⌜ asLocated r ≡ foundOf (place .follows) (judgeReadable variables (environmentOf (now (env .entry))) term (asPlace place)) ⌝ }
 {
     let located = judge_place(env, variables, term, place);
-    let Located::At(links, variable, link) = located else {
+    let Located::At(links, rest, variable, link) = located else {
         return located;
     };
-    if !whole_at(env, variables, place, links, variable, link) {
+    if !whole_at(env, variables, place, links, rest, variable, link) {
         return Located::Refused(refusals::MOVED_AWAY, term);
     }
     if read_barred(env, variables, place.root) {
@@ -101,8 +103,7 @@ pub fn judge_copy(env: &[u32], variables: usize, term: usize, place: Place) -> V
     let located = judge_readable(env, variables, term, place);
     match located {
         Located::Refused(number, at) => Verdict::Refused(number, at),
-        Located::At(links, variable, _) => {
-            let rest = links_from(links, wide(place.follows));
+        Located::At(_, rest, variable, _) => {
             if !is_copied(rest) {
                 return Verdict::Refused(refusals::NOT_COPIED, term);
             }
@@ -127,9 +128,10 @@ pub fn judge_move(env: &mut [u32], variables: usize, term: usize, place: Place) 
     let Entry::Live(state) = entry else {
         return Verdict::Refused(refusals::NOT_IN_SCOPE, term);
     };
-    if chain_length(state.links) < follows {
+    let after = links_from(state.links, follows);
+    let Rest::Links(rest) = after else {
         return Verdict::Refused(refusals::CHAIN_TOO_SHORT, term);
-    }
+    };
     if leading_boxes(state.links) < follows {
         return Verdict::Refused(refusals::BORROW_PASSED, term);
     }
@@ -139,15 +141,9 @@ pub fn judge_move(env: &mut [u32], variables: usize, term: usize, place: Place) 
     if write_barred(env, variables, place.root) {
         return Verdict::Refused(refusals::WRITING_BARRED, term);
     }
+    move_away(env, variables, root, place.follows);
     let end = state.borrow_end;
-    let moved = VariableState {
-        links: state.links,
-        moved_from: place.follows,
-        borrow_end: end,
-        level: state.level,
-    };
-    store(env, variables, root, moved);
-    value_of(links_from(state.links, follows), end)
+    value_of(rest, end)
 }
 
 // "place; whole (33); 34; result at most 8 links (42)".
@@ -158,10 +154,7 @@ pub fn judge_shared(env: &[u32], variables: usize, term: usize, place: Place) ->
     let located = judge_readable(env, variables, term, place);
     match located {
         Located::Refused(number, at) => Verdict::Refused(number, at),
-        Located::At(links, _, _) => {
-            let rest = links_from(links, wide(place.follows));
-            longer_value(term, SHARED, rest, BorrowEnd::Shared(place))
-        }
+        Located::At(_, rest, _, _) => longer_value(term, SHARED, rest, BorrowEnd::Shared(place)),
     }
 }
 
@@ -173,18 +166,16 @@ pub fn judge_exclusive(env: &[u32], variables: usize, term: usize, place: Place)
     let located = judge_place(env, variables, term, place);
     match located {
         Located::Refused(number, at) => Verdict::Refused(number, at),
-        Located::At(links, variable, link) => {
-            let follows = wide(place.follows);
-            if !whole_at(env, variables, place, links, variable, link) {
+        Located::At(links, rest, variable, link) => {
+            if !whole_at(env, variables, place, links, rest, variable, link) {
                 return Verdict::Refused(refusals::MOVED_AWAY, term);
             }
-            if !no_shared(links, follows) {
+            if !no_shared(links, wide(place.follows)) {
                 return Verdict::Refused(refusals::SHARED_PASSED, term);
             }
             if write_barred(env, variables, place.root) {
                 return Verdict::Refused(refusals::WRITING_BARRED, term);
             }
-            let rest = links_from(links, follows);
             longer_value(term, EXCLUSIVE, rest, BorrowEnd::Exclusive(place))
         }
     }
@@ -253,12 +244,11 @@ pub fn judge_assign(
     let located = judge_place(env, variables, term, place);
     match located {
         Located::Refused(number, at) => Verdict::Refused(number, at),
-        Located::At(links, written, _) => {
-            let follows = wide(place.follows);
-            if !no_shared(links, follows) {
+        Located::At(links, rest, written, _) => {
+            if !no_shared(links, wide(place.follows)) {
                 return Verdict::Refused(refusals::SHARED_PASSED, term);
             }
-            if links_from(links, follows) != of.links {
+            if rest != of.links {
                 return Verdict::Refused(refusals::OTHER_LINKS, term);
             }
             let end = of.borrow_end;
@@ -283,8 +273,8 @@ pub fn judge_number(env: &[u32], variables: usize, term: usize, place: Place) ->
     let located = judge_readable(env, variables, term, place);
     match located {
         Located::Refused(number, at) => Requirement::Refused(number, at),
-        Located::At(links, _, _) => {
-            if is_number(links_from(links, wide(place.follows))) {
+        Located::At(_, rest, _, _) => {
+            if is_number(rest) {
                 Requirement::Met
             } else {
                 Requirement::Refused(refusals::OTHER_LINKS, term)

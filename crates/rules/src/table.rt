@@ -2,8 +2,9 @@
 ghost use mathlib.Core.Path.{_≡_};
 ghost use Prim.Native.Nat.{ℕ, _<_, _≤_, _+_, _*_};
 ghost use lib.ListN.{length};
-ghost use Rattle.rules.specs.Environment.{used, live, update};
-ghost use Rattle.rules.specs.Table.{TableFor, entryWord, borrowEndAt, entryAt, environmentOf, asVariable, borrowNumber, borrowedRoot, borrowedFollows, noteAt};
+ghost use Rattle.rules.specs.Environment.{used, live, update, movedAwayAt, refilled};
+ghost use Rattle.rules.specs.Table.{TableFor, entryWord, borrowEndAt, entryAt, environmentOf, asBorrow, asVariable, borrowNumber, borrowedRoot, borrowedFollows, noteAt};
+use crate::chains::leading_boxes;
 
 pub struct Place {
     pub root: u32,
@@ -175,4 +176,28 @@ pub fn put_used(env: &mut [u32], x: usize)
     ensures { λ _. ⌜ (environmentOf (now (env .exit)) ≡ update (environmentOf (now (env .entry))) x used) × ((y : ℕ) → noteAt (now (env .exit)) y ≡ noteAt (now (env .entry)) y) ⌝ }
 {
     env[x * 8 + STATUS] = USED;
+}
+
+// The words of x say that its links from k on are moved away.
+pub fn put_moved(env: &mut [u32], x: usize, k: u32)
+    requires { ⌜ x * 8 + 8 ≤ length (now env) ⌝ }
+    ensures { λ _. ⌜ (environmentOf (now (env .exit)) ≡ update (environmentOf (now (env .entry))) x (movedAwayAt (environmentOf (now (env .entry)) x) k)) × ((y : ℕ) → noteAt (now (env .exit)) y ≡ noteAt (now (env .entry)) y) ⌝ }
+{
+    env[x * 8 + MOVED_FROM] = k;
+}
+
+// The words of x say that it is whole, with the borrow end.
+pub fn put_whole(env: &mut [u32], x: usize, end: BorrowEnd)
+    requires { ⌜ x * 8 + 8 ≤ length (now env) ⌝ }
+    ensures { λ _. ⌜ (environmentOf (now (env .exit)) ≡ update (environmentOf (now (env .entry))) x (refilled (environmentOf (now (env .entry)) x) (asBorrow end))) × ((y : ℕ) → noteAt (now (env .exit)) y ≡ noteAt (now (env .entry)) y) ⌝ }
+{
+    let boxes = leading_boxes(word_at(env, x, LINKS));
+    let number = borrow_number(end);
+    let root = borrowed_root(end);
+    let follows = borrowed_follows(end);
+    let row = x * 8;
+    env[row + MOVED_FROM] = (boxes + 1) as u32;
+    env[row + BORROW] = number;
+    env[row + BORROWED_ROOT] = root;
+    env[row + BORROWED_FOLLOWS] = follows;
 }

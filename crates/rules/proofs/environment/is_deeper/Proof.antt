@@ -1,6 +1,10 @@
 -- `rules::environment::is_deeper` meets its contract. Assumes nothing.
+use mathlib.Core.Path.{sym}
+use lib.Dec.{leb}
 use borrow.Author.Needs.{needs}
-use borrow.Author.Tests.{le-leb, lt-leb}
+use borrow.Author.Tests.{lt-ltb, le-ltb}
+use Rattle.rules.specs.Table.{entryWord}
+use Rattle.rules.proofs.HoldingLaws.{pick-false, pick-true}
 use Rattle.rules.proofs.environment.is_deeper.Statement.{statement}
 use Rattle.rules.proofs.environment.is_deeper.Tie as tie
 
@@ -8,13 +12,15 @@ word-at-requires : tie.Need-word-at-requires
 word-at-requires c κs = search needs
 
 returns : tie.Need-returns
-returns c = rw (← c .before .word-at .ensures, lt-leb _ _ (c .if1 .taken))
+returns c =
+    let start = c .before .before .before in
+    rw (← c .before .word-at .ensures, le-ltb _ _ (c .if1 .taken), pick-false (leb 2 (entryWord (start .args .env .now) (start .args .x) 0)))
 
 word-at-requires-2 : tie.Need-word-at-requires-2
 word-at-requires-2 c κs = search needs
 
 returns-2 : tie.Need-returns-2
-returns-2 c = rw (← c .before .before .word-at .ensures, le-leb _ _ (c .before .if1 .left), ← c .word-at2 .ensures)
+returns-2 c = rw (← c .before .before .word-at .ensures, lt-ltb _ _ (c .before .if1 .left), ← c .word-at2 .ensures) (sym (pick-true _))
 
 pub is-deeper-spec : {M : Type 1} → statement M
 is-deeper-spec = tie.close (tie.spec word-at-requires returns word-at-requires-2 returns-2)

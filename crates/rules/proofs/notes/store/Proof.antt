@@ -5,7 +5,7 @@ use mathlib.Core.Path.{refl, _∙_, ap}
 use Rattle.rules.specs.Environment.{live, Environment, update, levelOf}
 use Rattle.rules.specs.Table.{asVariable}
 use Rattle.rules.proofs.TableLaws.{update-same}
-use Rattle.rules.proofs.NotedLaws.{has-weight, note-most, changed-table}
+use Rattle.rules.proofs.NotedLaws.{has-weight, note-room, changed-table}
 use borrow.Author.Needs.{needs}
 use Rattle.rules.proofs.notes.store.Statement.{statement}
 use Rattle.rules.proofs.notes.store.Tie as tie
@@ -23,7 +23,7 @@ note-holder-requires c κs =
     let at-put = c .before .before .before in
     let at-forget = at-put .before .before .before .before in
     let start = at-forget .before .before .before in
-    (omega arith, start .pre .1, λ r b. omega (arith, at-put .put-live .ensures .1 r, at-forget .forget-holder .ensures .1 r, note-most _ _ (start .pre .0) r b))
+    (omega arith, start .pre .1, note-room _ _ (start .pre .0) _ _ _ (at-forget .forget-holder .ensures .1) (at-put .put-live .ensures .1))
 
 raise-note-requires : tie.Need-raise-note-requires
 raise-note-requires c κs = search needs
@@ -60,7 +60,7 @@ returns c =
     let deepest = at-raise .raise-note .ensures in
     let highest = at-last .raise-note2 .ensures in
     let changed = highest .0 ∙ deepest .0 ∙ noted .0 ∙ put .0 ∙ ap (λ (Γ : Environment). update Γ x (live (asVariable (start .args .state)))) (forgot .0) in
-    (changed, changed-table _ _ (start .pre .0) x _ _ _ _ _ _ (start .pre .1) (at-last .raise-note2 .kept .0 ∙ at-raise .raise-note .kept .0 ∙ at-note .note-holder .kept .0 ∙ at-put .put-live .kept .0 ∙ at-forget .forget-holder .kept .0) changed (omega arith) (forgot .1) (λ r. noted .1 r ∙ rw (put .1 r, put .0, update-same _ x x _ refl)) (deepest .1) (λ r. highest .1 r ∙ simp add-one))
+    (changed, changed-table _ _ (start .pre .0) x _ _ _ _ (start .pre .1) (at-last .raise-note2 .kept .0 ∙ at-raise .raise-note .kept .0 ∙ at-note .note-holder .kept .0 ∙ at-put .put-live .kept .0 ∙ at-forget .forget-holder .kept .0) changed (forgot .1) (λ r. noted .1 r ∙ rw (put .1 r, put .0, update-same _ x x _ refl)) _ _ (omega arith) (deepest .1) (λ r. highest .1 r ∙ simp add-one))
 
 pub store-spec : {M : Type 1} → statement M
 store-spec =

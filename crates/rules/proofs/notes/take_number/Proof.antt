@@ -44,7 +44,7 @@ returns c =
     let put = at-put .put-used .ensures in
     let highest = at-last .raise-note .ensures in
     let changed = highest .0 ∙ put .0 ∙ ap (λ (Γ : Environment). update Γ x used) (forgot .0) in
-    (changed, changed-table _ _ (start .pre .0) x used 0 _ _ _ _ (start .pre .1) (at-last .raise-note .kept .0 ∙ at-put .put-used .kept .0 ∙ at-forget .forget-holder .kept .0) changed (omega arith) (forgot .1) (λ r. put .1 r ∙ used-weight n _ r) (not-raised-by-zero n _) (λ r. highest .1 r ∙ simp add-one))
+    (changed, changed-table _ _ (start .pre .0) x used _ _ _ (start .pre .1) (at-last .raise-note .kept .0 ∙ at-put .put-used .kept .0 ∙ at-forget .forget-holder .kept .0) changed (forgot .1) (λ r. put .1 r ∙ used-weight n _ r) 0 _ (omega arith) (not-raised-by-zero n _) (λ r. highest .1 r ∙ simp add-one))
 
 pub take-number-spec : {M : Type 1} → statement M
 take-number-spec =

@@ -45,10 +45,7 @@ returns-2 c =
     let at-located2 = at-wide .before .before in
     let at-judge-place = at-located2 .before .before in
     let at-inner = at-judge-place .before .before .before in
-    (found-in (at-judge-place .judge-place .ensures) (at-located2 .located2 .given .1) (λ l is chain to. rw (at-inner .inner .given .1, is, chain, ← at-wide .wide .ensures, ← at-no-shared .no-shared .ensures, not-true (at-no-shared .no-shared .result) (c .if1 .taken))), c .before .before .before .before .before .before .before .before .before .before .before .before .pre)
-
-links-from-requires : tie.Need-links-from-requires
-links-from-requires c κs = search needs
+    (found-in _ (at-judge-place .judge-place .ensures) (at-located2 .located2 .given .1) (λ l is chain after to. rw (at-inner .inner .given .1, is, chain, ← at-wide .wide .ensures, ← at-no-shared .no-shared .ensures, not-true (at-no-shared .no-shared .result) (c .if1 .taken))), c .before .before .before .before .before .before .before .before .before .before .before .before .pre)
 
 same-length-2 : tie.Need-same-length-2
 same-length-2 c = search needs
@@ -56,14 +53,13 @@ same-length-2 c = search needs
 returns-3 : tie.Need-returns-3
 unfolding judgeAssign answered asValue valued need _>>=_
 returns-3 c =
-    let at-links-from = c .before .before in
-    let at-if1 = at-links-from .before in
+    let at-if1 = c .before .before in
     let at-no-shared = at-if1 .before in
     let at-wide = at-no-shared .before in
     let at-located2 = at-wide .before .before in
     let at-judge-place = at-located2 .before .before in
     let at-inner = at-judge-place .before .before .before in
-    (found-in (at-judge-place .judge-place .ensures) (at-located2 .located2 .given .1) (λ l is chain to. rw (at-inner .inner .given .1, is, chain, ← at-wide .wide .ensures, ← at-no-shared .no-shared .ensures, not-false (at-no-shared .no-shared .result) (at-if1 .if1 .left), ← at-links-from .links-from .ensures, same-links _ _, ne-eqb _ _ (c .if2 .taken))), c .before .before .before .before .before .before .before .before .before .before .before .before .before .before .before .pre)
+    (found-in _ (at-judge-place .judge-place .ensures) (at-located2 .located2 .given .1) (λ l is chain after to. rw (at-inner .inner .given .1, is, chain, after, ← at-wide .wide .ensures, ← at-no-shared .no-shared .ensures, not-false (at-no-shared .no-shared .result) (at-if1 .if1 .left), same-links _ _, ne-eqb _ _ (c .if2 .taken))), c .before .before .before .before .before .before .before .before .before .before .before .before .before .before .pre)
 
 level-at-requires : tie.Need-level-at-requires
 level-at-requires c κs = search needs
@@ -80,14 +76,13 @@ returns-4 c =
     let at-lives-at = c .before in
     let at-level-at = at-lives-at .before .before in
     let at-if2 = at-level-at .before .before in
-    let at-links-from = at-if2 .before .before in
-    let at-if1 = at-links-from .before in
+    let at-if1 = at-if2 .before .before in
     let at-no-shared = at-if1 .before in
     let at-wide = at-no-shared .before in
     let at-located2 = at-wide .before .before in
     let at-judge-place = at-located2 .before .before in
     let at-inner = at-judge-place .before .before .before in
-    (found-in (at-judge-place .judge-place .ensures) (at-located2 .located2 .given .1) (λ l is chain to. rw (at-inner .inner .given .1, is, chain, to, ← at-wide .wide .ensures, ← at-no-shared .no-shared .ensures, not-false (at-no-shared .no-shared .result) (at-if1 .if1 .left), ← at-links-from .links-from .ensures, same-links _ _, eq-eqb _ _ (at-if2 .if2 .left), ← at-level-at .level-at .ensures, ← at-lives-at .lives-at .ensures, not-true (at-lives-at .lives-at .result) (c .if3 .taken))), c .before .before .before .before .before .before .before .before .before .before .before .before .before .before .before .before .before .before .before .before .pre)
+    (found-in _ (at-judge-place .judge-place .ensures) (at-located2 .located2 .given .1) (λ l is chain after to. rw (at-inner .inner .given .1, is, chain, after, to, ← at-wide .wide .ensures, ← at-no-shared .no-shared .ensures, not-false (at-no-shared .no-shared .result) (at-if1 .if1 .left), same-links _ _, eq-eqb _ _ (at-if2 .if2 .left), ← at-level-at .level-at .ensures, ← at-lives-at .lives-at .ensures, not-true (at-lives-at .lives-at .result) (c .if3 .taken))), c .before .before .before .before .before .before .before .before .before .before .before .before .before .before .before .before .before .before .before .pre)
 
 refill-requires : tie.Need-refill-requires
 refill-requires c κs = search needs
@@ -95,10 +90,10 @@ refill-requires c κs = search needs
 write-barred-requires : tie.Need-write-barred-requires
 write-barred-requires c κs =
     let at-refill = c .before .before .before in
-    let start = at-refill .before .before .before .before .before .before .before .before .before .before .before .before .before .before .before .before .before .before .before .before .before .before in
-    let at-located2 = at-refill .before .before .before .before .before .before .before .before .before .before .before .before .before .before in
+    let start = at-refill .before .before .before .before .before .before .before .before .before .before .before .before .before .before .before .before .before .before .before .before .before in
+    let at-located2 = at-refill .before .before .before .before .before .before .before .before .before .before .before .before .before in
     let at-judge-place = at-located2 .before .before in
-    let found = found-at (at-judge-place .judge-place .ensures) (at-located2 .located2 .given .1) in
+    let found = found-at _ (at-judge-place .judge-place .ensures) (at-located2 .located2 .given .1) in
     (at-refill .refill .ensures .1, root-inside _ _ (start .pre) _ _ (found .at) (found .is))
 
 same-length-4 : tie.Need-same-length-4
@@ -113,21 +108,20 @@ returns-5 c =
     let at-lives-at = at-if3 .before in
     let at-level-at = at-lives-at .before .before in
     let at-if2 = at-level-at .before .before in
-    let at-links-from = at-if2 .before .before in
-    let at-if1 = at-links-from .before in
+    let at-if1 = at-if2 .before .before in
     let at-no-shared = at-if1 .before in
     let at-wide = at-no-shared .before in
     let at-located2 = at-wide .before .before in
     let at-judge-place = at-located2 .before .before in
     let at-inner = at-judge-place .before .before .before in
-    (found-in (at-judge-place .judge-place .ensures) (at-located2 .located2 .given .1) (λ l is chain to. rw (at-inner .inner .given .1, is, chain, to, ← at-refill .refill .ensures .0, ← at-write-barred .write-barred .ensures, ← at-wide .wide .ensures, ← at-no-shared .no-shared .ensures, not-false (at-no-shared .no-shared .result) (at-if1 .if1 .left), ← at-links-from .links-from .ensures, same-links _ _, eq-eqb _ _ (at-if2 .if2 .left), ← at-level-at .level-at .ensures, ← at-lives-at .lives-at .ensures, not-false (at-lives-at .lives-at .result) (at-if3 .if3 .left), c .if4 .taken)), at-refill .refill .ensures .1)
+    (found-in _ (at-judge-place .judge-place .ensures) (at-located2 .located2 .given .1) (λ l is chain after to. rw (at-inner .inner .given .1, is, chain, after, to, ← at-refill .refill .ensures .0, ← at-write-barred .write-barred .ensures, ← at-wide .wide .ensures, ← at-no-shared .no-shared .ensures, not-false (at-no-shared .no-shared .result) (at-if1 .if1 .left), same-links _ _, eq-eqb _ _ (at-if2 .if2 .left), ← at-level-at .level-at .ensures, ← at-lives-at .lives-at .ensures, not-false (at-lives-at .lives-at .result) (at-if3 .if3 .left), c .if4 .taken)), at-refill .refill .ensures .1)
 
 same-length-5 : tie.Need-same-length-5
 same-length-5 c = search needs
 
 returns-6 : tie.Need-returns-6
 unfolding judgeAssign answered asValue valued _>>=_
-returns-6 c = let refused = found-refused (c .before .before .before .judge-place .ensures) (c .before .located .given .1) in (rw (c .before .before .before .before .before .before .inner .given .1, refused), c .before .before .before .before .before .before .before .before .before .pre)
+returns-6 c = let refused = found-refused _ (c .before .before .before .judge-place .ensures) (c .before .located .given .1) in (rw (c .before .before .before .before .before .before .inner .given .1, refused), c .before .before .before .before .before .before .before .before .before .pre)
 
 same-length-6 : tie.Need-same-length-6
 same-length-6 c = c .before .before .before .before .before .refill .kept .0
@@ -141,14 +135,13 @@ returns-7 c =
     let at-lives-at = at-if3 .before in
     let at-level-at = at-lives-at .before .before in
     let at-if2 = at-level-at .before .before in
-    let at-links-from = at-if2 .before .before in
-    let at-if1 = at-links-from .before in
+    let at-if1 = at-if2 .before .before in
     let at-no-shared = at-if1 .before in
     let at-wide = at-no-shared .before in
     let at-located2 = at-wide .before .before in
     let at-judge-place = at-located2 .before .before in
     let at-inner = at-judge-place .before .before .before in
-    (found-in (at-judge-place .judge-place .ensures) (at-located2 .located2 .given .1) (λ l is chain to. rw (at-inner .inner .given .1, is, chain, to, ← at-refill .refill .ensures .0, ← at-write-barred .write-barred .ensures, ← at-wide .wide .ensures, ← at-no-shared .no-shared .ensures, not-false (at-no-shared .no-shared .result) (at-if1 .if1 .left), ← at-links-from .links-from .ensures, same-links _ _, eq-eqb _ _ (at-if2 .if2 .left), ← at-level-at .level-at .ensures, ← at-lives-at .lives-at .ensures, not-false (at-lives-at .lives-at .result) (at-if3 .if3 .left), c .if4 .left)), at-refill .refill .ensures .1)
+    (found-in _ (at-judge-place .judge-place .ensures) (at-located2 .located2 .given .1) (λ l is chain after to. rw (at-inner .inner .given .1, is, chain, after, to, ← at-refill .refill .ensures .0, ← at-write-barred .write-barred .ensures, ← at-wide .wide .ensures, ← at-no-shared .no-shared .ensures, not-false (at-no-shared .no-shared .result) (at-if1 .if1 .left), same-links _ _, eq-eqb _ _ (at-if2 .if2 .left), ← at-level-at .level-at .ensures, ← at-lives-at .lives-at .ensures, not-false (at-lives-at .lives-at .result) (at-if3 .if3 .left), c .if4 .left)), at-refill .refill .ensures .1)
 
 pub judge-assign-spec : {M : Type 1} → statement M
 judge-assign-spec =
@@ -164,7 +157,6 @@ judge-assign-spec =
     no-shared-requires
     same-length
     returns-2
-    links-from-requires
     same-length-2
     returns-3
     level-at-requires

@@ -18,12 +18,6 @@ enum-known-located c = search needs
 enum-known-located-2 : tie.Need-enum-known-located-2
 enum-known-located-2 c = search needs
 
-wide-requires : tie.Need-wide-requires
-wide-requires c κs = search needs
-
-links-from-requires : tie.Need-links-from-requires
-links-from-requires c κs = search needs
-
 is-copied-requires : tie.Need-is-copied-requires
 is-copied-requires c κs = search needs
 
@@ -31,11 +25,9 @@ returns : tie.Need-returns
 unfolding judgeCopy answered need _>>=_
 returns c =
     let at-is-copied = c .before in
-    let at-links-from = at-is-copied .before in
-    let at-wide = at-links-from .before in
-    let at-located2 = at-wide .before .before in
+    let at-located2 = at-is-copied .before .before in
     let at-judge-readable = at-located2 .before .before in
-    found-in (at-judge-readable .judge-readable .ensures) (at-located2 .located2 .given .1) λ l is chain to. rw (is, chain, ← at-wide .wide .ensures, ← at-links-from .links-from .ensures, ← at-is-copied .is-copied .ensures, not-true (at-is-copied .is-copied .result) (c .if1 .taken))
+    found-in _ (at-judge-readable .judge-readable .ensures) (at-located2 .located2 .given .1) λ l is chain after to. rw (is, chain, after, ← at-is-copied .is-copied .ensures, not-true (at-is-copied .is-copied .result) (c .if1 .taken))
 
 is-number-requires : tie.Need-is-number-requires
 is-number-requires c κs = search needs
@@ -50,11 +42,9 @@ returns-2 c =
     let at-is-number = at-if2 .before in
     let at-if1 = at-is-number .before in
     let at-is-copied = at-if1 .before in
-    let at-links-from = at-is-copied .before in
-    let at-wide = at-links-from .before in
-    let at-located2 = at-wide .before .before in
+    let at-located2 = at-is-copied .before .before in
     let at-judge-readable = at-located2 .before .before in
-    found-in (at-judge-readable .judge-readable .ensures) (at-located2 .located2 .given .1) λ l is chain to. rw (is, chain, ← at-wide .wide .ensures, ← at-links-from .links-from .ensures, ← at-is-copied .is-copied .ensures, not-false (at-is-copied .is-copied .result) (at-if1 .if1 .left), ← at-is-number .is-number .ensures, at-if2 .if2 .taken) (c .value-of .ensures _)
+    found-in _ (at-judge-readable .judge-readable .ensures) (at-located2 .located2 .given .1) λ l is chain after to. rw (is, chain, after, ← at-is-copied .is-copied .ensures, not-false (at-is-copied .is-copied .result) (at-if1 .if1 .left), ← at-is-number .is-number .ensures, at-if2 .if2 .taken) (c .value-of .ensures _)
 
 borrow-end-at-requires : tie.Need-borrow-end-at-requires
 borrow-end-at-requires c κs = search needs
@@ -64,7 +54,7 @@ value-of-requires-2 c κs = search needs
 
 returns-3 : tie.Need-returns-3
 unfolding judgeCopy answered _>>=_
-returns-3 c = let refused = found-refused (c .before .before .before .judge-readable .ensures) (c .before .located .given .1) in rw (refused)
+returns-3 c = let refused = found-refused _ (c .before .before .before .judge-readable .ensures) (c .before .located .given .1) in rw (refused)
 
 returns-4 : tie.Need-returns-4
 unfolding judgeCopy need _>>=_
@@ -74,11 +64,9 @@ returns-4 c =
     let at-is-number = at-if2 .before in
     let at-if1 = at-is-number .before in
     let at-is-copied = at-if1 .before in
-    let at-links-from = at-is-copied .before in
-    let at-wide = at-links-from .before in
-    let at-located2 = at-wide .before .before in
+    let at-located2 = at-is-copied .before .before in
     let at-judge-readable = at-located2 .before .before in
-    found-in (at-judge-readable .judge-readable .ensures) (at-located2 .located2 .given .1) λ l is chain to. rw (is, chain, ← at-wide .wide .ensures, ← at-links-from .links-from .ensures, ← at-is-copied .is-copied .ensures, not-false (at-is-copied .is-copied .result) (at-if1 .if1 .left), ← at-is-number .is-number .ensures, at-if2 .if2 .left, to, ← at-borrow-end-at .borrow-end-at .ensures) (c .value-of2 .ensures _)
+    found-in _ (at-judge-readable .judge-readable .ensures) (at-located2 .located2 .given .1) λ l is chain after to. rw (is, chain, after, ← at-is-copied .is-copied .ensures, not-false (at-is-copied .is-copied .result) (at-if1 .if1 .left), ← at-is-number .is-number .ensures, at-if2 .if2 .left, to, ← at-borrow-end-at .borrow-end-at .ensures) (c .value-of2 .ensures _)
 
 pub judge-copy-spec : {M : Type 1} → statement M
 judge-copy-spec =
@@ -87,8 +75,6 @@ judge-copy-spec =
     judge-readable-requires
     enum-known-located
     enum-known-located-2
-    wide-requires
-    links-from-requires
     is-copied-requires
     returns
     is-number-requires

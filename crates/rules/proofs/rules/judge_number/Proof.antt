@@ -16,38 +16,28 @@ enum-known-located c = search needs
 enum-known-located-2 : tie.Need-enum-known-located-2
 enum-known-located-2 c = search needs
 
-wide-requires : tie.Need-wide-requires
-wide-requires c κs = search needs
-
-links-from-requires : tie.Need-links-from-requires
-links-from-requires c κs = search needs
-
 is-number-requires : tie.Need-is-number-requires
 is-number-requires c κs = search needs
 
 returns : tie.Need-returns
 unfolding judgeNumber asRequirement _>>=_
-returns c = let refused = found-refused (c .before .before .before .judge-readable .ensures) (c .before .located .given .1) in rw (refused)
+returns c = let refused = found-refused _ (c .before .before .before .judge-readable .ensures) (c .before .located .given .1) in rw (refused)
 
 returns-2 : tie.Need-returns-2
 unfolding judgeNumber asRequirement need _>>=_
 returns-2 c =
     let at-is-number = c .before in
-    let at-links-from = at-is-number .before in
-    let at-wide = at-links-from .before in
-    let at-located2 = at-wide .before .before in
+    let at-located2 = at-is-number .before .before in
     let at-judge-readable = at-located2 .before .before in
-    found-in (at-judge-readable .judge-readable .ensures) (at-located2 .located2 .given .1) λ l is chain to. rw (is, chain, ← at-wide .wide .ensures, ← at-links-from .links-from .ensures, ← at-is-number .is-number .ensures, c .if1 .taken)
+    found-in _ (at-judge-readable .judge-readable .ensures) (at-located2 .located2 .given .1) λ l is chain after to. rw (is, chain, after, ← at-is-number .is-number .ensures, c .if1 .taken)
 
 returns-3 : tie.Need-returns-3
 unfolding judgeNumber asRequirement need _>>=_
 returns-3 c =
     let at-is-number = c .before in
-    let at-links-from = at-is-number .before in
-    let at-wide = at-links-from .before in
-    let at-located2 = at-wide .before .before in
+    let at-located2 = at-is-number .before .before in
     let at-judge-readable = at-located2 .before .before in
-    found-in (at-judge-readable .judge-readable .ensures) (at-located2 .located2 .given .1) λ l is chain to. rw (is, chain, ← at-wide .wide .ensures, ← at-links-from .links-from .ensures, ← at-is-number .is-number .ensures, c .if1 .left)
+    found-in _ (at-judge-readable .judge-readable .ensures) (at-located2 .located2 .given .1) λ l is chain after to. rw (is, chain, after, ← at-is-number .is-number .ensures, c .if1 .left)
 
 pub judge-number-spec : {M : Type 1} → statement M
 judge-number-spec =
@@ -56,8 +46,6 @@ judge-number-spec =
     judge-readable-requires
     enum-known-located
     enum-known-located-2
-    wide-requires
-    links-from-requires
     is-number-requires
     returns
     returns-2

@@ -17,27 +17,19 @@ enum-known-located c = search needs
 enum-known-located-2 : tie.Need-enum-known-located-2
 enum-known-located-2 c = search needs
 
-wide-requires : tie.Need-wide-requires
-wide-requires c κs = search needs
-
-links-from-requires : tie.Need-links-from-requires
-links-from-requires c κs = search needs
-
 longer-value-requires : tie.Need-longer-value-requires
 longer-value-requires c κs = search needs
 
 returns : tie.Need-returns
 unfolding judgeShared answered _>>=_
-returns c = let refused = found-refused (c .before .before .before .judge-readable .ensures) (c .before .located .given .1) in rw (refused)
+returns c = let refused = found-refused _ (c .before .before .before .judge-readable .ensures) (c .before .located .given .1) in rw (refused)
 
 returns-2 : tie.Need-returns-2
 unfolding judgeShared asBorrow _>>=_
 returns-2 c =
-    let at-links-from = c .before in
-    let at-wide = at-links-from .before in
-    let at-located2 = at-wide .before .before in
+    let at-located2 = c .before .before in
     let at-judge-readable = at-located2 .before .before in
-    found-in (at-judge-readable .judge-readable .ensures) (at-located2 .located2 .given .1) λ l is chain to. rw (is, chain, ← at-wide .wide .ensures, ← at-links-from .links-from .ensures, at-wide .wide .ensures) (c .longer-value .ensures _)
+    found-in _ (at-judge-readable .judge-readable .ensures) (at-located2 .located2 .given .1) λ l is chain after to. rw (is, chain, after) (c .longer-value .ensures _)
 
 pub judge-shared-spec : {M : Type 1} → statement M
 judge-shared-spec =
@@ -46,8 +38,6 @@ judge-shared-spec =
     judge-readable-requires
     enum-known-located
     enum-known-located-2
-    wide-requires
-    links-from-requires
     longer-value-requires
     returns
     returns-2)

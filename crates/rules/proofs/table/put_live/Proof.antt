@@ -4,7 +4,7 @@ use native.Mathlib.Numerals.{towards-suc}
 use native.Mathlib.Nat.{add-zero}
 use lib.ListN.{length-set}
 use borrow.Author.Needs.{needs}
-use Rattle.rules.proofs.TableLaws.{stored, stored-notes}
+use Rattle.rules.proofs.TableLaws.{stored}
 use Rattle.rules.proofs.table.put_live.Statement.{statement}
 use Rattle.rules.proofs.table.put_live.Tie as tie
 
@@ -89,8 +89,9 @@ same-length c = simp length-set
 returns : tie.Need-returns
 returns c =
     let start = c .before .before .before .before in
+    let put = stored (start .args .env .now) (start .args .x) (omega arith) (start .args .state) in
     rw (c .before .before .borrow-number .ensures, c .before .borrowed-root .ensures, c .borrowed-follows .ensures)
-    (simp (add-zero, towards-suc) (stored (start .args .env .now) (start .args .x) (omega arith) (start .args .state)), λ y. simp (add-zero, towards-suc) (simp (add-zero, towards-suc) at (stored-notes (start .args .env .now) (start .args .x) (omega arith) (start .args .state) y)))
+    (simp (add-zero, towards-suc) (simp add-zero at (put .0)), λ y. simp (add-zero, towards-suc) (simp (add-zero, towards-suc) at (put .1 y)))
 
 pub put-live-spec : {M : Type 1} → statement M
 put-live-spec =

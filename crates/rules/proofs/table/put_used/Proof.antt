@@ -1,8 +1,7 @@
 -- `rules::table::put_used` meets its contract. Assumes nothing.
 use native.Mathlib.Omega.{arith}
-use native.Mathlib.Nat.{add-zero}
 use borrow.Author.Needs.{needs}
-use Rattle.rules.proofs.TableLaws.{taken, taken-notes}
+use Rattle.rules.proofs.TableLaws.{taken}
 use Rattle.rules.proofs.table.put_used.Statement.{statement}
 use Rattle.rules.proofs.table.put_used.Tie as tie
 
@@ -22,7 +21,7 @@ same-length : tie.Need-same-length
 same-length c = search needs
 
 returns : tie.Need-returns
-returns c = (simp add-zero (taken _ _ (omega arith)), λ y. simp add-zero (taken-notes (c .args .env .now) (c .args .x) (omega arith) y))
+returns c = taken _ _ (omega arith)
 
 pub put-used-spec : {M : Type 1} → statement M
 put-used-spec =
