@@ -4,20 +4,23 @@ use native.Mathlib.Omega.{arith}
 use native.Mathlib.Decide.{ℕ-discrete}
 use native.Mathlib.Numerals.{sub-one}
 use mathlib.Core.Path.{_≡_, refl, sym, ap, _∙_}
+use mathlib.Core.Option.{none, some}
 use mathlib.Core.List.{List, []}
 use lib.IntN.{ℤ}
 use lib.ListN.{length}
 use Rattle.reader.specs.Result.{ok, err, _>>=_}
-use Rattle.reader.specs.Script.{Term, Terms, last}
-use Rattle.reader.specs.Measures.{boxesAll}
+use Rattle.reader.specs.Script.{Term, Terms, block, last, more}
+use Rattle.reader.specs.Measures.{boxesIn, boxesAll}
+use Rattle.reader.specs.RowParts.{fieldAt}
+use Rattle.reader.specs.RowTrees.{RowTree, IsTree, around, before, severalAt, termsAt, IsRest, treeAt}
+use Rattle.reader.proofs.RowTreeLaws.{around-inner, rest-first, block-is, block-inner, block-rest}
 use Rattle.machine.specs.Values.{empty}
 use Rattle.machine.specs.Store.{State, Ran}
 use Rattle.machine.specs.Drop.{InOrder, dropValue}
 use Rattle.machine.specs.Run.{Outcome, runBlockEnd, run, runs}
 use Rattle.machine.specs.Answers.{bitsOf}
-use Rattle.machine.specs.RowTrees.{Decoded, tree, broken, Decodeds, trees, brokens, IsTree, IsTrees, endOf, boxesAt, boxesFrom, fieldIn, blockD, lastD, consD, moreD, decodes, someOf, treeAt, IsRest, boxesRest}
 use Rattle.machine.specs.Words.{valueOf, Sound}
-use Rattle.machine.specs.Parts.{stateAt, left, Dropped, runOn, since, Stop, seen, Stood, atRow, outcome, stood, sequel, withoutValue, enteredAt, EndReady, BlockClosed, Opened, runAt, Ready, TermReady, TermRan, runsOn, restRun, BlockReady, BlockRan}
+use Rattle.machine.specs.Parts.{stateAt, left, Dropped, ranOn, runOn, since, Stop, seen, Stood, atRow, outcome, stood, sequel, withoutValue, enteredAt, EndReady, BlockClosed, Opened, endOf, boxesBy, boxesAt, boxesRest, stoodOn, runAt, Ready, TermReady, TermRan, runsAt, restRun, BlockReady, BlockRan}
 use Rattle.machine.specs.declared.around.Standing.{Standing}
 use Rattle.machine.proofs.DropLaws.{drop-empty}
 use Rattle.machine.proofs.Kept.{keeps-ok}
@@ -25,61 +28,33 @@ use Rattle.machine.proofs.RunOrder.{runs-ordered}
 use Rattle.machine.proofs.WordLaws.{empty-sound, empty-is}
 use Rattle.machine.proofs.CellLaws.{left-stops, left-goes, drop-ordered}
 use Rattle.machine.proofs.AroundLaws.{stood-stops, stood-goes, since-kept}
-use Rattle.machine.proofs.RowLaws.{block-is, block-asks}
-use Rattle.machine.proofs.TermLaws.{block-run, block-cells, went-well, same-ran, term-fine, term-taken, term-room, next-ready}
+use Rattle.machine.proofs.TermLaws.{around-run, around-cells, went-well, same-ran, term-fine, term-taken, term-room, next-ready}
 
 -- ---- what is left of a block, in rows
 
-last-sub : (d : Decoded) → IsTrees (lastD d) → IsTree d
-last-sub (tree t j) h = h
-last-sub broken h = absurd h
+-- After its first term.
+before-rest : (d : RowTree Term) (k : ℕ → RowTree Terms) → IsTree (before d k) → IsTree (k (endOf d))
+unfolding endOf
+before-rest none k h = absurd h
+before-rest (some r) k h = around-inner (more (r .0)) (k (r .1)) h
 
-more-sub : (d : Decoded) (k : ℕ → Decodeds) → IsTrees (moreD d k) → IsTree d
-more-sub (tree t j) k h = tt
-more-sub broken k h = absurd h
+before-cells : (d : RowTree Term) (k : ℕ → RowTree Terms) → IsTree (before d k) → boxesBy boxesAll (before d k) ≡ boxesAt d + boxesBy boxesAll (k (endOf d))
+unfolding endOf boxesBy boxesAll
+before-cells none k h = absurd h
+before-cells (some r) k h = around-cells (more (r .0)) boxesAll boxesAll (boxesIn (r .0)) (λ ts. refl) (k (r .1)) (around-inner (more (r .0)) (k (r .1)) h)
 
-cons-sub : (t : Term) (ds : Decodeds) → IsTrees (consD t ds) → IsTrees ds
-cons-sub t (trees ts j) h = tt
-cons-sub t brokens h = absurd h
-
-cons-cells : (t : Term) (j : ℕ) (ds : Decodeds) → IsTrees (consD t ds) → boxesFrom (consD t ds) ≡ boxesAt (tree t j) + boxesFrom ds
-unfolding boxesFrom boxesAt boxesAll
-cons-cells t j (trees ts k) h = refl
-cons-cells t j brokens h = absurd h
-
-module _ (f : ℕ → Decoded) where
-  first-asks : (n at : ℕ) → 0 < n → IsRest f n at → IsTree (f at)
-  unfolding decodes
-  first-asks zero at b h = absurd (omega arith)
-  first-asks (suc zero) at b h = last-sub (f at) h
-  first-asks (suc (suc n)) at b h = more-sub (f at) (decodes f n) h
-
-  more-rest : (d : Decoded) (k : ℕ → Decodeds) → IsTrees (moreD d k) → IsTrees (k (endOf d))
-  unfolding endOf
-  more-rest (tree t j) k h = cons-sub t (k j) h
-  more-rest broken k h = absurd h
-
+module _ (f : ℕ → RowTree Term) where
   rest-asks : (n at : ℕ) → 0 < n → IsRest f n at → IsRest f (n - 1) (endOf (f at))
-  unfolding decodes
+  unfolding severalAt
   rest-asks zero at b h = absurd (omega arith)
   rest-asks (suc zero) at b h = tt
-  rest-asks (suc (suc n)) at b h = rw sub-one (more-rest (f at) (decodes f n) h)
-
-  last-cells : (d : Decoded) → boxesFrom (lastD d) ≡ boxesAt d
-  unfolding boxesFrom boxesAt boxesAll
-  last-cells (tree t j) = refl
-  last-cells broken = refl
-
-  more-cells : (d : Decoded) (k : ℕ → Decodeds) → IsTrees (moreD d k) → boxesFrom (moreD d k) ≡ boxesAt d + boxesFrom (k (endOf d))
-  unfolding endOf
-  more-cells (tree t j) k h = cons-cells t j (k j) h
-  more-cells broken k h = absurd h
+  rest-asks (suc (suc n)) at b h = rw sub-one (before-rest (f at) (severalAt f n) h)
 
   rest-cells : (n at : ℕ) → 0 < n → IsRest f n at → boxesRest f n at ≡ boxesAt (f at) + boxesRest f (n - 1) (endOf (f at))
-  unfolding boxesRest decodes
+  unfolding termsAt severalAt boxesBy boxesAll
   rest-cells zero at b h = absurd (omega arith)
-  rest-cells (suc zero) at b h = let z = last-cells (f at) in omega arith
-  rest-cells (suc (suc n)) at b h = rw sub-one (more-cells (f at) (decodes f n) h)
+  rest-cells (suc zero) at b h = omega (arith, around-cells last boxesIn boxesAll 0 (λ t. omega arith) (f at) (around-inner last (f at) h))
+  rest-cells (suc (suc n)) at b h = rw sub-one (before-cells (f at) (severalAt f n) h)
 
 -- ---- the run of what is left
 
@@ -95,55 +70,55 @@ module _ (readings : List ℤ) (i : ℕ) where
   after-first ts o = dropValue i (o .0) (o .1) >>= λ s. runs (bitsOf readings) ts i s
 
   module _ (s : State) where
-    last-run : (d : Decoded) → IsTree d → runsOn readings (lastD d) i s ≡ runAt readings d s
-    unfolding runsOn runAt runOn endOf runs
-    last-run (tree t j) h = refl
-    last-run broken h = absurd h
+    last-run : (d : RowTree Term) → IsTree d → runsAt readings i (around last d) s ≡ runAt readings d s
+    unfolding stoodOn ranOn endOf runs
+    last-run none h = absurd h
+    last-run (some r) h = refl
 
-    last-go : (d : Decoded) (o : Outcome) → IsTrees (lastD d) → runOn readings d s ≡ ok o → _≡_ {A = Stood} (ok (o, endOf d)) (runsOn readings (lastD d) i s)
-    unfolding runAt seen atRow
-    last-go d o h e = sym (last-run d (last-sub d h) ∙ rw e)
+    last-go : (d : RowTree Term) (o : Outcome) → IsTree d → runOn readings d s ≡ ok o → _≡_ {A = Stood} (ok (o, endOf d)) (runsAt readings i (around last d) s)
+    unfolding stoodOn seen atRow
+    last-go d o h e = sym (last-run d h ∙ rw e)
 
-    cons-stop : (t : Term) (j : ℕ) (ds : Decodeds) (o : Stop) → IsTrees (consD t ds) → _≡_ {A = Stood} (err o) (atRow j (seen (run (bitsOf readings) t s))) → _≡_ {A = Stood} (err o) (runsOn readings (consD t ds) i s)
-    unfolding runsOn runs
-    cons-stop t j (trees ts k) o h e = stop-here (run (bitsOf readings) t s) o j k (after-first ts) e
-    cons-stop t j brokens o h e = absurd h
+    more-stop : (t : Term) (j : ℕ) (ds : RowTree Terms) (o : Stop) → IsTree ds → _≡_ {A = Stood} (err o) (atRow j (seen (run (bitsOf readings) t s))) → _≡_ {A = Stood} (err o) (runsAt readings i (around (more t) ds) s)
+    unfolding stoodOn ranOn endOf runs
+    more-stop t j none o h e = absurd h
+    more-stop t j (some q) o h e = stop-here (run (bitsOf readings) t s) o j (q .1) (after-first (q .0)) e
 
-    more-stop : (d : Decoded) (k : ℕ → Decodeds) (o : Stop) → IsTrees (moreD d k) → _≡_ {A = Stood} (err o) (runAt readings d s) → _≡_ {A = Stood} (err o) (runsOn readings (moreD d k) i s)
-    unfolding runAt runOn endOf
-    more-stop (tree t j) k o h e = cons-stop t j (k j) o h e
-    more-stop broken k o h e = absurd h
+    before-stop : (d : RowTree Term) (k : ℕ → RowTree Terms) (o : Stop) → IsTree (before d k) → _≡_ {A = Stood} (err o) (runAt readings d s) → _≡_ {A = Stood} (err o) (runsAt readings i (before d k) s)
+    unfolding stoodOn ranOn endOf
+    before-stop none k o h e = absurd h
+    before-stop (some r) k o h e = more-stop (r .0) (r .1) (k (r .1)) o (around-inner (more (r .0)) (k (r .1)) h) e
 
-    cons-go : (t : Term) (ds : Decodeds) (o : Outcome) → IsTrees (consD t ds) → run (bitsOf readings) t s ≡ ok o → (seen (dropValue i (o .0) (o .1)) >>= λ s′. runsOn readings ds i s′) ≡ runsOn readings (consD t ds) i s
-    unfolding runsOn runs seen atRow _>>=_
-    cons-go t (trees ts k) o h e = go (dropValue i (o .0) (o .1)) ∙ sym (rw e)
+    more-go : (t : Term) (ds : RowTree Terms) (o : Outcome) → IsTree ds → run (bitsOf readings) t s ≡ ok o → (seen (dropValue i (o .0) (o .1)) >>= λ s′. runsAt readings i ds s′) ≡ runsAt readings i (around (more t) ds) s
+    unfolding stoodOn ranOn endOf runs seen atRow _>>=_
+    more-go t none o h e = absurd h
+    more-go t (some q) o h e = go (dropValue i (o .0) (o .1)) ∙ sym (rw e)
       where
-        go : (m : Ran State) → (seen m >>= λ s′. atRow k (seen (runs (bitsOf readings) ts i s′))) ≡ atRow k (seen (m >>= λ s′. runs (bitsOf readings) ts i s′))
+        go : (m : Ran State) → (seen m >>= λ s′. atRow (q .1) (seen (runs (bitsOf readings) (q .0) i s′))) ≡ atRow (q .1) (seen (m >>= λ s′. runs (bitsOf readings) (q .0) i s′))
         go (ok a) = refl
         go (err x) = refl
-    cons-go t brokens o h e = absurd h
 
-    more-go : (d : Decoded) (k : ℕ → Decodeds) (o : Outcome) → IsTrees (moreD d k) → runOn readings d s ≡ ok o → (seen (dropValue i (o .0) (o .1)) >>= λ s′. runsOn readings (k (endOf d)) i s′) ≡ runsOn readings (moreD d k) i s
-    unfolding runOn endOf
-    more-go (tree t j) k o h e = cons-go t (k j) o h e
-    more-go broken k o h e = absurd h
+    before-go : (d : RowTree Term) (k : ℕ → RowTree Terms) (o : Outcome) → IsTree (before d k) → runOn readings d s ≡ ok o → (seen (dropValue i (o .0) (o .1)) >>= λ s′. runsAt readings i (k (endOf d)) s′) ≡ runsAt readings i (before d k) s
+    unfolding ranOn endOf
+    before-go none k o h e = absurd h
+    before-go (some r) k o h e = more-go (r .0) (k (r .1)) o (around-inner (more (r .0)) (k (r .1)) h) e
 
-    module _ (f : ℕ → Decoded) where
+    module _ (f : ℕ → RowTree Term) where
       -- What is left begins with a fault.
-      rest-stop : (n at : ℕ) (o : Stop) → 0 < n → IsRest f n at → _≡_ {A = Stood} (err o) (runAt readings (f at) s) → _≡_ {A = Stood} (err o) (runsOn readings (decodes f (n - 1) at) i s)
-      unfolding decodes
+      rest-stop : (n at : ℕ) (o : Stop) → 0 < n → IsRest f n at → _≡_ {A = Stood} (err o) (runAt readings (f at) s) → _≡_ {A = Stood} (err o) (runsAt readings i (severalAt f (n - 1) at) s)
+      unfolding severalAt
       rest-stop zero at o b h e = absurd (omega arith)
-      rest-stop (suc zero) at o b h e = e ∙ sym (last-run (f at) (last-sub (f at) h))
-      rest-stop (suc (suc n)) at o b h e = rw sub-one (more-stop (f at) (decodes f n) o h e)
+      rest-stop (suc zero) at o b h e = e ∙ sym (last-run (f at) (around-inner last (f at) h))
+      rest-stop (suc (suc n)) at o b h e = rw sub-one (before-stop (f at) (severalAt f n) o h e)
 
       -- It begins with a term that has an outcome.
-      rest-go : (n at : ℕ) (o : Outcome) → 0 < n → IsRest f n at → runOn readings (f at) s ≡ ok o → restRun readings f i (n - 1) (endOf (f at)) o ≡ runsOn readings (decodes f (n - 1) at) i s
-      unfolding decodes restRun
+      rest-go : (n at : ℕ) (o : Outcome) → 0 < n → IsRest f n at → runOn readings (f at) s ≡ ok o → restRun readings f i (n - 1) (endOf (f at)) o ≡ runsAt readings i (severalAt f (n - 1) at) s
+      unfolding severalAt restRun
       rest-go zero at o b h e = absurd (omega arith)
-      rest-go (suc zero) at o b h e = last-go (f at) o h e
-      rest-go (suc (suc n)) at o b h e = rw sub-one (more-go (f at) (decodes f n) o h e)
+      rest-go (suc zero) at o b h e = last-go (f at) o (around-inner last (f at) h) e
+      rest-go (suc (suc n)) at o b h e = rw sub-one (before-go (f at) (severalAt f n) o h e)
 
-  rest-drop : (f : ℕ → Decoded) (n at : ℕ) (o : Outcome) → 0 < n → restRun readings f i n at o ≡ (seen (dropValue i (o .0) (o .1)) >>= λ s. runsOn readings (decodes f (n - 1) at) i s)
+  rest-drop : (f : ℕ → RowTree Term) (n at : ℕ) (o : Outcome) → 0 < n → restRun readings f i n at o ≡ (seen (dropValue i (o .0) (o .1)) >>= λ s. runsAt readings i (severalAt f (n - 1) at) s)
   unfolding restRun
   rest-drop f zero at o b = absurd (omega arith)
   rest-drop f (suc n) at o b = rw sub-one
@@ -156,9 +131,9 @@ pub record Going (rows : List ℕ) (block levels : ℕ) (readings : List ℤ) (w
   pub ready : Ready rows (last .next) readings w opened (last .opened) (last .taken)
   pub sound : Sound (last .kind) (last .payload)
   pub opens : Opened opened₀ opened n (last .opened) (block + 1) (last .next)
-  pub rest : IsRest (treeAt levels rows) left (last .next)
-  pub cells : last .taken + boxesRest (treeAt levels rows) left (last .next) ≤ 64
-  pub is : restRun readings (treeAt levels rows) block left (last .next) (outcome w opened n last) ≡ restRun readings (treeAt levels rows) block (fieldIn rows block 1) (block + 1) (stateAt w₀ taken [], empty)
+  pub rest : IsRest (treeAt 64 levels rows) left (last .next)
+  pub cells : last .taken + boxesRest (treeAt 64 levels rows) left (last .next) ≤ 64
+  pub is : restRun readings (treeAt 64 levels rows) block left (last .next) (outcome w opened n last) ≡ restRun readings (treeAt 64 levels rows) block (fieldAt rows block 1) (block + 1) (stateAt w₀ taken [], empty)
 
 module _ (rows : List ℕ) (block levels : ℕ) (readings : List ℤ) (w₀ opened₀ : List ℕ) (n taken : ℕ) where
   abbrev first : Standing
@@ -169,7 +144,7 @@ module _ (rows : List ℕ) (block levels : ℕ) (readings : List ℤ) (w₀ open
   first-outcome = let z : n - n ≡ 0 = omega arith in rw (z, empty-is)
 
   pub going-starts : BlockReady rows block levels readings w₀ opened₀ n taken
-      → Going rows block levels readings w₀ opened₀ n taken w₀ opened₀ (fieldIn rows block 1) (record { fault = 0; term = block; kind = 0; payload = 0; taken = taken; opened = n; next = block + 1 })
+      → Going rows block levels readings w₀ opened₀ n taken w₀ opened₀ (fieldAt rows block 1) (record { fault = 0; term = block; kind = 0; payload = 0; taken = taken; opened = n; next = block + 1 })
   going-starts g = record {
     fine = refl;
     ready = g .ready;
@@ -177,7 +152,7 @@ module _ (rows : List ℕ) (block levels : ℕ) (readings : List ℤ) (w₀ open
     opens = record { kept = λ k h. refl; more = omega arith; few = omega arith; listed = g .ready .listed; room = let z = g .room in omega arith };
     rest = g .is;
     cells = g .cells;
-    is = ap (restRun readings (treeAt levels rows) block (fieldIn rows block 1) (block + 1)) first-outcome;
+    is = ap (restRun readings (treeAt 64 levels rows) block (fieldAt rows block 1) (block + 1)) first-outcome;
   }
 
   module _ (w opened : List ℕ) (left₁ : ℕ) (last : Standing) (g : Going rows block levels readings w₀ opened₀ n taken w opened left₁ last) where
@@ -187,21 +162,21 @@ module _ (rows : List ℕ) (block levels : ℕ) (readings : List ℤ) (w₀ open
       tidy = g .ready .tidy;
       is =
           stood-goes w opened n last (g .fine)
-          ∙ ap (λ (m : ℕ). restRun readings (treeAt levels rows) block m (last .next) (outcome w opened n last)) (let z : 0 ≡ left₁ = omega arith in z)
+          ∙ ap (λ (m : ℕ). restRun readings (treeAt 64 levels rows) block m (last .next) (outcome w opened n last)) (let z : 0 ≡ left₁ = omega arith in z)
           ∙ g .is;
       sound = λ z. g .sound;
       opens = λ z. g .opens;
     }
 
-    module _ (some : 0 < left₁) (w₁ : List ℕ) (m : ℕ) (d : Dropped w (last .kind) (last .payload) w₁ m) where
+    module _ (any : 0 < left₁) (w₁ : List ℕ) (m : ℕ) (d : Dropped w (last .kind) (last .payload) w₁ m) where
       drop-is : left w₁ (last .taken) (since opened n (last .opened - n)) block m ≡ dropValue block (stateAt w (last .taken) (since opened n (last .opened - n))) (valueOf (last .kind) (last .payload))
       drop-is = d .is block (last .taken) (since opened n (last .opened - n)) (g .ready .ordered)
 
-      turn : (seen (left w₁ (last .taken) (since opened n (last .opened - n)) block m) >>= λ s. runsOn readings (decodes (treeAt levels rows) (left₁ - 1) (last .next)) block s)
-          ≡ restRun readings (treeAt levels rows) block (fieldIn rows block 1) (block + 1) (stateAt w₀ taken [], empty)
+      turn : (seen (left w₁ (last .taken) (since opened n (last .opened - n)) block m) >>= λ s. runsAt readings block (severalAt (treeAt 64 levels rows) (left₁ - 1) (last .next)) s)
+          ≡ restRun readings (treeAt 64 levels rows) block (fieldAt rows block 1) (block + 1) (stateAt w₀ taken [], empty)
       turn =
-          ap (λ (x : Ran State). seen x >>= λ s. runsOn readings (decodes (treeAt levels rows) (left₁ - 1) (last .next)) block s) drop-is
-          ∙ sym (rest-drop readings block (treeAt levels rows) left₁ (last .next) (outcome w opened n last) some)
+          ap (λ (x : Ran State). seen x >>= λ s. runsAt readings block (severalAt (treeAt 64 levels rows) (left₁ - 1) (last .next)) s) drop-is
+          ∙ sym (rest-drop readings block (treeAt 64 levels rows) left₁ (last .next) (outcome w opened n last) any)
           ∙ g .is
 
       -- The drop faults.
@@ -211,36 +186,36 @@ module _ (rows : List ℕ) (block levels : ℕ) (readings : List ℤ) (w₀ open
         tidy = d .tidy;
         is =
             ap (stood w₁ opened n) e ∙ stood-stops w₁ opened n (withoutValue last m block) z
-            ∙ sym (ap (λ (x : Ran State). seen x >>= λ s. runsOn readings (decodes (treeAt levels rows) (left₁ - 1) (last .next)) block s) (left-stops w₁ (last .taken) (since opened n (last .opened - n)) block m z))
+            ∙ sym (ap (λ (x : Ran State). seen x >>= λ s. runsAt readings block (severalAt (treeAt 64 levels rows) (left₁ - 1) (last .next)) s) (left-stops w₁ (last .taken) (since opened n (last .opened - n)) block m z))
             ∙ turn;
         sound = λ y. absurd (z (sym (ap (λ (x : Standing). x .fault) e) ∙ y));
         opens = λ y. absurd (z (sym (ap (λ (x : Standing). x .fault) e) ∙ y));
       }
 
       module _ (z : m ≡ 0) where
-        gone : runsOn readings (decodes (treeAt levels rows) (left₁ - 1) (last .next)) block (stateAt w₁ (last .taken) (since opened n (last .opened - n)))
-            ≡ restRun readings (treeAt levels rows) block (fieldIn rows block 1) (block + 1) (stateAt w₀ taken [], empty)
+        gone : runsAt readings block (severalAt (treeAt 64 levels rows) (left₁ - 1) (last .next)) (stateAt w₁ (last .taken) (since opened n (last .opened - n)))
+            ≡ restRun readings (treeAt 64 levels rows) block (fieldAt rows block 1) (block + 1) (stateAt w₀ taken [], empty)
         unfolding seen _>>=_
         gone =
-            sym (ap (λ (x : Ran State). seen x >>= λ s. runsOn readings (decodes (treeAt levels rows) (left₁ - 1) (last .next)) block s) (left-goes w₁ (last .taken) (since opened n (last .opened - n)) block m z))
+            sym (ap (λ (x : Ran State). seen x >>= λ s. runsAt readings block (severalAt (treeAt 64 levels rows) (left₁ - 1) (last .next)) s) (left-goes w₁ (last .taken) (since opened n (last .opened - n)) block m z))
             ∙ turn
 
         ordered₁ : InOrder (stateAt w₁ (last .taken) [])
         ordered₁ = drop-ordered block (stateAt w (last .taken) (since opened n (last .opened - n))) (valueOf (last .kind) (last .payload)) (g .ready .ordered) (stateAt w₁ (last .taken) (since opened n (last .opened - n)))
             (sym drop-is ∙ left-goes w₁ (last .taken) (since opened n (last .opened - n)) block m z)
 
-        cells-now : last .taken + (boxesAt (treeAt levels rows (last .next)) + boxesRest (treeAt levels rows) (left₁ - 1) (endOf (treeAt levels rows (last .next)))) ≤ 64
-        cells-now = let a = g .cells in let b = rest-cells (treeAt levels rows) left₁ (last .next) some (g .rest) in omega arith
+        cells-now : last .taken + (boxesAt (treeAt 64 levels rows (last .next)) + boxesRest (treeAt 64 levels rows) (left₁ - 1) (endOf (treeAt 64 levels rows (last .next)))) ≤ 64
+        cells-now = let a = g .cells in let b = rest-cells (treeAt 64 levels rows) left₁ (last .next) any (g .rest) in omega arith
 
         pub turn-ready : TermReady rows (last .next) levels readings w₁ opened (last .opened) (last .taken)
         turn-ready = record {
           ready = record { long = g .ready .long; eight = g .ready .eight; many = g .ready .many; tidy = d .tidy; ordered = ordered₁; few = g .ready .few; listed = g .ready .listed };
-          is = first-asks (treeAt levels rows) left₁ (last .next) some (g .rest);
+          is = rest-first (treeAt 64 levels rows) left₁ (last .next) any (g .rest);
           cells = let a = cells-now in omega arith;
         }
 
         module _ (w₂ opened₂ : List ℕ) (r : Standing) (t : TermRan rows (last .next) levels readings w₁ opened (last .opened) (last .taken) w₂ opened₂ r) where
-          stood-is : stood w₂ opened₂ n r ≡ runAt readings (treeAt levels rows (last .next)) (stateAt w₁ (last .taken) (since opened n (last .opened - n)))
+          stood-is : stood w₂ opened₂ n r ≡ runAt readings (treeAt 64 levels rows (last .next)) (stateAt w₁ (last .taken) (since opened n (last .opened - n)))
           stood-is = t .is n (g .opens .more)
 
           -- The term faults.
@@ -249,7 +224,7 @@ module _ (rows : List ℕ) (block levels : ℕ) (readings : List ℤ) (w₀ open
             tidy = t .tidy;
             is =
                 stood-stops w₂ opened₂ n r y
-                ∙ rest-stop readings block (stateAt w₁ (last .taken) (since opened n (last .opened - n))) (treeAt levels rows) left₁ (last .next) _ some (g .rest) (sym (stood-stops w₂ opened₂ n r y) ∙ stood-is)
+                ∙ rest-stop readings block (stateAt w₁ (last .taken) (since opened n (last .opened - n))) (treeAt 64 levels rows) left₁ (last .next) _ any (g .rest) (sym (stood-stops w₂ opened₂ n r y) ∙ stood-is)
                 ∙ gone;
             sound = λ x. absurd (y x);
             opens = λ x. absurd (y x);
@@ -259,7 +234,7 @@ module _ (rows : List ℕ) (block levels : ℕ) (readings : List ℤ) (w₀ open
           pub going-goes : r .fault ≡ 0 → length opened₂ ≡ 512 → Going rows block levels readings w₀ opened₀ n taken w₂ opened₂ (left₁ - 1) r
           going-goes y long =
               let o = t .opens y in
-              let x = went-well readings (treeAt levels rows (last .next)) (stateAt w₁ (last .taken) (since opened n (last .opened - n))) w₂ opened₂ n r y stood-is in
+              let x = went-well readings (treeAt 64 levels rows (last .next)) (stateAt w₁ (last .taken) (since opened n (last .opened - n))) w₂ opened₂ n r y stood-is in
               let f = term-fine rows (last .next) levels readings w₁ opened (last .opened) (last .taken) turn-ready w₂ opened₂ r t y in
               let k = term-taken rows (last .next) levels readings w₁ opened (last .opened) (last .taken) turn-ready w₂ opened₂ r t y in
               let c = cells-now in
@@ -274,34 +249,25 @@ module _ (rows : List ℕ) (block levels : ℕ) (readings : List ℤ) (w₀ open
                 ready = record { long = g .ready .long; eight = g .ready .eight; many = long; tidy = t .tidy; ordered = f .ordered; few = omega arith; listed = o .listed };
                 sound = f .sound;
                 opens = record { kept = λ j h. o .kept j (omega arith) ∙ a .kept j h; more = omega arith; few = omega arith; listed = o .listed; room = o .room };
-                rest = rw (x .end) (rest-asks (treeAt levels rows) left₁ (last .next) some (g .rest));
+                rest = rw (x .end) (rest-asks (treeAt 64 levels rows) left₁ (last .next) any (g .rest));
                 cells = rw (x .end) (omega arith);
                 is =
-                    ap (λ (j : ℕ). restRun readings (treeAt levels rows) block (left₁ - 1) j (outcome w₂ opened₂ n r)) (x .end)
-                    ∙ rest-go readings block (stateAt w₁ (last .taken) (since opened n (last .opened - n))) (treeAt levels rows) left₁ (last .next) (outcome w₂ opened₂ n r) some (g .rest) (x .ran)
+                    ap (λ (j : ℕ). restRun readings (treeAt 64 levels rows) block (left₁ - 1) j (outcome w₂ opened₂ n r)) (x .end)
+                    ∙ rest-go readings block (stateAt w₁ (last .taken) (since opened n (last .opened - n))) (treeAt 64 levels rows) left₁ (last .next) (outcome w₂ opened₂ n r) any (g .rest) (x .ran)
                     ∙ gone;
               }
 
-pub going-enters : (rows : List ℕ) (block levels : ℕ) (readings : List ℤ) (w opened : List ℕ) (n taken : ℕ) → BlockReady rows block levels readings w opened n taken → (l : ℕ) → l ≡ fieldIn rows block 1 → (a : Standing) → a ≡ enteredAt block n taken → Going rows block levels readings w opened n taken w opened l a
+pub going-enters : (rows : List ℕ) (i levels : ℕ) (readings : List ℤ) (w opened : List ℕ) (n taken : ℕ) → BlockReady rows i levels readings w opened n taken → (l : ℕ) → l ≡ fieldAt rows i 1 → (a : Standing) → a ≡ enteredAt i n taken → Going rows i levels readings w opened n taken w opened l a
 unfolding enteredAt
-going-enters rows block levels readings w opened n taken g l el a ea = rw (el, ea) (going-starts rows block levels readings w opened n taken g)
+going-enters rows i levels readings w opened n taken g l el a ea = rw (el, ea) (going-starts rows i levels readings w opened n taken g)
 
 -- ---- the block as a term
 
-some-rest : (f : ℕ → Decoded) (n at : ℕ) → IsTrees (someOf f n at) → IsRest f n at
-unfolding someOf
-some-rest f zero at h = absurd h
-some-rest f (suc n) at h = h
-
-some-cells : (f : ℕ → Decoded) (n at : ℕ) → boxesRest f n at ≡ boxesFrom (someOf f n at)
-unfolding boxesRest someOf boxesFrom
-some-cells f zero at = refl
-some-cells f (suc n) at = refl
-
-some-run : (readings : List ℤ) (f : ℕ → Decoded) (i n at : ℕ) (s : State) → IsTrees (someOf f n at) → restRun readings f i n at (s, empty) ≡ runsOn readings (someOf f n at) i s
-unfolding restRun someOf seen _>>=_
-some-run readings f i zero at s h = absurd h
-some-run readings f i (suc n) at s h = rw (drop-empty i s)
+-- Its first term drops no value.
+terms-run : (readings : List ℤ) (f : ℕ → RowTree Term) (i n at : ℕ) (s : State) → IsTree (termsAt f n at) → restRun readings f i n at (s, empty) ≡ runsAt readings i (termsAt f n at) s
+unfolding restRun termsAt seen _>>=_
+terms-run readings f i zero at s h = absurd h
+terms-run readings f i (suc n) at s h = rw (drop-empty i s)
 
 -- After a fault no rule counts.
 any-rule : (w opened : List ℕ) (begin : ℕ) (r : Standing) (f g : Outcome → Ran Outcome) → (r .fault ≡ 0 → ⊥) → sequel (stood w opened begin r) f ≡ sequel (stood w opened begin r) g
@@ -309,50 +275,52 @@ unfolding sequel
 any-rule w opened begin r f g n = rw (stood-stops w opened begin r n)
 
 module _ (rows : List ℕ) (i levels : ℕ) (readings : List ℤ) (w opened : List ℕ) (n taken : ℕ) (g : TermReady rows i levels readings w opened n taken)
-    (e : fieldIn rows i 0 ≡ 11) where
-  asks : IsTrees (someOf (treeAt (levels - 1) rows) (fieldIn rows i 1) (i + 1))
-  asks = block-asks levels rows i (g .is) e
+    (e : fieldAt rows i 0 ≡ 11) where
+  abbrev terms : RowTree Terms
+  terms = termsAt (treeAt 64 (levels - 1) rows) (fieldAt rows i 1) (i + 1)
 
-  is-block : treeAt levels rows i ≡ blockD i (someOf (treeAt (levels - 1) rows) (fieldIn rows i 1) (i + 1))
-  is-block = block-is levels rows i (g .is) e
+  asks : IsTree terms
+  asks = block-inner 64 levels rows i (g .is) e
+
+  is-block : treeAt 64 levels rows i ≡ around (block i) terms
+  is-block = block-is 64 levels rows i (g .is) e
 
   pub block-ready : BlockReady rows i (levels - 1) readings w opened n taken
+  unfolding boxesIn
   block-ready = record {
     ready = next-ready rows i readings w opened n taken (g .ready);
-    room = let z = term-room rows i levels readings w opened n taken g in omega arith;
-    is = some-rest (treeAt (levels - 1) rows) (fieldIn rows i 1) (i + 1) asks;
-    cells =
-        let a = g .cells in
-        let b = ap boxesAt is-block ∙ block-cells i (someOf (treeAt (levels - 1) rows) (fieldIn rows i 1) (i + 1)) asks ∙ sym (some-cells (treeAt (levels - 1) rows) (fieldIn rows i 1) (i + 1)) in
-        omega arith;
+    room = omega (arith, term-room rows i levels readings w opened n taken g);
+    is = block-rest 64 levels rows i (g .is) e (fieldAt rows i 1) refl;
+    cells = omega (arith, g .cells, ap boxesAt is-block, around-cells (block i) boxesAll boxesIn 0 (λ ts. omega arith) terms asks);
   }
 
   module _ (w₁ opened₁ : List ℕ) (inner : Standing) (t : BlockRan rows i (levels - 1) readings w opened n taken w₁ opened₁ inner) where
-    runs-is : stood w₁ opened₁ n inner ≡ runsOn readings (someOf (treeAt (levels - 1) rows) (fieldIn rows i 1) (i + 1)) i (stateAt w taken [])
-    runs-is = t .is ∙ some-run readings (treeAt (levels - 1) rows) i (fieldIn rows i 1) (i + 1) (stateAt w taken []) asks
+    runs-is : stood w₁ opened₁ n inner ≡ runsAt readings i terms (stateAt w taken [])
+    runs-is = t .is ∙ terms-run readings (treeAt 64 (levels - 1) rows) i (fieldAt rows i 1) (i + 1) (stateAt w taken []) asks
 
-    runs-fine : (ds : Decodeds) → IsTrees ds → inner .fault ≡ 0 → stood w₁ opened₁ n inner ≡ runsOn readings ds i (stateAt w taken []) → InOrder (stateAt w₁ (inner .taken) [])
-    unfolding runsOn
-    runs-fine (trees ts j) h z q =
-        keeps-ok (runs-ordered (bitsOf readings) ts i (stateAt w taken []) (g .ready .ordered)) (outcome w₁ opened₁ n inner) (same-ran (runs (bitsOf readings) ts i (stateAt w taken [])) (outcome w₁ opened₁ n inner) (inner .next) j (sym (stood-goes w₁ opened₁ n inner z) ∙ q) .0)
-    runs-fine brokens h z q = absurd h
+    runs-fine : (ds : RowTree Terms) → IsTree ds → inner .fault ≡ 0 → stood w₁ opened₁ n inner ≡ runsAt readings i ds (stateAt w taken []) → InOrder (stateAt w₁ (inner .taken) [])
+    unfolding stoodOn ranOn endOf
+    runs-fine none h z q = absurd h
+    runs-fine (some r) h z q =
+        keeps-ok (runs-ordered (bitsOf readings) (r .0) i (stateAt w taken []) (g .ready .ordered)) (outcome w₁ opened₁ n inner) (same-ran (runs (bitsOf readings) (r .0) i (stateAt w taken [])) (outcome w₁ opened₁ n inner) (inner .next) (r .1) (sym (stood-goes w₁ opened₁ n inner z) ∙ q) .0)
 
     pub block-ending : length opened₁ ≡ 512 → EndReady w₁ opened₁ n inner
     block-ending long = record {
-      ready = record { tidy = t .tidy; fine = λ z. record { sound = t .sound z; ordered = runs-fine (someOf (treeAt (levels - 1) rows) (fieldIn rows i 1) (i + 1)) asks z runs-is } };
+      ready = record { tidy = t .tidy; fine = λ z. record { sound = t .sound z; ordered = runs-fine terms asks z runs-is } };
       listed = λ z. t .opens z .listed;
       begun = λ z. t .opens z .more;
       few = λ z. let o = t .opens z in let a = o .few in let b = o .room in let c = g .ready .few in omega arith;
     }
 
     pub block-returns : (w₂ : List ℕ) (r : Standing) → BlockClosed w₁ opened₁ i n inner w₂ r → TermRan rows i levels readings w opened n taken w₂ opened₁ r
+    unfolding run
     block-returns w₂ r b = record {
       tidy = b .tidy;
       is = λ begin h.
-          b .is begin ∙ around begin h (ℕ-discrete (inner .fault) 0)
+          b .is begin ∙ same-rule begin h (ℕ-discrete (inner .fault) 0)
           ∙ ap (λ (m : Stood). sequel m (λ o. runBlockEnd i (since opened begin (n - begin)) o)) runs-is
-          ∙ block-run readings i w taken (since opened begin (n - begin)) (someOf (treeAt (levels - 1) rows) (fieldIn rows i 1) (i + 1)) asks
-          ∙ ap (λ (d : Decoded). runAt readings d (stateAt w taken (since opened begin (n - begin)))) (sym is-block);
+          ∙ around-run readings (block i) (λ ts. runs (bitsOf readings) ts i) (λ o. runBlockEnd i (since opened begin (n - begin)) o) (stateAt w taken (since opened begin (n - begin))) (stateAt w taken []) (λ ts. refl) terms asks
+          ∙ ap (λ (d : RowTree Term). runAt readings d (stateAt w taken (since opened begin (n - begin)))) (sym is-block);
       sound = λ z. b .went z .sound;
       opens = λ z.
           let o = t .opens (b .went z .fine) in
@@ -363,7 +331,7 @@ module _ (rows : List ℕ) (i levels : ℕ) (readings : List ℤ) (w opened : Li
           record { kept = o .kept; more = omega arith; few = omega arith; listed = λ k h. o .listed k (omega arith); room = rw q (o .room) };
     }
       where
-        around : (begin : ℕ) → begin ≤ n → Dec (inner .fault ≡ 0)
+        same-rule : (begin : ℕ) → begin ≤ n → Dec (inner .fault ≡ 0)
             → sequel (stood w₁ opened₁ n inner) (λ o. runBlockEnd i (since opened₁ begin (n - begin)) o) ≡ sequel (stood w₁ opened₁ n inner) (λ o. runBlockEnd i (since opened begin (n - begin)) o)
-        around begin h (yes z) = ap (λ (l : List ℕ). sequel (stood w₁ opened₁ n inner) (λ o. runBlockEnd i l o)) (since-kept opened₁ opened begin n h (t .opens z .kept))
-        around begin h (no z) = any-rule w₁ opened₁ n inner _ _ z
+        same-rule begin h (yes z) = ap (λ (l : List ℕ). sequel (stood w₁ opened₁ n inner) (λ o. runBlockEnd i l o)) (since-kept opened₁ opened begin n h (t .opens z .kept))
+        same-rule begin h (no z) = any-rule w₁ opened₁ n inner _ _ z

@@ -2,6 +2,7 @@
 use Prim.Native.Nat.{ℕ, _-_, _<_}
 use native.Mathlib.Omega.{arith}
 use mathlib.Core.Path.{_≡_, refl, sym, ap, _∙_}
+use mathlib.Core.Option.{none, some}
 use mathlib.Core.List.{List, []}
 use lib.IntN.{ℤ}
 use lib.ListN.{length, getD}
@@ -14,6 +15,7 @@ use Rattle.reader.specs.Script.{Term}
 use Rattle.reader.specs.Layout.{zeros}
 use Rattle.reader.specs.Measures.{size}
 use Rattle.reader.specs.Reader.{decode}
+use Rattle.reader.specs.RowTrees.{RowTree, IsTree, treeAt}
 use Rattle.reader.specs.Answers.{told, rowsTree, judgedOf}
 use Rattle.reader.specs.declared.Outcome.the-variants as judgement
 use Rattle.machine.specs.Values.{cell, closed}
@@ -22,9 +24,8 @@ use Rattle.machine.specs.Locate.{numberIn}
 use Rattle.machine.specs.Run.{Outcome, run, runScript}
 use Rattle.machine.specs.Encode.{encode}
 use Rattle.machine.specs.Answers.{answered, refused, faulted, AnswerAndStore, toldRun, runFits, runnable, bitsOf, ranInto, runInto, runOf}
-use Rattle.machine.specs.RowTrees.{Decoded, tree, broken, IsTree, endOf, boxesAt, treeAt}
 use Rattle.machine.specs.Words.{valueOf, storeOf}
-use Rattle.machine.specs.Parts.{stateAt, since, Stop, seen, Stood, atRow, outcome, stood, runOn, runAt, EndReady, BlockClosed, TermReady, TermRan, BlockReady, BlockRan, ScriptReady, scriptOn, scriptRan}
+use Rattle.machine.specs.Parts.{stateAt, since, Stop, seen, Stood, atRow, outcome, stood, ranOn, EndReady, BlockClosed, endOf, boxesBy, stoodOn, runAt, TermReady, TermRan, BlockReady, BlockRan, ScriptReady, scriptOn, scriptRan}
 use Rattle.machine.specs.declared.around.Standing.{Standing}
 use Rattle.machine.specs.declared.RunOutcome.the-variants as out
 use Rattle.machine.proofs.WordLaws.{cleared-store, cleared-tidy}
@@ -62,23 +63,27 @@ module _ (readings : List ℤ) (t : Term) (w : List ℕ) (words : encode 64 128 
     unfolding runScript ranInto base numberIn _>>=_
     number-ends n = ap (λ (x : List ℕ). (answered (toZ w32 p) taken, x)) (sym words) ∙ sym (rw (q, value-number k p n))
 
-module _ (readings : List ℤ) (t : Term) (j : ℕ) (w : List ℕ) (words : encode 64 128 (storeOf w) ≡ w) where
-  tree-faults : (n i : ℕ) → _≡_ {A = Stood} (err (record { number = n; term = i; store = storeOf w })) (runAt readings (tree t j) start) → _≡_ {A = AnswerAndStore} (faulted n i, w) (scriptOn readings (tree t j))
-  unfolding runAt runOn endOf scriptOn
-  tree-faults n i q = fault-ends readings t w words (run (bitsOf readings) t start) n i j refl q
+-- The same of a term that stands in rows.
+module _ (readings : List ℤ) (w : List ℕ) (words : encode 64 128 (storeOf w) ≡ w) where
+  tree-faults : (d : RowTree Term) → IsTree d → (n i : ℕ) → _≡_ {A = Stood} (err (record { number = n; term = i; store = storeOf w })) (runAt readings d start) → _≡_ {A = AnswerAndStore} (faulted n i, w) (scriptOn readings d)
+  unfolding stoodOn ranOn endOf scriptOn
+  tree-faults none h n i q = absurd h
+  tree-faults (some t) h n i q = fault-ends readings (t .0) w words (run (bitsOf readings) (t .0) start) n i (t .1) refl q
 
-  module _ (opened : List ℕ) (r : Standing) (q : _≡_ {A = Stood} (ok (outcome w opened 0 r, r .next)) (runAt readings (tree t j) start)) where
-    tree-ran : run (bitsOf readings) t start ≡ ok (outcome w opened 0 r)
-    unfolding runAt runOn endOf
-    tree-ran = same-ran (run (bitsOf readings) t start) (outcome w opened 0 r) (r .next) j q .0
+  module _ (opened : List ℕ) (r : Standing) where
+    tree-ran : (t : Term × ℕ) → _≡_ {A = Stood} (ok (outcome w opened 0 r, r .next)) (runAt readings (some t) start) → run (bitsOf readings) (t .0) start ≡ ok (outcome w opened 0 r)
+    unfolding stoodOn ranOn endOf
+    tree-ran t q = same-ran (run (bitsOf readings) (t .0) start) (outcome w opened 0 r) (r .next) (t .1) q .0
 
-    tree-wrong : (r .kind ≡ 1 → ⊥) → _≡_ {A = AnswerAndStore} (faulted 61 0, w) (scriptOn readings (tree t j))
+    tree-wrong : (d : RowTree Term) → IsTree d → _≡_ {A = Stood} (ok (outcome w opened 0 r, r .next)) (runAt readings d start) → (r .kind ≡ 1 → ⊥) → _≡_ {A = AnswerAndStore} (faulted 61 0, w) (scriptOn readings d)
     unfolding scriptOn
-    tree-wrong k = wrong-ends readings t w words (r .taken) (since opened 0 (r .opened - 0)) (r .kind) (r .payload) tree-ran k
+    tree-wrong none h q k = absurd h
+    tree-wrong (some t) h q k = wrong-ends readings (t .0) w words (r .taken) (since opened 0 (r .opened - 0)) (r .kind) (r .payload) (tree-ran t q) k
 
-    tree-answers : r .kind ≡ 1 → _≡_ {A = AnswerAndStore} (answered (toZ w32 (r .payload)) (r .taken), w) (scriptOn readings (tree t j))
+    tree-answers : (d : RowTree Term) → IsTree d → _≡_ {A = Stood} (ok (outcome w opened 0 r, r .next)) (runAt readings d start) → r .kind ≡ 1 → _≡_ {A = AnswerAndStore} (answered (toZ w32 (r .payload)) (r .taken), w) (scriptOn readings d)
     unfolding scriptOn
-    tree-answers k = number-ends readings t w words (r .taken) (since opened 0 (r .opened - 0)) (r .kind) (r .payload) tree-ran k
+    tree-answers none h q k = absurd h
+    tree-answers (some t) h q k = number-ends readings (t .0) w words (r .taken) (since opened 0 (r .opened - 0)) (r .kind) (r .payload) (tree-ran t q) k
 
 -- ---- the run of judged rows
 
@@ -116,39 +121,25 @@ module _ (rows : List ℕ) (readings : List ℤ) (w : List ℕ) (g : ScriptReady
         term-ran : TermRan rows 0 16 readings w₁ opened 0 0 w₃ opened₂ r
         term-ran = block-returns rows 0 16 readings w₁ opened 0 0 (script-ready opened h) (g .root) w₂ opened₂ inner t w₃ r b
 
-        ran : stood w₃ opened₂ 0 r ≡ runAt readings (treeAt 16 rows 0) start
+        ran : stood w₃ opened₂ 0 r ≡ runAt readings (treeAt 64 16 rows 0) start
         unfolding since
-        ran = term-ran .is 0 (omega arith) ∙ ap (λ (S : Store). runAt readings (treeAt 16 rows 0) (record { store = S; taken = 0; opened = [] })) closed-now
+        ran = term-ran .is 0 (omega arith) ∙ ap (λ (S : Store). runAt readings (treeAt 64 16 rows 0) (record { store = S; taken = 0; opened = [] })) closed-now
 
         -- A fault of a term.
         pub script-faults : (r .fault ≡ 0 → ⊥) → _≡_ {A = AnswerAndStore} (toldRun (out.Faulted (r .fault) (r .term)), w₃) (scriptRan rows readings)
         unfolding scriptRan toldRun
-        script-faults n = go (treeAt 16 rows 0) (g .is) (sym (stood-stops w₃ opened₂ 0 r n) ∙ ran)
-          where
-            go : (d : Decoded) → IsTree d → _≡_ {A = Stood} (err (record { number = r .fault; term = r .term; store = storeOf w₃ })) (runAt readings d start)
-                → _≡_ {A = AnswerAndStore} (faulted (r .fault) (r .term), w₃) (scriptOn readings d)
-            go (tree x j) h q = tree-faults readings x j w₃ (b .tidy .words) (r .fault) (r .term) q
-            go broken h q = absurd h
+        script-faults n = tree-faults readings w₃ (b .tidy .words) (treeAt 64 16 rows 0) (g .is) (r .fault) (r .term) (sym (stood-stops w₃ opened₂ 0 r n) ∙ ran)
 
         module _ (n : r .fault ≡ 0) where
           -- The answer is no number.
           pub script-wrong : (r .kind ≡ 1 → ⊥) → _≡_ {A = AnswerAndStore} (toldRun (out.Faulted 61 0), w₃) (scriptRan rows readings)
           unfolding scriptRan toldRun
-          script-wrong k = go (treeAt 16 rows 0) (g .is) (sym (stood-goes w₃ opened₂ 0 r n) ∙ ran)
-            where
-              go : (d : Decoded) → IsTree d → _≡_ {A = Stood} (ok (outcome w₃ opened₂ 0 r, r .next)) (runAt readings d start) → _≡_ {A = AnswerAndStore} (faulted 61 0, w₃) (scriptOn readings d)
-              go (tree x j) h q = tree-wrong readings x j w₃ (b .tidy .words) opened₂ r q k
-              go broken h q = absurd h
+          script-wrong k = tree-wrong readings w₃ (b .tidy .words) opened₂ r (treeAt 64 16 rows 0) (g .is) (sym (stood-goes w₃ opened₂ 0 r n) ∙ ran) k
 
           -- The answer.
           pub script-answers : r .kind ≡ 1 → (a : ℤ) → a ≡ toZ w32 (r .payload) → _≡_ {A = AnswerAndStore} (toldRun (out.Answered a (r .taken)), w₃) (scriptRan rows readings)
           unfolding scriptRan toldRun
-          script-answers k a ea = rw ea (go (treeAt 16 rows 0) (g .is) (sym (stood-goes w₃ opened₂ 0 r n) ∙ ran))
-            where
-              go : (d : Decoded) → IsTree d → _≡_ {A = Stood} (ok (outcome w₃ opened₂ 0 r, r .next)) (runAt readings d start)
-                  → _≡_ {A = AnswerAndStore} (answered (toZ w32 (r .payload)) (r .taken), w₃) (scriptOn readings d)
-              go (tree x j) h q = tree-answers readings x j w₃ (b .tidy .words) opened₂ r q k
-              go broken h q = absurd h
+          script-answers k a ea = rw ea (tree-answers readings w₃ (b .tidy .words) opened₂ r (treeAt 64 16 rows 0) (g .is) (sym (stood-goes w₃ opened₂ 0 r n) ∙ ran) k)
 
 -- ---- the public function
 
@@ -204,7 +195,7 @@ module _ (rows : List ℕ) (readings : List ℤ) (w : List ℕ) where
           runs = judged rows (script .0) words a (script .1)
 
           pub script-judged : ScriptReady rows readings w
-          unfolding boxesAt
+          unfolding boxesBy
           script-judged = record {
             long = a;
             eight = c;

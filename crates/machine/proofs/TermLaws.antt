@@ -4,29 +4,32 @@ use native.Mathlib.Omega.{arith}
 use native.Mathlib.Decide.{ℕ-discrete}
 use mathlib.Core.Path.{_≡_, refl, sym, ap, subst, _∙_}
 use mathlib.Core.Bool.{Bool, true, false}
-use mathlib.Core.List.{List, []}
+use mathlib.Core.Option.{none, some}
+use mathlib.Core.List.{List}
 use lib.Dec.{eqb}
 use lib.IntN.{ℤ}
 use lib.ListN.{length, getD, set}
 use lib.Seq.{getD-set-same, getD-set-other}
 use Rattle.reader.specs.Result.{ok, err, pick, _>>=_}
-use Rattle.reader.specs.Script.{Place}
+use Rattle.reader.specs.Script.{Term, box, declare, assign}
 use Rattle.reader.specs.Measures.{boxesIn}
+use Rattle.reader.specs.RowParts.{fieldAt}
+use Rattle.reader.specs.RowTrees.{placeAt, RowTree, IsTree, around, treeAt}
+use Rattle.reader.proofs.RowTreeLaws.{around-inner, has-room, box-is, let-number, let-is, assign-is}
 use Rattle.machine.specs.Values.{Value}
 use Rattle.machine.specs.Store.{State, Ran, fault}
 use Rattle.machine.specs.Drop.{InOrder}
-use Rattle.machine.specs.Run.{Outcome, runBox, runLet, runAssign, runBlockEnd, run, runs}
+use Rattle.machine.specs.Run.{Outcome, runBox, runLet, runAssign, run}
 use Rattle.machine.specs.Answers.{bitsOf}
-use Rattle.machine.specs.RowTrees.{Decoded, tree, broken, Decodeds, trees, brokens, IsTree, IsTrees, endOf, boxesAt, boxesFrom, fieldIn, placeIn, boxD, letD, assignD, blockD, treeAt, leafAt}
-use Rattle.machine.specs.Words.{valueOf, storeOf}
-use Rattle.machine.specs.Parts.{stateAt, placeOf, gave, runOn, LeafReady, LeafRan, since, seen, Stood, atRow, outcome, stood, sequel, Fine, InnerReady, BoxReady, Boxed, LetReady, Pushed, Declared, Assigned, Opened, runAt, Ready, PlainRan, TermReady, TermRan, runsOn}
+use Rattle.machine.specs.Words.{valueOf, storeOf, Tidy}
+use Rattle.machine.specs.Parts.{stateAt, gave, ranOn, runOn, leafAt, LeafReady, LeafRan, since, seen, Stood, atRow, outcome, stood, sequel, Fine, InnerReady, Went, BoxReady, Boxed, LetReady, Pushed, Declared, Assigned, Opened, endOf, boxesBy, boxesAt, stoodOn, runAt, Ready, PlainRan, TermReady, TermRan}
 use Rattle.machine.specs.declared.locate.Gave.{Gave}
 use Rattle.machine.specs.declared.around.Standing.{Standing}
 use Rattle.machine.proofs.Kept.{keeps-ok}
 use Rattle.machine.proofs.RunOrder.{run-ordered}
 use Rattle.machine.proofs.Counting.{taken-is, boxes-bound}
 use Rattle.machine.proofs.AroundLaws.{stood-goes}
-use Rattle.machine.proofs.RowLaws.{has-room, box-is, box-asks, let-is, let-asks, let-variable, assign-is, assign-asks, leaf-is, leaf-end}
+use Rattle.machine.proofs.RowLaws.{leaf-is, leaf-end}
 
 -- ---- the outcome of a term, and what follows it
 
@@ -36,31 +39,16 @@ unfolding sequel atRow seen _>>=_
 sequel-bind j (ok o) rule = refl
 sequel-bind j (err f) rule = refl
 
-box-run : (readings : List ℤ) (i : ℕ) (s : State) (d : Decoded) → IsTree d → sequel (runAt readings d s) (λ o. runBox (o .0) (o .1)) ≡ runAt readings (boxD i d) s
-unfolding runAt runOn endOf run
-box-run readings i s (tree t j) h = sequel-bind j (run (bitsOf readings) t s) (λ o. runBox (o .0) (o .1))
-box-run readings i s broken h = absurd h
-
-let-run : (readings : List ℤ) (i x : ℕ) (s : State) (d : Decoded) → IsTree d → sequel (runAt readings d s) (λ o. runLet (o .0) i x (o .1)) ≡ runAt readings (letD i x d) s
-unfolding runAt runOn endOf run
-let-run readings i x s (tree t j) h = sequel-bind j (run (bitsOf readings) t s) (λ o. runLet (o .0) i x (o .1))
-let-run readings i x s broken h = absurd h
-
-assign-run : (readings : List ℤ) (i : ℕ) (p : Place) (s : State) (d : Decoded) → IsTree d → sequel (runAt readings d s) (λ o. runAssign (o .0) i p (o .1)) ≡ runAt readings (assignD i p d) s
-unfolding runAt runOn endOf run
-assign-run readings i p s (tree t j) h = sequel-bind j (run (bitsOf readings) t s) (λ o. runAssign (o .0) i p (o .1))
-assign-run readings i p s broken h = absurd h
-
-pub block-run : (readings : List ℤ) (i : ℕ) (w : List ℕ) (taken : ℕ) (around : List ℕ) (ds : Decodeds) → IsTrees ds
-    → sequel (runsOn readings ds i (stateAt w taken [])) (λ o. runBlockEnd i around o) ≡ runAt readings (blockD i ds) (stateAt w taken around)
-unfolding runAt runsOn runOn endOf run
-block-run readings i w taken around (trees ts j) h = sequel-bind j (runs (bitsOf readings) ts i (stateAt w taken [])) (λ o. runBlockEnd i around o)
-block-run readings i w taken around brokens h = absurd h
+-- A term around what stands in the next rows, whose run is theirs with a rule after it.
+pub around-run : {A : Type 0} (readings : List ℤ) (f : A → Term) (inside : A → State → Ran Outcome) (rule : Outcome → Ran Outcome) (s s₁ : State) → ((a : A) → run (bitsOf readings) (f a) s ≡ (inside a s₁ >>= rule)) → (d : RowTree A) → IsTree d → sequel (stoodOn inside d s₁) rule ≡ runAt readings (around f d) s
+unfolding stoodOn ranOn endOf
+around-run readings f inside rule s s₁ e none h = absurd h
+around-run readings f inside rule s s₁ e (some r) h = sequel-bind (r .1) (inside (r .0) s₁) rule ∙ ap (λ (m : Ran Outcome). atRow (r .1) (seen m)) (sym (e (r .0)))
 
 -- ---- a term that met no fault
 
 -- What it says of the run.
-pub record Went-well (readings : List ℤ) (d : Decoded) (s : State) (o : Outcome) (j : ℕ) : Type 0 where
+pub record Went-well (readings : List ℤ) (d : RowTree Term) (s : State) (o : Outcome) (j : ℕ) : Type 0 where
   pub ran : runOn readings d s ≡ ok o
   pub end : j ≡ endOf d
 
@@ -72,47 +60,30 @@ unfolding atRow seen
 same-ran (ok b) o j k e = let p : _≡_ {A = Outcome × ℕ} (b, k) (o, j) = cc in (ap (λ (x : Outcome × ℕ). ok (x .0)) p, sym (ap (λ (x : Outcome × ℕ). x .1) p))
 same-ran (err f) o j k e = let z : _≡_ {A = ℕ} 0 1 = cc in absurd (omega arith)
 
-pub went-well : (readings : List ℤ) (d : Decoded) (s : State) (w opened : List ℕ) (begin : ℕ) (r : Standing) → r .fault ≡ 0 → stood w opened begin r ≡ runAt readings d s → Went-well readings d s (outcome w opened begin r) (r .next)
-unfolding runAt
+pub went-well : (readings : List ℤ) (d : RowTree Term) (s : State) (w opened : List ℕ) (begin : ℕ) (r : Standing) → r .fault ≡ 0 → stood w opened begin r ≡ runAt readings d s → Went-well readings d s (outcome w opened begin r) (r .next)
+unfolding stoodOn
 went-well readings d s w opened begin r n e =
     let p = same-ran (runOn readings d s) (outcome w opened begin r) (r .next) (endOf d) (sym (stood-goes w opened begin r n) ∙ e) in
     record { ran = p .0; end = p .1 }
 
 module _ (readings : List ℤ) (s : State) (o : Outcome) where
-  ran-ordered : (d : Decoded) → IsTree d → InOrder s → runOn readings d s ≡ ok o → InOrder (o .0)
-  unfolding runOn
-  ran-ordered (tree t j) h q e = keeps-ok (run-ordered (bitsOf readings) t s q) o e
-  ran-ordered broken h q e = absurd h
+  ran-ordered : (d : RowTree Term) → IsTree d → InOrder s → runOn readings d s ≡ ok o → InOrder (o .0)
+  unfolding ranOn
+  ran-ordered none h q e = absurd h
+  ran-ordered (some r) h q e = keeps-ok (run-ordered (bitsOf readings) (r .0) s q) o e
 
-  ran-taken : (d : Decoded) → IsTree d → runOn readings d s ≡ ok o → o .0 .taken ≤ s .taken + boxesAt d
-  unfolding runOn boxesAt
-  ran-taken (tree t j) h e =
-      let a = taken-is (bitsOf readings) t s (o .0) (o .1) e in
-      let b = boxes-bound (bitsOf readings) t s in
-      omega arith
-  ran-taken broken h e = absurd h
+  ran-taken : (d : RowTree Term) → IsTree d → runOn readings d s ≡ ok o → o .0 .taken ≤ s .taken + boxesAt d
+  unfolding ranOn boxesBy
+  ran-taken none h e = absurd h
+  ran-taken (some r) h e = omega (arith, taken-is (bitsOf readings) (r .0) s (o .0) (o .1) e, boxes-bound (bitsOf readings) (r .0) s)
 
 -- ---- what a term asks of its inner term, and what is known after it
 
-box-cells : (i : ℕ) (d : Decoded) → IsTree d → boxesAt (boxD i d) ≡ suc (boxesAt d)
-unfolding boxesAt boxesIn
-box-cells i (tree t j) h = refl
-box-cells i broken h = absurd h
-
-let-cells : (i x : ℕ) (d : Decoded) → IsTree d → boxesAt (letD i x d) ≡ boxesAt d
-unfolding boxesAt boxesIn
-let-cells i x (tree t j) h = refl
-let-cells i x broken h = absurd h
-
-assign-cells : (i : ℕ) (p : Place) (d : Decoded) → IsTree d → boxesAt (assignD i p d) ≡ boxesAt d
-unfolding boxesAt boxesIn
-assign-cells i p (tree t j) h = refl
-assign-cells i p broken h = absurd h
-
-pub block-cells : (i : ℕ) (ds : Decodeds) → IsTrees ds → boxesAt (blockD i ds) ≡ boxesFrom ds
-unfolding boxesAt boxesFrom boxesIn
-block-cells i (trees ts j) h = refl
-block-cells i brokens h = absurd h
+-- The boxes in a term or in terms: k more than in what is inside.
+pub around-cells : {A B : Type 0} (f : A → B) (inside : A → ℕ) (whole : B → ℕ) (k : ℕ) → ((a : A) → whole (f a) ≡ k + inside a) → (d : RowTree A) → IsTree d → boxesBy whole (around f d) ≡ k + boxesBy inside d
+unfolding boxesBy
+around-cells f inside whole k e none h = absurd h
+around-cells f inside whole k e (some r) h = e (r .0)
 
 -- One row further.
 pub next-ready : (rows : List ℕ) (i : ℕ) (readings : List ℤ) (w opened : List ℕ) (n taken : ℕ) → Ready rows i readings w opened n taken → Ready rows (i + 1) readings w opened n taken
@@ -128,152 +99,156 @@ same-opened before after n m m′ i j j′ p q o = rw (p, q) o
 
 module _ (rows : List ℕ) (i levels : ℕ) (readings : List ℤ) (w opened : List ℕ) (n taken : ℕ) (g : TermReady rows i levels readings w opened n taken)
     (w₁ opened₁ : List ℕ) (inner : Standing) (t : TermRan rows i levels readings w opened n taken w₁ opened₁ inner) where
-  well : inner .fault ≡ 0 → Went-well readings (treeAt levels rows i) (stateAt w taken (since opened n (n - n))) (outcome w₁ opened₁ n inner) (inner .next)
-  well z = went-well readings (treeAt levels rows i) (stateAt w taken (since opened n (n - n))) w₁ opened₁ n inner z (t .is n (omega arith))
+  well : inner .fault ≡ 0 → Went-well readings (treeAt 64 levels rows i) (stateAt w taken (since opened n (n - n))) (outcome w₁ opened₁ n inner) (inner .next)
+  well z = went-well readings (treeAt 64 levels rows i) (stateAt w taken (since opened n (n - n))) w₁ opened₁ n inner z (t .is n (omega arith))
 
   pub term-fine : inner .fault ≡ 0 → Fine w₁ inner
   term-fine z = record {
     sound = t .sound z;
-    ordered = ran-ordered readings (stateAt w taken (since opened n (n - n))) (outcome w₁ opened₁ n inner) (treeAt levels rows i) (g .is) (g .ready .ordered) (well z .ran);
+    ordered = ran-ordered readings (stateAt w taken (since opened n (n - n))) (outcome w₁ opened₁ n inner) (treeAt 64 levels rows i) (g .is) (g .ready .ordered) (well z .ran);
   }
 
   inner-ready : InnerReady w₁ inner
   inner-ready = record { tidy = t .tidy; fine = term-fine }
 
-  pub term-taken : inner .fault ≡ 0 → inner .taken ≤ taken + boxesAt (treeAt levels rows i)
-  term-taken z = ran-taken readings (stateAt w taken (since opened n (n - n))) (outcome w₁ opened₁ n inner) (treeAt levels rows i) (g .is) (well z .ran)
+  pub term-taken : inner .fault ≡ 0 → inner .taken ≤ taken + boxesAt (treeAt 64 levels rows i)
+  term-taken z = ran-taken readings (stateAt w taken (since opened n (n - n))) (outcome w₁ opened₁ n inner) (treeAt 64 levels rows i) (g .is) (well z .ran)
 
 module _ (rows : List ℕ) (i levels : ℕ) (readings : List ℤ) (w opened : List ℕ) (n taken : ℕ) (g : TermReady rows i levels readings w opened n taken) where
   pub term-room : i + 1 ≤ 512
-  term-room = let a = has-room levels rows i (g .is) in let b = g .ready .long in omega arith
+  term-room = omega (arith, has-room 64 levels rows i (g .is), g .ready .long)
+
+  -- ---- a term around the one in the next row: f of that one
+
+  abbrev next : RowTree Term
+  next = treeAt 64 (levels - 1) rows (i + 1)
+
+  module _ (f : Term → Term) (e : treeAt 64 levels rows i ≡ around f next) where
+    next-is : IsTree next
+    next-is = around-inner f next (rw e at (g .is))
+
+    module _ (k : ℕ) (boxes : (t : Term) → boxesIn (f t) ≡ k + boxesIn t) where
+      next-cells : taken + (k + boxesAt next) ≤ 64
+      next-cells = omega (arith, g .cells, ap boxesAt e, around-cells f boxesIn boxesIn k boxes next next-is)
+
+      around-ready : TermReady rows (i + 1) (levels - 1) readings w opened n taken
+      around-ready = record {
+        ready = next-ready rows i readings w opened n taken (g .ready);
+        is = next-is;
+        cells = omega (arith, next-cells);
+      }
+
+    module _ (rule : Outcome → Ran Outcome) (runs : (t : Term) (s : State) → run (bitsOf readings) (f t) s ≡ (run (bitsOf readings) t s >>= rule))
+        (w₁ opened₁ : List ℕ) (inner : Standing) (t : TermRan rows (i + 1) (levels - 1) readings w opened n taken w₁ opened₁ inner) where
+      around-is : (begin : ℕ) → begin ≤ n → sequel (stood w₁ opened₁ begin inner) rule ≡ runAt readings (treeAt 64 levels rows i) (stateAt w taken (since opened begin (n - begin)))
+      around-is begin h =
+          let s : State = stateAt w taken (since opened begin (n - begin)) in
+          ap (λ (m : Stood). sequel m rule) (t .is begin h)
+          ∙ around-run readings f (run (bitsOf readings)) rule s s (λ x. runs x s) next next-is
+          ∙ ap (λ (d : RowTree Term). runAt readings d s) (sym e)
+
+      -- Where the rule opens no variable.
+      around-returns : (w₂ : List ℕ) (r : Standing) → Tidy w₂ → ((begin : ℕ) → stood w₂ opened₁ begin r ≡ sequel (stood w₁ opened₁ begin inner) rule) → (r .fault ≡ 0 → Went inner r) → (r .fault ≡ 0 → r .opened ≡ inner .opened) → TermRan rows i levels readings w opened n taken w₂ opened₁ r
+      around-returns w₂ r tidy is went count = record {
+        tidy = tidy;
+        is = λ begin h. is begin ∙ around-is begin h;
+        sound = λ z. went z .sound;
+        opens = λ z. same-opened opened opened₁ n (r .opened) (inner .opened) i (r .next) (inner .next) (count z) (went z .next) (next-opened opened opened₁ n (inner .opened) i (inner .next) (t .opens (went z .fine)));
+      }
 
   -- ---- box
 
-  module _ (e : fieldIn rows i 0 ≡ 7) where
-    box-few : taken + suc (boxesAt (treeAt (levels - 1) rows (i + 1))) ≤ 64
-    box-few =
-        let a = g .cells in
-        let b = ap boxesAt (box-is levels rows i (g .is) e) ∙ box-cells i (treeAt (levels - 1) rows (i + 1)) (box-asks levels rows i (g .is) e) in
-        omega arith
+  module _ (e : fieldAt rows i 0 ≡ 7) where
+    box-cells : (t : Term) → boxesIn (box i t) ≡ 1 + boxesIn t
+    unfolding boxesIn
+    box-cells t = omega arith
 
     pub box-ready : TermReady rows (i + 1) (levels - 1) readings w opened n taken
-    box-ready = record {
-      ready = next-ready rows i readings w opened n taken (g .ready);
-      is = box-asks levels rows i (g .is) e;
-      cells = let a = box-few in omega arith;
-    }
+    box-ready = around-ready (box i) (box-is 64 levels rows i (g .is) e) 1 box-cells
 
     module _ (w₁ opened₁ : List ℕ) (inner : Standing) (t : TermRan rows (i + 1) (levels - 1) readings w opened n taken w₁ opened₁ inner) where
       pub box-filling : BoxReady w₁ inner
       box-filling = record {
         ready = inner-ready rows (i + 1) (levels - 1) readings w opened n taken box-ready w₁ opened₁ inner t;
-        few = λ z. let a = box-few in let b = term-taken rows (i + 1) (levels - 1) readings w opened n taken box-ready w₁ opened₁ inner t z in omega arith;
+        few = λ z. omega (arith, next-cells (box i) (box-is 64 levels rows i (g .is) e) 1 box-cells, term-taken rows (i + 1) (levels - 1) readings w opened n taken box-ready w₁ opened₁ inner t z);
       }
 
       pub box-returns : (w₂ : List ℕ) (r : Standing) → Boxed w₁ inner w₂ r → TermRan rows i levels readings w opened n taken w₂ opened₁ r
-      box-returns w₂ r b = record {
-        tidy = b .tidy;
-        is = λ begin h.
-            b .is opened₁ begin ∙ ap (λ (m : Stood). sequel m (λ o. runBox (o .0) (o .1))) (t .is begin h)
-            ∙ box-run readings i (stateAt w taken (since opened begin (n - begin))) (treeAt (levels - 1) rows (i + 1)) (box-asks levels rows i (g .is) e)
-            ∙ ap (λ (d : Decoded). runAt readings d (stateAt w taken (since opened begin (n - begin)))) (sym (box-is levels rows i (g .is) e));
-        sound = λ z. b .went z .sound;
-        opens = λ z. same-opened opened opened₁ n (r .opened) (inner .opened) i (r .next) (inner .next) (b .count z) (b .went z .next) (next-opened opened opened₁ n (inner .opened) i (inner .next) (t .opens (b .went z .fine)));
-      }
+      unfolding run
+      box-returns w₂ r b = around-returns (box i) (box-is 64 levels rows i (g .is) e) (λ o. runBox (o .0) (o .1)) (λ x s. refl) w₁ opened₁ inner t w₂ r (b .tidy) (b .is opened₁) (b .went) (b .count)
 
   -- ---- let
 
-  module _ (e : fieldIn rows i 0 ≡ 8) where
+  module _ (e : fieldAt rows i 0 ≡ 8) where
     pub let-ready : TermReady rows (i + 1) (levels - 1) readings w opened n taken
-    let-ready = record {
-      ready = next-ready rows i readings w opened n taken (g .ready);
-      is = let-asks levels rows i (g .is) e;
-      cells =
-          let a = g .cells in
-          let b = ap boxesAt (let-is levels rows i (g .is) e) ∙ let-cells i (fieldIn rows i 1) (treeAt (levels - 1) rows (i + 1)) (let-asks levels rows i (g .is) e) in
-          omega arith;
-    }
+    unfolding boxesIn
+    let-ready = around-ready (declare i (fieldAt rows i 1)) (let-is 64 levels rows i (g .is) e) 0 (λ t. omega arith)
 
-    module _ (w₁ opened₁ : List ℕ) (inner : Standing) (t : TermRan rows (i + 1) (levels - 1) readings w opened n taken w₁ opened₁ inner) (long : length opened₁ ≡ 512) (x : ℕ) (ex : x ≡ fieldIn rows i 1) where
-      pub let-opening : LetReady w₁ opened₁ x inner
+    module _ (w₁ opened₁ : List ℕ) (inner : Standing) (t : TermRan rows (i + 1) (levels - 1) readings w opened n taken w₁ opened₁ inner) (long : length opened₁ ≡ 512) where
+      pub let-opening : LetReady w₁ opened₁ (fieldAt rows i 1) inner
       let-opening = record {
         ready = inner-ready rows (i + 1) (levels - 1) readings w opened n taken let-ready w₁ opened₁ inner t;
-        variable = rw ex (let-variable levels rows i (g .is) e);
-        few = λ z. let o = t .opens z in let a = o .few in let b = o .room in let c = g .ready .few in omega arith;
+        variable = let-number 64 levels rows i (g .is) e;
+        few = λ z. omega (arith, t .opens z .few, t .opens z .room, g .ready .few);
       }
 
-      pushed-opened : (opened₂ : List ℕ) (r : Standing) → inner .fault ≡ 0 → Pushed opened₁ x inner opened₂ r → r .next ≡ inner .next → Opened opened opened₂ n (r .opened) i (r .next)
+      pushed-opened : (opened₂ : List ℕ) (r : Standing) → inner .fault ≡ 0 → Pushed opened₁ (fieldAt rows i 1) inner opened₂ r → r .next ≡ inner .next → Opened opened opened₂ n (r .opened) i (r .next)
       pushed-opened opened₂ r z p q =
           let o = t .opens z in
           let a = o .few in
           let m = o .more in
           let b = p .count in
-          let c = let-opening .few z in
           record {
-            kept = λ k h. ap (λ (l : List ℕ). getD l k 0) (p .is) ∙ getD-set-other opened₁ (inner .opened) k x 0 (omega arith) ∙ o .kept k h;
+            kept = λ k h. ap (λ (l : List ℕ). getD l k 0) (p .is) ∙ getD-set-other opened₁ (inner .opened) k (fieldAt rows i 1) 0 (omega arith) ∙ o .kept k h;
             more = omega arith;
             few = omega arith;
             listed = λ k h. rw (p .is) (go k (ℕ-discrete k (inner .opened)) (omega arith));
             room = rw q (o .room);
           }
         where
-          go : (k : ℕ) → Dec (k ≡ inner .opened) → k < suc (inner .opened) → getD (set opened₁ (inner .opened) x) k 0 < 64
-          go k (yes s) h = rw (s, getD-set-same opened₁ (inner .opened) x 0 (let-opening .few z)) (let-opening .variable)
-          go k (no s) h = rw (getD-set-other opened₁ (inner .opened) k x 0 s) (t .opens z .listed k (omega arith))
+          go : (k : ℕ) → Dec (k ≡ inner .opened) → k < suc (inner .opened) → getD (set opened₁ (inner .opened) (fieldAt rows i 1)) k 0 < 64
+          go k (yes s) h = rw (s, getD-set-same opened₁ (inner .opened) (fieldAt rows i 1) 0 (let-opening .few z)) (let-opening .variable)
+          go k (no s) h = rw (getD-set-other opened₁ (inner .opened) k (fieldAt rows i 1) 0 s) (t .opens z .listed k (omega arith))
 
-      pub let-returns : (w₂ opened₂ : List ℕ) (r : Standing) → Declared w₁ opened₁ i x inner w₂ opened₂ r → TermRan rows i levels readings w opened n taken w₂ opened₂ r
+      pub let-returns : (w₂ opened₂ : List ℕ) (r : Standing) → Declared w₁ opened₁ i (fieldAt rows i 1) inner w₂ opened₂ r → TermRan rows i levels readings w opened n taken w₂ opened₂ r
+      unfolding run
       let-returns w₂ opened₂ r b = record {
         tidy = b .tidy;
         is = λ begin h.
-            b .is begin (λ z. let m = t .opens z .more in omega arith)
-            ∙ ap (λ (m : Stood). sequel m (λ o. runLet (o .0) i x (o .1))) (t .is begin h)
-            ∙ let-run readings i x (stateAt w taken (since opened begin (n - begin))) (treeAt (levels - 1) rows (i + 1)) (let-asks levels rows i (g .is) e)
-            ∙ ap (λ (y : ℕ). runAt readings (letD i y (treeAt (levels - 1) rows (i + 1))) (stateAt w taken (since opened begin (n - begin)))) ex
-            ∙ ap (λ (d : Decoded). runAt readings d (stateAt w taken (since opened begin (n - begin)))) (sym (let-is levels rows i (g .is) e));
+            b .is begin (λ z. omega (arith, t .opens z .more))
+            ∙ around-is (declare i (fieldAt rows i 1)) (let-is 64 levels rows i (g .is) e) (λ o. runLet (o .0) i (fieldAt rows i 1) (o .1)) (λ x s. refl) w₁ opened₁ inner t begin h;
         sound = λ z. b .went z .sound;
         opens = λ z. pushed-opened opened₂ r (b .went z .fine) (b .pushed z) (b .went z .next);
       }
 
   -- ---- assign
 
-  module _ (e : fieldIn rows i 0 ≡ 9) where
+  module _ (e : fieldAt rows i 0 ≡ 9) where
     pub assign-ready : TermReady rows (i + 1) (levels - 1) readings w opened n taken
-    assign-ready = record {
-      ready = next-ready rows i readings w opened n taken (g .ready);
-      is = assign-asks levels rows i (g .is) e;
-      cells =
-          let a = g .cells in
-          let b = ap boxesAt (assign-is levels rows i (g .is) e) ∙ assign-cells i (placeIn rows i 1) (treeAt (levels - 1) rows (i + 1)) (assign-asks levels rows i (g .is) e) in
-          omega arith;
-    }
+    unfolding boxesIn
+    assign-ready = around-ready (assign i (placeAt rows i 1)) (assign-is 64 levels rows i (g .is) e) 0 (λ t. omega arith)
 
     module _ (w₁ opened₁ : List ℕ) (inner : Standing) (t : TermRan rows (i + 1) (levels - 1) readings w opened n taken w₁ opened₁ inner) where
       pub assigning : InnerReady w₁ inner
       assigning = inner-ready rows (i + 1) (levels - 1) readings w opened n taken assign-ready w₁ opened₁ inner t
 
-      pub assign-returns : (root follows : ℕ) → root ≡ fieldIn rows i 1 → follows ≡ fieldIn rows i 2 → (w₂ : List ℕ) (r : Standing) → Assigned w₁ i root follows inner w₂ r → TermRan rows i levels readings w opened n taken w₂ opened₁ r
-      assign-returns root follows p q w₂ r b = record {
-        tidy = b .tidy;
-        is = λ begin h.
-            b .is opened₁ begin ∙ ap (λ (m : Stood). sequel m (λ o. runAssign (o .0) i (placeOf root follows) (o .1))) (t .is begin h)
-            ∙ assign-run readings i (placeOf root follows) (stateAt w taken (since opened begin (n - begin))) (treeAt (levels - 1) rows (i + 1)) (assign-asks levels rows i (g .is) e)
-            ∙ rw (p, q) (ap (λ (d : Decoded). runAt readings d (stateAt w taken (since opened begin (n - begin)))) (sym (assign-is levels rows i (g .is) e)));
-        sound = λ z. b .went z .sound;
-        opens = λ z. same-opened opened opened₁ n (r .opened) (inner .opened) i (r .next) (inner .next) (b .count z) (b .went z .next) (next-opened opened opened₁ n (inner .opened) i (inner .next) (t .opens (b .went z .fine)));
-      }
+      pub assign-returns : (w₂ : List ℕ) (r : Standing) → Assigned w₁ i (fieldAt rows i 1) (fieldAt rows i 2) inner w₂ r → TermRan rows i levels readings w opened n taken w₂ opened₁ r
+      unfolding run
+      assign-returns w₂ r b =
+          around-returns (assign i (placeAt rows i 1)) (assign-is 64 levels rows i (g .is) e) (λ o. runAssign (o .0) i (placeAt rows i 1) (o .1)) (λ x s. refl) w₁ opened₁ inner t w₂ r (b .tidy) (b .is opened₁) (b .went) (b .count)
 
   -- ---- the terms without an inner term
 
-  module _ (k : ℕ) (ek : k ≡ fieldIn rows i 0) (a : k ≡ 7 → ⊥) (b : k ≡ 8 → ⊥) (c : k ≡ 9 → ⊥) (d : k ≡ 11 → ⊥) where
-    tree-leaf : treeAt levels rows i ≡ leafAt rows i
-    tree-leaf = leaf-is levels rows i k (g .is) ek a b c d
+  module _ (k : ℕ) (ek : k ≡ fieldAt rows i 0) (a : (k ≡ 7 → ⊥) × (k ≡ 8 → ⊥) × (k ≡ 9 → ⊥)) (d : k ≡ 11 → ⊥) where
+    tree-leaf : treeAt 64 levels rows i ≡ leafAt rows i
+    tree-leaf = leaf-is levels rows i k (g .is) ek a d
 
     pub leaf-ready : LeafReady rows i readings w
-    leaf-ready = record { room = has-room levels rows i (g .is); leaf = subst IsTree tree-leaf (g .is); eight = g .ready .eight; tidy = g .ready .tidy }
+    leaf-ready = record { room = has-room 64 levels rows i (g .is); leaf = subst IsTree tree-leaf (g .is); eight = g .ready .eight; tidy = g .ready .tidy }
 
     leaf-stands : (w₁ : List ℕ) (x : Gave) → LeafRan rows i readings w w₁ x
         → TermRan rows i levels readings w opened n taken w₁ opened (record { fault = x .fault; term = i; kind = x .kind; payload = x .payload; taken = taken; opened = n; next = i + 1 })
-    unfolding stood gave seen atRow runAt
+    unfolding stood gave seen atRow stoodOn
     leaf-stands w₁ x y = record {
       tidy = y .tidy;
       is = λ begin h.
@@ -291,8 +266,8 @@ module _ (rows : List ℕ) (i levels : ℕ) (readings : List ℤ) (w opened : Li
         go begin true = refl
         go begin false = refl
 
-        whole : (begin : ℕ) → atRow (endOf (leafAt rows i)) (seen (runOn readings (leafAt rows i) (stateAt w taken (since opened begin (n - begin))))) ≡ runAt readings (treeAt levels rows i) (stateAt w taken (since opened begin (n - begin)))
-        whole begin = ap (λ (d : Decoded). atRow (endOf d) (seen (runOn readings d (stateAt w taken (since opened begin (n - begin)))))) (sym tree-leaf)
+        whole : (begin : ℕ) → atRow (endOf (leafAt rows i)) (seen (runOn readings (leafAt rows i) (stateAt w taken (since opened begin (n - begin))))) ≡ runAt readings (treeAt 64 levels rows i) (stateAt w taken (since opened begin (n - begin)))
+        whole begin = ap (λ (d : RowTree Term). atRow (endOf d) (seen (runOn readings d (stateAt w taken (since opened begin (n - begin)))))) (sym tree-leaf)
 
     pub leaf-returns : (w₁ : List ℕ) (r : Standing) → PlainRan rows i readings w n taken w₁ r → TermRan rows i levels readings w opened n taken w₁ opened r
     leaf-returns w₁ r x = subst (TermRan rows i levels readings w opened n taken w₁ opened) (sym (x .is)) (leaf-stands w₁ (x .gives) (x .ran))

@@ -9,23 +9,23 @@ use mathlib.Core.List.{List}
 use lib.IntN.{ℤ}
 use lib.ListN.{length}
 use Rattle.reader.specs.Kinds.{wrapsOf}
+use Rattle.reader.specs.RowParts.{fieldAt}
 use Rattle.reader.proofs.KindBytes.{wrapping, not-wrapping}
-use Rattle.machine.specs.RowTrees.{fieldIn}
+use Rattle.reader.proofs.RowTreeLaws.{has-level, has-room, assign-root}
 use Rattle.machine.specs.Parts.{LeafReady, PlainRan, Boxed, Declared, Assigned, AfterReady, AfterRan, TermReady, TermRan}
 use Rattle.machine.specs.declared.around.Standing.{Standing}
-use Rattle.machine.proofs.RowLaws.{has-level, has-room, assign-root}
 use Rattle.machine.proofs.TermLaws.{box-ready, box-filling, box-returns, let-ready, let-opening, let-returns, assign-ready, assigning, assign-returns, leaf-ready, leaf-returns, term-room}
 
 -- ---- what follows the inner term
 
-module _ (rows : List ℕ) (i : ℕ) (w opened : List ℕ) (inner : Standing) (w′ : List ℕ) (r : Standing) (k : ℕ) (ek : k ≡ fieldIn rows i 0) where
+module _ (rows : List ℕ) (i : ℕ) (w opened : List ℕ) (inner : Standing) (w′ : List ℕ) (r : Standing) (k : ℕ) (ek : k ≡ fieldAt rows i 0) where
   pub after-box : k ≡ 7 → Boxed w inner w′ r → AfterRan rows i w opened inner w′ opened r
   after-box e b = record { box = λ z. (b, refl); bind = λ z. absurd (omega arith); assign = λ z. absurd (omega arith) }
 
-  pub after-let : (opened′ : List ℕ) → k ≡ 8 → Declared w opened i (fieldIn rows i 1) inner w′ opened′ r → AfterRan rows i w opened inner w′ opened′ r
+  pub after-let : (opened′ : List ℕ) → k ≡ 8 → Declared w opened i (fieldAt rows i 1) inner w′ opened′ r → AfterRan rows i w opened inner w′ opened′ r
   after-let opened′ e b = record { box = λ z. absurd (omega arith); bind = λ z. b; assign = λ z. absurd (omega arith) }
 
-  pub after-assign : (k ≡ 7 → ⊥) → (k ≡ 8 → ⊥) → Assigned w i (fieldIn rows i 1) (fieldIn rows i 2) inner w′ r → AfterRan rows i w opened inner w′ opened r
+  pub after-assign : (k ≡ 7 → ⊥) → (k ≡ 8 → ⊥) → Assigned w i (fieldAt rows i 1) (fieldAt rows i 2) inner w′ r → AfterRan rows i w opened inner w′ opened r
   after-assign n₇ n₈ b = record { box = λ z. absurd (n₇ (ek ∙ z)); bind = λ z. absurd (n₈ (ek ∙ z)); assign = λ z. (b, refl) }
 
 pub after-last : (k n : ℕ) → k ≡ n → wrapsOf n ≡ true → (k ≡ 7 → ⊥) → (k ≡ 8 → ⊥) → n ≡ 9
@@ -34,14 +34,9 @@ after-last k n e h n₇ n₈ = ⊎-elim (λ z. absurd (n₇ (e ∙ z))) (λ m. �
 -- ---- a term around another
 
 module _ (rows : List ℕ) (i levels : ℕ) (readings : List ℤ) (w opened : List ℕ) (n taken : ℕ) (g : TermReady rows i levels readings w opened n taken)
-    (h : wrapsOf (fieldIn rows i 0) ≡ true) where
-  by-kind : (X : Type 0) → (fieldIn rows i 0 ≡ 7 → X) → (fieldIn rows i 0 ≡ 8 → X) → (fieldIn rows i 0 ≡ 9 → X) → X
-  by-kind X a b c = go (ℕ-discrete (fieldIn rows i 0) 7) (ℕ-discrete (fieldIn rows i 0) 8)
-    where
-      go : Dec (fieldIn rows i 0 ≡ 7) → Dec (fieldIn rows i 0 ≡ 8) → X
-      go (yes z) y = a z
-      go (no x) (yes z) = b z
-      go (no x) (no y) = c (after-last (fieldIn rows i 0) (fieldIn rows i 0) refl h x y)
+    (h : wrapsOf (fieldAt rows i 0) ≡ true) where
+  by-kind : (X : Type 0) → (fieldAt rows i 0 ≡ 7 → X) → (fieldAt rows i 0 ≡ 8 → X) → (fieldAt rows i 0 ≡ 9 → X) → X
+  by-kind X a b c = ⊎-elim a (λ m. ⊎-elim b c m) (wrapping (fieldAt rows i 0) h)
 
   pub wrapped-ready : TermReady rows (i + 1) (levels - 1) readings w opened n taken
   wrapped-ready = by-kind _ (box-ready rows i levels readings w opened n taken g) (let-ready rows i levels readings w opened n taken g) (assign-ready rows i levels readings w opened n taken g)
@@ -49,38 +44,35 @@ module _ (rows : List ℕ) (i levels : ℕ) (readings : List ℤ) (w opened : Li
   module _ (w₁ opened₁ : List ℕ) (inner : Standing) (t : TermRan rows (i + 1) (levels - 1) readings w opened n taken w₁ opened₁ inner) (long : length opened₁ ≡ 512) where
     pub wrapped-after : AfterReady rows i w₁ opened₁ inner
     wrapped-after = record {
-      room = has-room levels rows i (g .is);
+      room = has-room 64 levels rows i (g .is);
       wraps = h;
       box = λ e. box-filling rows i levels readings w opened n taken g e w₁ opened₁ inner t;
-      bind = λ e. let-opening rows i levels readings w opened n taken g e w₁ opened₁ inner t long (fieldIn rows i 1) refl;
-      assign = λ e. (assigning rows i levels readings w opened n taken g e w₁ opened₁ inner t, assign-root levels rows i (g .is) e);
+      bind = λ e. let-opening rows i levels readings w opened n taken g e w₁ opened₁ inner t long;
+      assign = λ e. (assigning rows i levels readings w opened n taken g e w₁ opened₁ inner t, assign-root 64 levels rows i (g .is) e);
     }
 
     pub wrapped-returns : (w₂ opened₂ : List ℕ) (r : Standing) → AfterRan rows i w₁ opened₁ inner w₂ opened₂ r → TermRan rows i levels readings w opened n taken w₂ opened₂ r
     wrapped-returns w₂ opened₂ r a = by-kind _
         (λ e. subst (λ (o : List ℕ). TermRan rows i levels readings w opened n taken w₂ o r) (sym (a .box e .1)) (box-returns rows i levels readings w opened n taken g e w₁ opened₁ inner t w₂ r (a .box e .0)))
-        (λ e. let-returns rows i levels readings w opened n taken g e w₁ opened₁ inner t long (fieldIn rows i 1) refl w₂ opened₂ r (a .bind e))
-        (λ e. subst (λ (o : List ℕ). TermRan rows i levels readings w opened n taken w₂ o r) (sym (a .assign e .1)) (assign-returns rows i levels readings w opened n taken g e w₁ opened₁ inner t (fieldIn rows i 1) (fieldIn rows i 2) refl refl w₂ r (a .assign e .0)))
+        (λ e. let-returns rows i levels readings w opened n taken g e w₁ opened₁ inner t long w₂ opened₂ r (a .bind e))
+        (λ e. subst (λ (o : List ℕ). TermRan rows i levels readings w opened n taken w₂ o r) (sym (a .assign e .1)) (assign-returns rows i levels readings w opened n taken g e w₁ opened₁ inner t w₂ r (a .assign e .0)))
 
 -- ---- the innermost term, if it has no inner term
 
 module _ (rows : List ℕ) (i levels : ℕ) (readings : List ℤ) (w opened : List ℕ) (n taken : ℕ) (g : TermReady rows i levels readings w opened n taken)
-    (h : wrapsOf (fieldIn rows i 0) ≡ false) (k : ℕ) (ek : k ≡ fieldIn rows i 0) (d : k ≡ 11 → ⊥) where
-  other : (k ≡ 7 → ⊥) × (k ≡ 8 → ⊥) × (k ≡ 9 → ⊥)
-  other = not-wrapping ek h
-
+    (h : wrapsOf (fieldAt rows i 0) ≡ false) (k : ℕ) (ek : k ≡ fieldAt rows i 0) (d : k ≡ 11 → ⊥) where
   pub inmost-ready : LeafReady rows i readings w
-  inmost-ready = leaf-ready rows i levels readings w opened n taken g k ek (other .0) (other .1) (other .2) d
+  inmost-ready = leaf-ready rows i levels readings w opened n taken g k ek (not-wrapping ek h) d
 
   pub inmost-returns : (w₁ : List ℕ) (r : Standing) → PlainRan rows i readings w n taken w₁ r → TermRan rows i levels readings w opened n taken w₁ opened r
-  inmost-returns w₁ r x = leaf-returns rows i levels readings w opened n taken g k ek (other .0) (other .1) (other .2) d w₁ r x
+  inmost-returns w₁ r x = leaf-returns rows i levels readings w opened n taken g k ek (not-wrapping ek h) d w₁ r x
 
 -- ---- the two loops
 
 -- The way inwards: `around` terms from row i on stand each around the next.
 pub record Inwards (rows : List ℕ) (i levels : ℕ) (readings : List ℤ) (w opened : List ℕ) (n taken around : ℕ) : Type 0 where
   pub ready : (k : ℕ) → k ≤ around → TermReady rows (i + k) (levels - k) readings w opened n taken
-  pub wraps : (k : ℕ) → k < around → wrapsOf (fieldIn rows (i + k) 0) ≡ true
+  pub wraps : (k : ℕ) → k < around → wrapsOf (fieldAt rows (i + k) 0) ≡ true
 
 -- The way outwards: from where the innermost term left off, with all but `around` of the terms around it run.
 pub record Outwards (rows : List ℕ) (i levels : ℕ) (readings : List ℤ) (n taken : ℕ) (w₁ opened₁ : List ℕ) (around₁ : ℕ) (r₁ : Standing) (w opened : List ℕ) (around : ℕ) (r : Standing) : Type 0 where
@@ -110,9 +102,9 @@ module _ (rows : List ℕ) (i levels : ℕ) (readings : List ℤ) (w opened : Li
     inwards-room = term-room rows (i + around) (levels - around) readings w opened n taken inwards-here
 
     pub inwards-level : around < levels
-    inwards-level = let a = has-level (levels - around) rows (i + around) (inwards-here .is) in omega arith
+    inwards-level = let a = has-level 64 (levels - around) rows (i + around) (inwards-here .is) in omega arith
 
-    pub inwards-goes : wrapsOf (fieldIn rows (i + around) 0) ≡ true → Inwards rows i levels readings w opened n taken (around + 1)
+    pub inwards-goes : wrapsOf (fieldAt rows (i + around) 0) ≡ true → Inwards rows i levels readings w opened n taken (around + 1)
     inwards-goes h = record {
       ready = λ k b. here k b (ℕ-discrete k (around + 1));
       wraps = λ k b. there k b (ℕ-discrete k around);
@@ -122,7 +114,7 @@ module _ (rows : List ℕ) (i levels : ℕ) (readings : List ℤ) (w opened : Li
         here k b (yes e) = moved-ready rows readings w opened n taken (i + around + 1) (levels - around - 1) (i + k) (levels - k) (omega arith) (omega arith) (wrapped-ready rows (i + around) (levels - around) readings w opened n taken inwards-here h)
         here k b (no e) = g .ready k (omega arith)
 
-        there : (k : ℕ) → k < around + 1 → Dec (k ≡ around) → wrapsOf (fieldIn rows (i + k) 0) ≡ true
+        there : (k : ℕ) → k < around + 1 → Dec (k ≡ around) → wrapsOf (fieldAt rows (i + k) 0) ≡ true
         there k b (yes e) = rw e h
         there k b (no e) = g .wraps k (omega arith)
 
@@ -139,7 +131,7 @@ module _ (rows : List ℕ) (i levels : ℕ) (readings : List ℤ) (n taken : ℕ
         outer : TermReady rows (i + (around - 1)) (levels - (around - 1)) readings w₀ opened₀ n taken
         outer = let a = u .some in g .ready (around - 1) (omega arith)
 
-        wraps : wrapsOf (fieldIn rows (i + (around - 1)) 0) ≡ true
+        wraps : wrapsOf (fieldAt rows (i + (around - 1)) 0) ≡ true
         wraps = let a = u .some in g .wraps (around - 1) (omega arith)
 
         inner : TermRan rows (i + (around - 1) + 1) (levels - (around - 1) - 1) readings w₀ opened₀ n taken w opened r

@@ -11,6 +11,5 @@ pub mod Met
 pub mod Examples
 -- What `run` answers; and what only the contracts of the code's parts are said with.
 pub mod Answers
-pub mod RowTrees
 pub mod Words
 pub mod Parts

@@ -3,14 +3,18 @@
 use Prim.Native.Nat.{ℕ, zero, suc, _+_, _-_, _*_, _≤_, _<_}
 use mathlib.Core.Path.{_≡_}
 use mathlib.Core.Bool.{true}
+use mathlib.Core.Option.{none, some}
 use mathlib.Core.List.{List, [], _∷_}
 use lib.Dec.{eqb}
 use lib.IntN.{ℤ}
 use lib.ListN.{length, getD, set}
-use Rattle.reader.specs.Kinds.{wrapsOf}
+use Rattle.reader.specs.Kinds.{kindOf, wrapsOf}
 use Rattle.reader.specs.Result.{Result, ok, err, pick, _>>=_}
 use Rattle.reader.specs.Limits.{base}
-use Rattle.reader.specs.Script.{Place, number}
+use Rattle.reader.specs.Script.{Place, Term, Terms, number}
+use Rattle.reader.specs.Measures.{boxesIn, boxesAll}
+use Rattle.reader.specs.RowParts.{fieldAt}
+use Rattle.reader.specs.RowTrees.{RowTree, IsTree, IsRest, severalAt, termsAt, kindAt, treeAt}
 use Rattle.machine.specs.Values.{Location, variable, Value, empty, openWith, closed}
 use Rattle.machine.specs.Store.{Store, put, isOpen, State, Ran, fault}
 use Rattle.machine.specs.Locate.{followed, locateFrom, filled}
@@ -18,7 +22,6 @@ use Rattle.machine.specs.Drop.{InOrder, dropValue, closeAll}
 use Rattle.machine.specs.Run.{Outcome, runCopy, runMove, runBorrow, runNumber, runBelow, runBox, runLet, runAssign, runBlockEnd, run, runs, runScript}
 use Rattle.machine.specs.Encode.{locationOf}
 use Rattle.machine.specs.Answers.{AnswerAndStore, bitsOf, ranInto}
-use Rattle.machine.specs.RowTrees.{Decoded, tree, broken, Decodeds, trees, brokens, IsTree, IsRest, endOf, boxesAt, boxesRest, fieldIn, decodes, treeAt, leafAt}
 use Rattle.machine.specs.Words.{valueOf, storeOf, Sound, Tidy}
 use Rattle.machine.specs.declared.locate.Found.{Found}
 use Rattle.machine.specs.declared.locate.Gave.{Gave}
@@ -84,10 +87,17 @@ pub record Compared (w : List ℕ) (root follows other others : ℕ) (g : Gave) 
   pub sound : Sound (g .kind) (g .payload)
   pub is : (i taken : ℕ) (opened : List ℕ) → gave w taken opened i g ≡ runBelow (stateAt w taken opened) i (placeOf root follows) (placeOf other others)
 
--- The run of the term that stands in rows.
-unfoldable pub runOn : List ℤ → Decoded → State → Ran Outcome
-runOn readings (tree t j) s = run (bitsOf readings) t s
-runOn readings broken s = fault 0 0 s
+-- The run of what stands in rows, by the run rule for it; and of a term.
+unfoldable pub ranOn : {A : Type 0} → (A → State → Ran Outcome) → RowTree A → State → Ran Outcome
+ranOn rule none s = fault 0 0 s
+ranOn rule (some r) s = rule (r .0) s
+
+abbrev pub runOn : List ℤ → RowTree Term → State → Ran Outcome
+runOn readings d s = ranOn (run (bitsOf readings)) d s
+
+-- The term at row i, if it has no inner term.
+unfoldable pub leafAt : List ℕ → ℕ → RowTree Term
+leafAt rows i = kindAt (kindOf 1 (fieldAt rows i 0)) 64 (λ j. none) rows i
 
 pub record LeafReady (rows : List ℕ) (i : ℕ) (readings : List ℤ) (w : List ℕ) : Type 0 where
   pub room : 5 * i + 5 ≤ length rows
@@ -248,15 +258,15 @@ pub record BlockClosed (w opened : List ℕ) (i begin : ℕ) (inner : Standing) 
 -- What follows the inner term of a term around one, which is at row i, by its kind.
 pub record AfterReady (rows : List ℕ) (i : ℕ) (w opened : List ℕ) (inner : Standing) : Type 0 where
   pub room : 5 * i + 5 ≤ length rows
-  pub wraps : wrapsOf (fieldIn rows i 0) ≡ true
-  pub box : fieldIn rows i 0 ≡ 7 → BoxReady w inner
-  pub bind : fieldIn rows i 0 ≡ 8 → LetReady w opened (fieldIn rows i 1) inner
-  pub assign : fieldIn rows i 0 ≡ 9 → InnerReady w inner × (fieldIn rows i 1 < 64)
+  pub wraps : wrapsOf (fieldAt rows i 0) ≡ true
+  pub box : fieldAt rows i 0 ≡ 7 → BoxReady w inner
+  pub bind : fieldAt rows i 0 ≡ 8 → LetReady w opened (fieldAt rows i 1) inner
+  pub assign : fieldAt rows i 0 ≡ 9 → InnerReady w inner × (fieldAt rows i 1 < 64)
 
 pub record AfterRan (rows : List ℕ) (i : ℕ) (w opened : List ℕ) (inner : Standing) (w′ opened′ : List ℕ) (r : Standing) : Type 0 where
-  pub box : fieldIn rows i 0 ≡ 7 → Boxed w inner w′ r × (opened′ ≡ opened)
-  pub bind : fieldIn rows i 0 ≡ 8 → Declared w opened i (fieldIn rows i 1) inner w′ opened′ r
-  pub assign : fieldIn rows i 0 ≡ 9 → Assigned w i (fieldIn rows i 1) (fieldIn rows i 2) inner w′ r × (opened′ ≡ opened)
+  pub box : fieldAt rows i 0 ≡ 7 → Boxed w inner w′ r × (opened′ ≡ opened)
+  pub bind : fieldAt rows i 0 ≡ 8 → Declared w opened i (fieldAt rows i 1) inner w′ opened′ r
+  pub assign : fieldAt rows i 0 ≡ 9 → Assigned w i (fieldAt rows i 1) (fieldAt rows i 2) inner w′ r × (opened′ ≡ opened)
 
 -- ---- terms and blocks
 
@@ -274,9 +284,28 @@ pub record Opened (before after : List ℕ) (n m i j : ℕ) : Type 0 where
   pub listed : Listed after m
   pub room : j ≤ 512
 
--- The run of a term that stands in rows, and the row after it.
-unfoldable pub runAt : List ℤ → Decoded → State → Stood
-runAt readings d s = atRow (endOf d) (seen (runOn readings d s))
+-- The row after what stands in rows.
+unfoldable pub endOf : {A : Type 0} → RowTree A → ℕ
+endOf none = 0
+endOf (some r) = r .1
+
+-- The boxes in it, by the count for it; in a term; and in what is left of a block: n terms from row i on.
+unfoldable pub boxesBy : {A : Type 0} → (A → ℕ) → RowTree A → ℕ
+boxesBy count none = 0
+boxesBy count (some r) = count (r .0)
+
+abbrev pub boxesAt : RowTree Term → ℕ
+boxesAt d = boxesBy boxesIn d
+
+abbrev pub boxesRest : (ℕ → RowTree Term) → ℕ → ℕ → ℕ
+boxesRest f n i = boxesBy boxesAll (termsAt f n i)
+
+-- Its run, and the row after it.
+unfoldable pub stoodOn : {A : Type 0} → (A → State → Ran Outcome) → RowTree A → State → Stood
+stoodOn rule d s = atRow (endOf d) (seen (ranOn rule d s))
+
+abbrev pub runAt : List ℤ → RowTree Term → State → Stood
+runAt readings d s = stoodOn (run (bitsOf readings)) d s
 
 -- What terms and blocks ask of the lent memory.
 pub record Ready (rows : List ℕ) (i : ℕ) (readings : List ℤ) (w opened : List ℕ) (n taken : ℕ) : Type 0 where
@@ -290,35 +319,34 @@ pub record Ready (rows : List ℕ) (i : ℕ) (readings : List ℤ) (w opened : L
 
 pub record TermReady (rows : List ℕ) (i levels : ℕ) (readings : List ℤ) (w opened : List ℕ) (n taken : ℕ) : Type 0 where
   pub ready : Ready rows i readings w opened n taken
-  pub is : IsTree (treeAt levels rows i)
-  pub cells : taken + boxesAt (treeAt levels rows i) ≤ 64
+  pub is : IsTree (treeAt 64 levels rows i)
+  pub cells : taken + boxesAt (treeAt 64 levels rows i) ≤ 64
 
 pub record TermRan (rows : List ℕ) (i levels : ℕ) (readings : List ℤ) (w opened : List ℕ) (n taken : ℕ) (w′ opened′ : List ℕ) (r : Standing) : Type 0 where
   pub tidy : Tidy w′
-  pub is : (begin : ℕ) → begin ≤ n → stood w′ opened′ begin r ≡ runAt readings (treeAt levels rows i) (stateAt w taken (since opened begin (n - begin)))
+  pub is : (begin : ℕ) → begin ≤ n → stood w′ opened′ begin r ≡ runAt readings (treeAt 64 levels rows i) (stateAt w taken (since opened begin (n - begin)))
   pub sound : r .fault ≡ 0 → Sound (r .kind) (r .payload)
   pub opens : r .fault ≡ 0 → Opened opened opened′ n (r .opened) i (r .next)
 
--- Likewise of a block's terms.
-unfoldable pub runsOn : List ℤ → Decodeds → ℕ → State → Stood
-runsOn readings (trees ts j) i s = atRow j (seen (runs (bitsOf readings) ts i s))
-runsOn readings brokens i s = err (record { number = 0; term = 0; store = s .store })
+-- Likewise of block i's terms.
+abbrev pub runsAt : List ℤ → ℕ → RowTree Terms → State → Stood
+runsAt readings i ds s = stoodOn (λ ts. runs (bitsOf readings) ts i) ds s
 
 -- What is left of block i: n terms from row j on, after the outcome of the term before them.
-unfoldable pub restRun : List ℤ → (ℕ → Decoded) → ℕ → ℕ → ℕ → Outcome → Stood
+unfoldable pub restRun : List ℤ → (ℕ → RowTree Term) → ℕ → ℕ → ℕ → Outcome → Stood
 restRun readings f i zero j o = ok (o, j)
-restRun readings f i (suc n) j o = seen (dropValue i (o .0) (o .1)) >>= λ s. runsOn readings (decodes f n j) i s
+restRun readings f i (suc n) j o = seen (dropValue i (o .0) (o .1)) >>= λ s. runsAt readings i (severalAt f n j) s
 
 -- The terms of the block at row i, from the next row on.
 pub record BlockReady (rows : List ℕ) (i levels : ℕ) (readings : List ℤ) (w opened : List ℕ) (n taken : ℕ) : Type 0 where
   pub ready : Ready rows (i + 1) readings w opened n taken
   pub room : i < 512
-  pub is : IsRest (treeAt levels rows) (fieldIn rows i 1) (i + 1)
-  pub cells : taken + boxesRest (treeAt levels rows) (fieldIn rows i 1) (i + 1) ≤ 64
+  pub is : IsRest (treeAt 64 levels rows) (fieldAt rows i 1) (i + 1)
+  pub cells : taken + boxesRest (treeAt 64 levels rows) (fieldAt rows i 1) (i + 1) ≤ 64
 
 pub record BlockRan (rows : List ℕ) (i levels : ℕ) (readings : List ℤ) (w opened : List ℕ) (n taken : ℕ) (w′ opened′ : List ℕ) (r : Standing) : Type 0 where
   pub tidy : Tidy w′
-  pub is : stood w′ opened′ n r ≡ restRun readings (treeAt levels rows) i (fieldIn rows i 1) (i + 1) (stateAt w taken [], empty)
+  pub is : stood w′ opened′ n r ≡ restRun readings (treeAt 64 levels rows) i (fieldAt rows i 1) (i + 1) (stateAt w taken [], empty)
   pub sound : r .fault ≡ 0 → Sound (r .kind) (r .payload)
   pub opens : r .fault ≡ 0 → Opened opened opened′ n (r .opened) (i + 1) (r .next)
 
@@ -328,13 +356,13 @@ pub record ScriptReady (rows : List ℕ) (readings : List ℤ) (w : List ℕ) : 
   pub long : length rows ≡ 2560
   pub eight : length readings ≡ 8
   pub size : length w ≡ 384
-  pub root : fieldIn rows 0 0 ≡ 11
-  pub is : IsTree (treeAt 16 rows 0)
-  pub cells : boxesAt (treeAt 16 rows 0) ≤ 64
+  pub root : fieldAt rows 0 0 ≡ 11
+  pub is : IsTree (treeAt 64 16 rows 0)
+  pub cells : boxesAt (treeAt 64 16 rows 0) ≤ 64
 
-unfoldable pub scriptOn : List ℤ → Decoded → AnswerAndStore
-scriptOn readings (tree t j) = ranInto base (runScript (bitsOf readings) t (λ x. closed))
-scriptOn readings broken = ranInto base (runScript (bitsOf readings) (number 0 0) (λ x. closed))
+unfoldable pub scriptOn : List ℤ → RowTree Term → AnswerAndStore
+scriptOn readings none = ranInto base (runScript (bitsOf readings) (number 0 0) (λ x. closed))
+scriptOn readings (some r) = ranInto base (runScript (bitsOf readings) (r .0) (λ x. closed))
 
 unfoldable pub scriptRan : List ℕ → List ℤ → AnswerAndStore
-scriptRan rows readings = scriptOn readings (treeAt 16 rows 0)
+scriptRan rows readings = scriptOn readings (treeAt 64 16 rows 0)

@@ -1,6 +1,6 @@
 // What follows an inner term: one function for each run rule. A fault of the inner term goes onwards.
 ghost use mathlib.Core.Path.{_≡_};
-ghost use Prim.Native.Nat.{_<_, _≤_};
+ghost use Prim.Native.Nat.{_<_};
 ghost use Rattle.machine.specs.Words.{Tidy, Sound};
 ghost use Rattle.machine.specs.Parts.{withoutValue, enteredAt, Wrote, PlaceAssigned, InnerReady, BoxReady, Boxed, LetReady, Declared, Assigned, EndReady, BlockClosed};
 use crate::drops::close_variables;

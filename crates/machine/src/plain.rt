@@ -1,6 +1,6 @@
 // The terms without an inner term: one function for each run rule.
 ghost use mathlib.Core.Path.{_≡_};
-ghost use Prim.Native.Nat.{_<_, _≤_, _+_, _*_};
+ghost use Prim.Native.Nat.{_<_};
 ghost use Rattle.machine.specs.Words.{Tidy};
 ghost use Rattle.machine.specs.Parts.{Copied, Moved, Borrowed, Numbered, Compared, LeafReady, LeafRan};
 use crate::limits;

@@ -3,7 +3,7 @@ ghost use mathlib.Core.Path.{_≡_};
 ghost use mathlib.Core.Bool.{false};
 ghost use Prim.Native.Nat.{_<_};
 ghost use Rattle.reader.specs.Kinds.{wrapsOf};
-ghost use Rattle.machine.specs.RowTrees.{fieldIn};
+ghost use Rattle.reader.specs.RowParts.{fieldAt};
 ghost use Rattle.machine.specs.Parts.{LeafReady, PlainRan, AfterReady, AfterRan, TermReady, TermRan, BlockReady, BlockRan};
 use crate::around::Standing;
 use crate::around::close_block;
@@ -17,6 +17,7 @@ use crate::limits;
 use crate::operands::operand;
 use crate::operands::wide;
 use crate::plain::run_leaf;
+use reader::wraps;
 
 // The term at row i, if it has no inner term: it opens no variable and takes no cell.
 fn run_plain(
@@ -42,20 +43,7 @@ fn run_plain(
     }
 }
 
-// Box, let and assign: each stands around one inner term, which is in the next row.
-fn wraps(kind: u32) -> bool
-    ensures { λ r. ⌜ r ≡ wrapsOf kind ⌝ }
-{
-    if kind == 7 {
-        return true;
-    }
-    if kind == 8 {
-        return true;
-    }
-    kind == 9
-}
-
-// What follows the inner term of such a term, which is at row i.
+// What follows the inner term of a box, let or assign, which is at row i.
 fn run_after(
     rows: &[u32],
     i: usize,
@@ -85,7 +73,7 @@ fn run_inmost(
     count: usize,
     taken: usize,
 ) -> Standing
-    requires { ⌜ TermReady (now rows) i levels (now readings) (now store) (now opened) count taken × (wrapsOf (fieldIn (now rows) i 0) ≡ false) ⌝ }
+    requires { ⌜ TermReady (now rows) i levels (now readings) (now store) (now opened) count taken × (wrapsOf (fieldAt (now rows) i 0) ≡ false) ⌝ }
     ensures { λ r. ⌜ TermRan (now (rows .entry)) i levels (now (readings .entry)) (now (store .entry)) (now (opened .entry)) count taken (now (store .exit)) (now (opened .exit)) r ⌝ }
 {
     let kind = operand(rows, i, 0);

@@ -12,6 +12,11 @@ use mathlib.Core.Option.{none, some}
 use mathlib.Core.List.{List}
 use Rattle.reader.specs.Result.{ok, err, Refusal, need, _>>=_}
 use Rattle.reader.specs.Script.{Term, box, declare, assign}
+use Rattle.reader.specs.Kinds.{wrapsOf}
+use Rattle.reader.specs.RowParts.{fieldAt}
+use Rattle.reader.specs.RowTrees.{placeAt, RowTree, IsTree, around, treeAt}
+use Rattle.reader.proofs.KindBytes.{wrapping}
+use Rattle.reader.proofs.RowTreeLaws.{has-room, box-is, let-number, let-is, assign-is, wrapped-inner}
 use Rattle.rules.specs.declared.table.Place.{Place}
 use Rattle.rules.specs.declared.rules.Requirement.{Requirement}
 use Rattle.rules.specs.declared.rules.Requirement.the-variants as requirement
@@ -24,11 +29,7 @@ use Rattle.rules.specs.Judge.{judge}
 use Rattle.rules.specs.Table.{asPlace}
 use Rattle.rules.specs.Verdicts.{begun, asValue, answered}
 use Rattle.ownership.specs.declared.judge.JudgedTerm.{JudgedTerm}
-use Rattle.ownership.specs.RowTrees.{rowNumber, rowPlace, RowTree, IsTree, around, treeAt}
-use Rattle.ownership.specs.JudgeRows.{Ended, ended, judgedAt, judgeAt, Wraps, beginAt, ruleAfter, afterAt, outwards}
-use Rattle.reader.specs.Kinds.{wrapsOf}
-use Rattle.reader.proofs.KindBytes.{wrapping}
-use Rattle.ownership.proofs.RowLaws.{tree-room, box-is, box-inner, let-number, let-is, let-inner, assign-is, assign-inner}
+use Rattle.ownership.specs.JudgeRows.{rowPlace, Ended, ended, judgedAt, judgeAt, Wraps, beginAt, ruleAfter, afterAt, outwards}
 use Rattle.ownership.proofs.JudgeLaws.{inner-step}
 
 -- What a let asks before its inner term.
@@ -65,15 +66,15 @@ module _ (Γ : Environment) {r : Requirement} {j : Judged Environment} where
 
 -- The rule that follows, by kind.
 module _ (nv level : ℕ) (rows : List ℕ) (i : ℕ) where
-  pub box-rule : rowNumber rows i 0 ≡ 7 → ruleAfter nv level rows i ≡ (λ o. judgeBox nv (o .0) i (o .1))
+  pub box-rule : fieldAt rows i 0 ≡ 7 → ruleAfter nv level rows i ≡ (λ o. judgeBox nv (o .0) i (o .1))
   unfolding ruleAfter
   box-rule e = fun-ext λ o. rw e
 
-  pub let-rule : rowNumber rows i 0 ≡ 8 → ruleAfter nv level rows i ≡ (λ o. judgeLet nv level (o .0) i (rowNumber rows i 1) (o .1))
+  pub let-rule : fieldAt rows i 0 ≡ 8 → ruleAfter nv level rows i ≡ (λ o. judgeLet nv level (o .0) i (fieldAt rows i 1) (o .1))
   unfolding ruleAfter
   let-rule e = fun-ext λ o. rw e
 
-  pub assign-rule : rowNumber rows i 0 ≡ 9 → ruleAfter nv level rows i ≡ (λ o. judgeAssign nv (o .0) i (asPlace (rowPlace rows i 1)) (o .1))
+  pub assign-rule : fieldAt rows i 0 ≡ 9 → ruleAfter nv level rows i ≡ (λ o. judgeAssign nv (o .0) i (placeAt rows i 1) (o .1))
   unfolding ruleAfter
   assign-rule e = fun-ext λ o. rw e
 
@@ -92,22 +93,22 @@ module _ (nv level : ℕ) (rows : List ℕ) (i : ℕ) (Γ : Environment) (inner 
     unfolding ended _>>=_
     after-fine w = rw (fine-ended, w)
 
-    pub after-box : rowNumber rows i 0 ≡ 7 → answered Γ₁ out ≡ judgeBox nv Γ i (asValue v) → ended Γ₁ (record { next = inner .next; verdict = out }) ≡ afterAt nv level rows i (ended Γ inner)
+    pub after-box : fieldAt rows i 0 ≡ 7 → answered Γ₁ out ≡ judgeBox nv Γ i (asValue v) → ended Γ₁ (record { next = inner .next; verdict = out }) ≡ afterAt nv level rows i (ended Γ inner)
     after-box k w = after-fine (rw (box-rule nv level rows i k) w)
 
-    pub after-let : rowNumber rows i 0 ≡ 8 → (x : ℕ) → x ≡ rowNumber rows i 1 → answered Γ₁ out ≡ judgeLet nv level Γ i x (asValue v) → ended Γ₁ (record { next = inner .next; verdict = out }) ≡ afterAt nv level rows i (ended Γ inner)
+    pub after-let : fieldAt rows i 0 ≡ 8 → (x : ℕ) → x ≡ fieldAt rows i 1 → answered Γ₁ out ≡ judgeLet nv level Γ i x (asValue v) → ended Γ₁ (record { next = inner .next; verdict = out }) ≡ afterAt nv level rows i (ended Γ inner)
     after-let k x ex w = after-fine (rw (let-rule nv level rows i k, ← ex) w)
 
-    pub after-assign : Wraps nv rows i → (rowNumber rows i 0 ≡ 7 → ⊥) → (rowNumber rows i 0 ≡ 8 → ⊥) → (p : Place) → p ≡ rowPlace rows i 1 → answered Γ₁ out ≡ judgeAssign nv Γ i (asPlace p) (asValue v) → ended Γ₁ (record { next = inner .next; verdict = out }) ≡ afterAt nv level rows i (ended Γ inner)
-    after-assign W a b p ep w = after-fine (rw (assign-rule nv level rows i (⊎-elim (λ k. absurd (a k)) (λ h. ⊎-elim (λ k. absurd (b k)) (λ k. k) h) (wrapping (rowNumber rows i 0) (W .kind)))) (rw ep at w))
+    pub after-assign : Wraps nv rows i → (fieldAt rows i 0 ≡ 7 → ⊥) → (fieldAt rows i 0 ≡ 8 → ⊥) → (p : Place) → p ≡ rowPlace rows i 1 → answered Γ₁ out ≡ judgeAssign nv Γ i (asPlace p) (asValue v) → ended Γ₁ (record { next = inner .next; verdict = out }) ≡ afterAt nv level rows i (ended Γ inner)
+    after-assign W a b p ep w = after-fine (rw (assign-rule nv level rows i (⊎-elim (λ k. absurd (a k)) (λ h. ⊎-elim (λ k. absurd (b k)) (λ k. k) h) (wrapping (fieldAt rows i 0) (W .kind)))) (rw ep at w))
 
 -- One term.
-module _ (nv l : ℕ) (rows : List ℕ) (i : ℕ) (good : IsTree (treeAt nv l rows i)) (wraps : wrapsOf (rowNumber rows i 0) ≡ true) where
+module _ (nv l : ℕ) (rows : List ℕ) (i : ℕ) (good : IsTree (treeAt nv l rows i)) (wraps : wrapsOf (fieldAt rows i 0) ≡ true) where
   pub wrapped : Wraps nv rows i
-  wrapped = record { room = tree-room nv l rows i good; kind = wraps; number = let-number nv l rows i good }
+  wrapped = record { room = has-room nv l rows i good; kind = wraps; number = let-number nv l rows i good }
 
-  pub wrapped-inner : IsTree (treeAt nv (l - 1) rows (i + 1))
-  wrapped-inner = ⊎-elim (box-inner nv l rows i good) (λ h. ⊎-elim (let-inner nv l rows i good) (assign-inner nv l rows i good) h) (wrapping (rowNumber rows i 0) wraps)
+  inner : IsTree (treeAt nv (l - 1) rows (i + 1))
+  inner = wrapped-inner nv l rows i good wraps
 
   module _ (level : ℕ) (Γ : Environment) where
     abbrev Step : Environment → Type 0
@@ -115,37 +116,37 @@ module _ (nv l : ℕ) (rows : List ℕ) (i : ℕ) (good : IsTree (treeAt nv l ro
 
     pub wrapped-fine : (Γ₀ : Environment) → beginAt rows i Γ ≡ ok Γ₀ → Step Γ₀
     unfolding judge beginAt
-    wrapped-fine Γ₀ e = ⊎-elim boxed (λ h. ⊎-elim bound assigned h) (wrapping (rowNumber rows i 0) wraps)
+    wrapped-fine Γ₀ e = ⊎-elim boxed (λ h. ⊎-elim bound assigned h) (wrapping (fieldAt rows i 0) wraps)
       where
-        boxed : rowNumber rows i 0 ≡ 7 → Step Γ₀
+        boxed : fieldAt rows i 0 ≡ 7 → Step Γ₀
         boxed k =
             let same = ok-is Γ Γ₀ (rw k at e) in
-            rw (box-is nv l rows i good k, ← same) (inner-step (box i) (λ t. judge nv t level Γ) (λ t. judge nv t level Γ) (ruleAfter nv level rows i) (λ t. rw (box-rule nv level rows i k)) (treeAt nv (l - 1) rows (i + 1)) wrapped-inner)
+            rw (box-is nv l rows i good k, ← same) (inner-step (box i) (λ t. judge nv t level Γ) (λ t. judge nv t level Γ) (ruleAfter nv level rows i) (λ t. rw (box-rule nv level rows i k)) (treeAt nv (l - 1) rows (i + 1)) inner)
 
-        bound : rowNumber rows i 0 ≡ 8 → Step Γ₀
+        bound : fieldAt rows i 0 ≡ 8 → Step Γ₀
         bound k =
-            let x = rowNumber rows i 1 in
+            let x = fieldAt rows i 1 in
             let z = begin-ok (isFree (Γ x)) (30, i) (update Γ x used) Γ₀ (rw k at e) in
-            rw (let-is nv l rows i good k) (inner-step (declare i x) (λ t. judge nv t level Γ₀) (λ t. judge nv t level Γ) (ruleAfter nv level rows i) (λ t. declared nv level i x Γ Γ₀ (z .0) (z .1) t ∙ rw (let-rule nv level rows i k)) (treeAt nv (l - 1) rows (i + 1)) wrapped-inner)
+            rw (let-is nv l rows i good k) (inner-step (declare i x) (λ t. judge nv t level Γ₀) (λ t. judge nv t level Γ) (ruleAfter nv level rows i) (λ t. declared nv level i x Γ Γ₀ (z .0) (z .1) t ∙ rw (let-rule nv level rows i k)) (treeAt nv (l - 1) rows (i + 1)) inner)
 
-        assigned : rowNumber rows i 0 ≡ 9 → Step Γ₀
+        assigned : fieldAt rows i 0 ≡ 9 → Step Γ₀
         assigned k =
             let same = ok-is Γ Γ₀ (rw k at e) in
-            let p = asPlace (rowPlace rows i 1) in
-            rw (assign-is nv l rows i good k, ← same) (inner-step (assign i p) (λ t. judge nv t level Γ) (λ t. judge nv t level Γ) (ruleAfter nv level rows i) (λ t. rw (assign-rule nv level rows i k)) (treeAt nv (l - 1) rows (i + 1)) wrapped-inner)
+            let p = placeAt rows i 1 in
+            rw (assign-is nv l rows i good k, ← same) (inner-step (assign i p) (λ t. judge nv t level Γ) (λ t. judge nv t level Γ) (ruleAfter nv level rows i) (λ t. rw (assign-rule nv level rows i k)) (treeAt nv (l - 1) rows (i + 1)) inner)
 
     pub wrapped-refused : (x : Refusal) → beginAt rows i Γ ≡ err x → judgeAt nv (treeAt nv l rows i) level Γ ≡ err x
     unfolding beginAt
-    wrapped-refused x e = ⊎-elim (λ k. absurd (other (rw k at e))) (λ h. ⊎-elim taken (λ k. absurd (other (rw k at e))) h) (wrapping (rowNumber rows i 0) wraps)
+    wrapped-refused x e = ⊎-elim (λ k. absurd (other (rw k at e))) (λ h. ⊎-elim taken (λ k. absurd (other (rw k at e))) h) (wrapping (fieldAt rows i 0) wraps)
       where
         other : _≡_ {A = Judged Environment} (ok Γ) (err x) → ⊥
         other h = let z : _≡_ {A = ℕ} 0 1 = cc in absurd (omega arith)
 
-        taken : rowNumber rows i 0 ≡ 8 → judgeAt nv (treeAt nv l rows i) level Γ ≡ err x
+        taken : fieldAt rows i 0 ≡ 8 → judgeAt nv (treeAt nv l rows i) level Γ ≡ err x
         taken k =
-            let y = rowNumber rows i 1 in
+            let y = fieldAt rows i 1 in
             let z = begin-err (isFree (Γ y)) (30, i) x (update Γ y used) (rw k at e) in
-            rw (let-is nv l rows i good k) (not-declared nv level i y Γ (z .0) (treeAt nv (l - 1) rows (i + 1)) wrapped-inner ∙ ap (λ (x : Refusal). err x) (z .1))
+            rw (let-is nv l rows i good k) (not-declared nv level i y Γ (z .0) (treeAt nv (l - 1) rows (i + 1)) inner ∙ ap (λ (x : Refusal). err x) (z .1))
 
 -- Several, each around the next.
 module _ (nv level : ℕ) (rows : List ℕ) (i : ℕ) where
@@ -176,7 +177,7 @@ module _ (nv level : ℕ) (rows : List ℕ) (i : ℕ) where
       let a : levels - 0 ≡ levels = omega arith in
       record { around = λ j h. absurd (omega arith); inner = rw (a, add-zero) good; answer = rw (a, add-zero) }
 
-  module _ (levels : ℕ) (Γ₀ : Environment) (n : ℕ) (Γ : Environment) (I : Inwards levels Γ₀ n Γ) (wraps : wrapsOf (rowNumber rows (i + n) 0) ≡ true) where
+  module _ (levels : ℕ) (Γ₀ : Environment) (n : ℕ) (Γ : Environment) (I : Inwards levels Γ₀ n Γ) (wraps : wrapsOf (fieldAt rows (i + n) 0) ≡ true) where
     pub inwards-more : (Γ₁ : Environment) → beginAt rows (i + n) Γ ≡ ok Γ₁ → Inwards levels Γ₀ (n + 1) Γ₁
     unfolding outwards
     inwards-more Γ₁ e =

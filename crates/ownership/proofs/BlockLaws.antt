@@ -6,29 +6,15 @@ use mathlib.Core.Path.{_≡_, refl, sym, _∙_}
 use mathlib.Core.Option.{none, some}
 use Rattle.reader.specs.Result.{ok, err, _>>=_}
 use Rattle.reader.specs.Script.{Term, Terms, last, more}
+use Rattle.reader.specs.RowTrees.{RowTree, IsTree, around, before, severalAt, IsRest}
 use Rattle.rules.specs.declared.verdicts.Value.{Value}
 use Rattle.rules.specs.declared.verdicts.Verdict.the-variants as verdict
 use Rattle.rules.specs.Environment.{Environment}
 use Rattle.rules.specs.Judge.{judge}
 use Rattle.rules.specs.Verdicts.{asValue, answered}
 use Rattle.ownership.specs.declared.judge.JudgedTerm.{JudgedTerm}
-use Rattle.ownership.specs.RowTrees.{RowTree, IsTree, around, before, severalAt}
-use Rattle.ownership.specs.JudgeRows.{ended, judgedAt, judgeAt, judgesAt, IsRest, restAt}
+use Rattle.ownership.specs.JudgeRows.{ended, judgedAt, judgeAt, judgesAt, restAt}
 use Rattle.ownership.proofs.JudgeLaws.{refused-is, fine-is}
-
-first-of : (t : RowTree Term) → IsTree (around last t) → IsTree t
-first-of none h = absurd h
-first-of (some r) h = tt
-
-first-before : (d : RowTree Term) (rest : ℕ → RowTree Terms) → IsTree (before d rest) → IsTree d
-first-before none rest h = absurd h
-first-before (some r) rest h = tt
-
-pub first-is : (f : ℕ → RowTree Term) (n i : ℕ) → 0 < n → IsRest f n i → IsTree (f i)
-unfolding severalAt
-first-is f zero i b h = absurd (omega arith)
-first-is f (suc zero) i b h = first-of (f i) h
-first-is f (suc (suc n)) i b h = first-before (f i) (severalAt f n) h
 
 last-judged : (nv level : ℕ) (Γ : Environment) (d : RowTree Term) → judgesAt nv (around last d) level Γ ≡ judgeAt nv d level Γ
 unfolding judgedAt judge
@@ -83,15 +69,6 @@ rest-none nv f level zero r v Γ h q = rw q
 rest-none nv f level (suc n) r v Γ h q = absurd (omega arith)
 
 -- One term as all that is left.
-module _ (nv : ℕ) (f : ℕ → RowTree Term) (i : ℕ) where
-  pub one-rest : IsTree (f i) → IsRest f 1 i
-  unfolding severalAt
-  one-rest h = go (f i) h
-    where
-      go : (d : RowTree Term) → IsTree d → IsTree (around last d)
-      go none h = absurd h
-      go (some r) h = tt
-
-  pub rest-one : (level : ℕ) (v : Value) (Γ : Environment) → restAt nv f level 1 i v Γ ≡ judgeAt nv (f i) level Γ
-  unfolding restAt severalAt
-  rest-one level v Γ = last-judged nv level Γ (f i)
+pub one-judged : (nv : ℕ) (f : ℕ → RowTree Term) (level i : ℕ) (v : Value) (Γ : Environment) → restAt nv f level 1 i v Γ ≡ judgeAt nv (f i) level Γ
+unfolding restAt severalAt
+one-judged nv f level i v Γ = last-judged nv level Γ (f i)

@@ -4,6 +4,9 @@ use native.Mathlib.Numerals.{add-one}
 use mathlib.Core.Path.{_≡_, refl, _∙_}
 use mathlib.Core.List.{List}
 use Rattle.reader.specs.Script.{Term, Terms, block}
+use Rattle.reader.specs.RowParts.{fieldAt}
+use Rattle.reader.specs.RowTrees.{RowTree, IsTree, termsAt, treeAt}
+use Rattle.reader.proofs.RowTreeLaws.{block-is, block-inner}
 use Rattle.rules.specs.declared.verdicts.Value.{Value}
 use Rattle.rules.specs.declared.verdicts.Verdict.{Verdict}
 use Rattle.rules.specs.declared.verdicts.Verdict.the-variants as verdict
@@ -12,9 +15,7 @@ use Rattle.rules.specs.Rules.{judgeBlockEnd}
 use Rattle.rules.specs.Judge.{judge, judges}
 use Rattle.rules.specs.Verdicts.{asValue, answered}
 use Rattle.ownership.specs.declared.judge.JudgedTerm.{JudgedTerm}
-use Rattle.ownership.specs.RowTrees.{rowNumber, RowTree, IsTree, termsAt, treeAt}
 use Rattle.ownership.specs.JudgeRows.{ended, judgeAt, judgesAt, restAt}
-use Rattle.ownership.proofs.RowLaws.{block-is, block-inner}
 use Rattle.ownership.proofs.JudgeLaws.{inner-refused, inner-fine}
 
 -- The terms of a block, one at least: whatever the value before them.
@@ -25,12 +26,12 @@ all-terms nv f level (suc n) i v Γ h = refl
 
 module _ (nv l : ℕ) (rows : List ℕ) (i : ℕ) (good : IsTree (treeAt nv l rows i)) (level : ℕ) (Γ : Environment) where
   -- Block, with its count n.
-  module _ (k : rowNumber rows i 0 ≡ 11) (n : ℕ) (en : n ≡ rowNumber rows i 1) (v₀ : Value) (Γ₁ : Environment) (inner : JudgedTerm) (e : ended Γ₁ inner ≡ restAt nv (treeAt nv (l - 1) rows) (level + 1) n (i + 1) v₀ Γ) where
+  module _ (k : fieldAt rows i 0 ≡ 11) (n : ℕ) (en : n ≡ fieldAt rows i 1) (v₀ : Value) (Γ₁ : Environment) (inner : JudgedTerm) (e : ended Γ₁ inner ≡ restAt nv (treeAt nv (l - 1) rows) (level + 1) n (i + 1) v₀ Γ) where
     abbrev terms : RowTree Terms
-    terms = termsAt (treeAt nv (l - 1) rows) (rowNumber rows i 1) (i + 1)
+    terms = termsAt (treeAt nv (l - 1) rows) (fieldAt rows i 1) (i + 1)
 
     block-judged : ended Γ₁ inner ≡ judgesAt nv terms (suc level) Γ
-    block-judged = rw (en, add-one level) at e ∙ all-terms nv (treeAt nv (l - 1) rows) (suc level) (rowNumber rows i 1) (i + 1) v₀ Γ (block-inner nv l rows i good k)
+    block-judged = rw (en, add-one level) at e ∙ all-terms nv (treeAt nv (l - 1) rows) (suc level) (fieldAt rows i 1) (i + 1) v₀ Γ (block-inner nv l rows i good k)
 
     pub block-refused : (m at : ℕ) → inner .verdict ≡ verdict.Refused m at → ended Γ₁ inner ≡ judgeAt nv (treeAt nv l rows i) level Γ
     unfolding judge

@@ -15,19 +15,19 @@ use Rattle.reader.specs.Script.{Term}
 use Rattle.reader.specs.Reader.{decode}
 use Rattle.reader.specs.Measures.{size}
 use Rattle.reader.specs.Within.{Under}
+use Rattle.reader.specs.RowTrees.{IsTree, treeAt}
 use Rattle.reader.specs.Answers.{told, rowsTree, judgedOf}
 use Rattle.reader.specs.declared.Outcome.{Outcome}
 use Rattle.reader.specs.declared.Outcome.the-variants as outcome
 use Rattle.reader.proofs.Answers.{then, needed}
 use Rattle.reader.proofs.Lists.{under-all}
+use Rattle.reader.proofs.RowTrees.{tree-stands}
 use Rattle.rules.specs.declared.rules.Requirement.{Requirement}
 use Rattle.rules.specs.declared.rules.Requirement.the-variants as requirement
 use Rattle.rules.specs.Judge.{judgeScript}
 use Rattle.rules.specs.Verdicts.{asRequirement}
 use Rattle.ownership.specs.Answers.{checkOf}
-use Rattle.ownership.specs.RowTrees.{IsTree, treeAt}
 use Rattle.ownership.specs.JudgeRows.{scriptAt}
-use Rattle.ownership.proofs.Promise.{promise}
 
 -- Rows that the reader accepts have the right number and decode.
 pub tree-decoded : (l : Limits) (rows : List ℕ) (t : Term) → rowsTree l rows ≡ ok t → (length rows ≡ rowNumbers l) × (decode l rows ≡ ok t)
@@ -57,7 +57,7 @@ module _ (rows : List ℕ) (under : Under 4294967296 rows) (o : Outcome) (n : �
       let z : _≡_ {A = Result Refusal ℕ} (ok n) (rowsTree base rows >>= λ t. ok (size t)) = rw q at counted in
       let w = then (rowsTree base rows) (λ t. ok (size t)) n (sym z) in
       let d = tree-decoded base rows (w .0) (w .1) in
-      (w .0, w .1, cc (w .2), promise base rows (w .0) under (d .0) (d .1))
+      (w .0, w .1, cc (w .2), tree-stands base rows (w .0) under (d .0) (d .1))
 
   pub script-is : IsTree (treeAt 64 16 rows 0)
   script-is = rw (script .3) tt

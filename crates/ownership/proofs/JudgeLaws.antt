@@ -4,6 +4,7 @@ use native.Mathlib.Omega.{arith}
 use mathlib.Core.Path.{_≡_, refl, sym, ap}
 use mathlib.Core.Option.{none, some}
 use Rattle.reader.specs.Result.{ok, err, Refusal, _>>=_}
+use Rattle.reader.specs.RowTrees.{RowTree, IsTree, around}
 use Rattle.rules.specs.declared.verdicts.Value.{Value}
 use Rattle.rules.specs.declared.verdicts.Verdict.{Verdict}
 use Rattle.rules.specs.declared.verdicts.Verdict.the-variants as verdict
@@ -11,7 +12,6 @@ use Rattle.rules.specs.Environment.{Environment}
 use Rattle.rules.specs.Rules.{Judged, Out}
 use Rattle.rules.specs.Verdicts.{asValue, answered}
 use Rattle.ownership.specs.declared.judge.JudgedTerm.{JudgedTerm}
-use Rattle.ownership.specs.RowTrees.{RowTree, IsTree, around}
 use Rattle.ownership.specs.JudgeRows.{atRow, ended, judgedAt}
 
 -- What the code's verdict says of the definition's answer R, which ends at row j.

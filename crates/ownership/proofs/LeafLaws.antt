@@ -1,13 +1,18 @@
 -- The terms that have no inner term.
 use Prim.Native.Nat.{ℕ, _+_, _-_}
 use mathlib.Core.Path.{_≡_, refl, sym}
+use mathlib.Core.Bool.{Bool, true, false}
 use mathlib.Core.Option.{Option, none, some}
 use mathlib.Core.List.{List}
+use lib.Dec.{ltb}
 use Rattle.reader.specs.Result.{ok}
 use Rattle.reader.specs.Script as script
 use Rattle.reader.specs.Script.{Term}
 use Rattle.reader.specs.Kinds.{Kind, kNumber, kReading, kCopy, kMove, kShared, kExclusive, kBox, kLet, kAssign, kBelow, kBlock, byteOf, kindOf}
+use Rattle.reader.specs.RowParts.{fieldAt}
+use Rattle.reader.specs.RowTrees.{placeAt, RowTree, IsTree, onlyIf, kindAt, treeAt}
 use Rattle.reader.proofs.KindBytes.{found}
+use Rattle.reader.proofs.RowTreeLaws.{only-in, tree-kind}
 use Rattle.rules.specs.declared.table.Place.{Place}
 use Rattle.rules.specs.declared.verdicts.Verdict.{Verdict}
 use Rattle.rules.specs.Environment.{Environment}
@@ -15,9 +20,7 @@ use Rattle.rules.specs.Rules.{numberTy}
 use Rattle.rules.specs.Judge.{judge}
 use Rattle.rules.specs.Table.{asPlace}
 use Rattle.rules.specs.Verdicts.{answered}
-use Rattle.ownership.specs.RowTrees.{rowNumber, rowPlace, RowTree, IsTree, kindAt, treeAt}
-use Rattle.ownership.specs.JudgeRows.{atRow, ended, judgedAt, judgeAt, judgeLeaf}
-use Rattle.ownership.proofs.RowLaws.{tree-kind}
+use Rattle.ownership.specs.JudgeRows.{rowPlace, atRow, ended, judgedAt, judgeAt, judgeLeaf}
 
 -- Number and reading, and what the term judge never hands on.
 pub leaf-number : (nv k i : ℕ) (p q : script.Place) (Γ : Environment) → (k ≡ 3 → ⊥) → (k ≡ 4 → ⊥) → (k ≡ 5 → ⊥) → (k ≡ 6 → ⊥) → (k ≡ 10 → ⊥) → judgeLeaf nv (kindOf 1 k) i p q Γ ≡ ok (Γ, some numberTy)
@@ -38,22 +41,29 @@ leaf-number nv k i p q Γ a b c d e = go (kindOf 1 k) refl
     go (some kBelow) h = absurd (e (sym (found 1 k kBelow h)))
     go (some kBlock) h = refl
 
-pub leaf-judged : (nv l : ℕ) (rows : List ℕ) (i : ℕ) → IsTree (treeAt nv l rows i) → (level : ℕ) (Γ : Environment) (k : ℕ) → k ≡ rowNumber rows i 0 → (k ≡ 7 → ⊥) × (k ≡ 8 → ⊥) × (k ≡ 9 → ⊥) → (k ≡ 11 → ⊥) → (p q : Place) → p ≡ rowPlace rows i 1 → q ≡ rowPlace rows i 3 → (Γ₁ : Environment) (out : Verdict) → answered Γ₁ out ≡ judgeLeaf nv (kindOf 1 k) i (asPlace p) (asPlace q) Γ → ended Γ₁ (record { next = i + 1; verdict = out }) ≡ judgeAt nv (treeAt nv l rows i) level Γ
+pub leaf-judged : (nv l : ℕ) (rows : List ℕ) (i : ℕ) → IsTree (treeAt nv l rows i) → (level : ℕ) (Γ : Environment) (k : ℕ) → k ≡ fieldAt rows i 0 → (k ≡ 7 → ⊥) × (k ≡ 8 → ⊥) × (k ≡ 9 → ⊥) → (k ≡ 11 → ⊥) → (p q : Place) → p ≡ rowPlace rows i 1 → q ≡ rowPlace rows i 3 → (Γ₁ : Environment) (out : Verdict) → answered Γ₁ out ≡ judgeLeaf nv (kindOf 1 k) i (asPlace p) (asPlace q) Γ → ended Γ₁ (record { next = i + 1; verdict = out }) ≡ judgeAt nv (treeAt nv l rows i) level Γ
 unfolding ended judgedAt judge kindAt judgeLeaf byteOf
 leaf-judged nv l rows i good level Γ k ek n d p q ep eq Γ₁ out w =
     let z : treeAt nv l rows i ≡ kindAt (kindOf 1 k) nv (treeAt nv (l - 1) rows) rows i = tree-kind nv l rows i (kindOf 1 k) good (rw ek) in
     rw (w, ep, eq, z) (go (treeAt nv (l - 1) rows) (kindOf 1 k) refl (rw z at good))
   where
-    go : (f : ℕ → RowTree Term) (o : Option Kind) → kindOf 1 k ≡ o → IsTree (kindAt o nv f rows i) → atRow (i + 1) (judgeLeaf nv o i (asPlace (rowPlace rows i 1)) (asPlace (rowPlace rows i 3)) Γ) ≡ judgeAt nv (kindAt o nv f rows i) level Γ
+    -- The row's test is met, so its term stands there.
+    met : (b : Bool) (d : RowTree Term) → IsTree (onlyIf b d) → onlyIf b d ≡ d
+    met true d t = refl
+    met false d t = absurd t
+
+    go : (f : ℕ → RowTree Term) (o : Option Kind) → kindOf 1 k ≡ o → IsTree (kindAt o nv f rows i) → atRow (i + 1) (judgeLeaf nv o i (placeAt rows i 1) (placeAt rows i 3) Γ) ≡ judgeAt nv (kindAt o nv f rows i) level Γ
     go f none h t = absurd t
     go f (some kNumber) h t = refl
-    go f (some kReading) h t = refl
-    go f (some kCopy) h t = refl
-    go f (some kMove) h t = refl
-    go f (some kShared) h t = refl
-    go f (some kExclusive) h t = refl
+    go f (some kReading) h t = rw (met _ _ t)
+    go f (some kCopy) h t = rw (met _ _ t)
+    go f (some kMove) h t = rw (met _ _ t)
+    go f (some kShared) h t = rw (met _ _ t)
+    go f (some kExclusive) h t = rw (met _ _ t)
     go f (some kBox) h t = absurd (n .0 (sym (found 1 k kBox h)))
     go f (some kLet) h t = absurd (n .1 (sym (found 1 k kLet h)))
     go f (some kAssign) h t = absurd (n .2 (sym (found 1 k kAssign h)))
-    go f (some kBelow) h t = refl
+    go f (some kBelow) h t =
+        let u = only-in (ltb (fieldAt rows i 1) nv) _ t in
+        rw (met (ltb (fieldAt rows i 1) nv) _ t, met (ltb (fieldAt rows i 3) nv) _ u)
     go f (some kBlock) h t = absurd (d (sym (found 1 k kBlock h)))

@@ -7,6 +7,7 @@ use mathlib.Core.List.{List}
 use lib.ListN.{getD, replicate}
 use Rattle.reader.specs.Result.{err, _>>=_}
 use Rattle.reader.specs.Script.{Term}
+use Rattle.reader.specs.RowTrees.{RowTree, IsTree}
 use Rattle.rules.specs.declared.verdicts.Value.{Value}
 use Rattle.rules.specs.declared.verdicts.Verdict.the-variants as verdict
 use Rattle.rules.specs.Bars.{heldBy}
@@ -16,7 +17,6 @@ use Rattle.rules.specs.Table.{asSlot, environmentOf, weightOf, holders, Noted}
 use Rattle.rules.specs.Verdicts.{judgeAnswer, asValue}
 use Rattle.rules.proofs.TableLaws.{entry-free}
 use Rattle.ownership.specs.declared.judge.JudgedTerm.{JudgedTerm}
-use Rattle.ownership.specs.RowTrees.{RowTree, IsTree}
 use Rattle.ownership.specs.JudgeRows.{ended, judgedAt, judgeAt, scriptAt}
 use Rattle.ownership.proofs.JudgeLaws.{refused-is, fine-is}
 

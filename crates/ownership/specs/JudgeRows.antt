@@ -9,14 +9,19 @@ use lib.ListN.{length}
 use Rattle.reader.specs.Result.{ok, err, pick, _>>=_}
 use Rattle.reader.specs.Script.{Place, Term, Terms}
 use Rattle.reader.specs.Kinds.{Kind, kNumber, kReading, kCopy, kMove, kShared, kExclusive, kBox, kLet, kAssign, kBelow, kBlock, wrapsOf}
+use Rattle.reader.specs.RowParts.{fieldAt}
+use Rattle.reader.specs.RowTrees.{placeAt, RowTree, severalAt}
+use Rattle.rules.specs.declared.table.Place as table
 use Rattle.rules.specs.declared.verdicts.Value.{Value}
 use Rattle.rules.specs.Environment.{Environment}
 use Rattle.rules.specs.Rules.{Judged, Out, numberTy, judgeCopy, judgeMove, judgeShared, judgeExclusive, judgeBox, judgeLet, judgeAssign, judgeBelow}
-use Rattle.rules.specs.Table.{asPlace}
 use Rattle.rules.specs.Judge.{judge, judges, judgeScript}
 use Rattle.rules.specs.Verdicts.{beginLet, asValue, answered}
 use Rattle.ownership.specs.declared.judge.JudgedTerm.{JudgedTerm}
-use Rattle.ownership.specs.RowTrees.{rowNumber, rowPlace, RowTree, IsTree, severalAt}
+
+-- The place in fields k and k + 1 of row i, as the code has it.
+abbrev pub rowPlace : List ℕ → ℕ → ℕ → table.Place
+rowPlace rows i k = record { root = fieldAt rows i k; follows = fieldAt rows i (k + 1) }
 
 abbrev pub Ended : Type 0
 Ended = Judged (Out × ℕ)
@@ -42,19 +47,19 @@ judgesAt nv d level Γ = judgedAt (λ ts. judges nv ts level Γ) d
 -- At row i stands a term around one inner term.
 pub record Wraps (nv : ℕ) (rows : List ℕ) (i : ℕ) : Type 0 where
   pub room : 5 * i + 5 ≤ length rows
-  pub kind : wrapsOf (rowNumber rows i 0) ≡ true
-  pub number : rowNumber rows i 0 ≡ 8 → rowNumber rows i 1 < nv
+  pub kind : wrapsOf (fieldAt rows i 0) ≡ true
+  pub number : fieldAt rows i 0 ≡ 8 → fieldAt rows i 1 < nv
 
 -- What comes before its inner term.
 unfoldable pub beginAt : List ℕ → ℕ → Environment → Judged Environment
-beginAt rows i Γ = pick (eqb (rowNumber rows i 0) 8) (beginLet Γ i (rowNumber rows i 1)) (ok Γ)
+beginAt rows i Γ = pick (eqb (fieldAt rows i 0) 8) (beginLet Γ i (fieldAt rows i 1)) (ok Γ)
 
 -- The rule that follows it.
 unfoldable pub ruleAfter : ℕ → ℕ → List ℕ → ℕ → Out → Judged Out
 ruleAfter nv level rows i o =
-    pick (eqb (rowNumber rows i 0) 7) (judgeBox nv (o .0) i (o .1))
-    (pick (eqb (rowNumber rows i 0) 8) (judgeLet nv level (o .0) i (rowNumber rows i 1) (o .1))
-    (judgeAssign nv (o .0) i (asPlace (rowPlace rows i 1)) (o .1)))
+    pick (eqb (fieldAt rows i 0) 7) (judgeBox nv (o .0) i (o .1))
+    (pick (eqb (fieldAt rows i 0) 8) (judgeLet nv level (o .0) i (fieldAt rows i 1) (o .1))
+    (judgeAssign nv (o .0) i (placeAt rows i 1) (o .1)))
 
 abbrev pub afterAt : ℕ → ℕ → List ℕ → ℕ → Ended → Ended
 afterAt nv level rows i inner = inner >>= λ o. atRow (o .1) (ruleAfter nv level rows i (o .0))
@@ -65,10 +70,6 @@ outwards nv level rows i zero inner = inner
 outwards nv level rows i (suc n) inner = outwards nv level rows i n (afterAt nv level rows (i + n) inner)
 
 -- What is left of a block: n terms from row i on, after one with this value.
-abbrev pub IsRest : (ℕ → RowTree Term) → ℕ → ℕ → Type 0
-IsRest term zero i = Unit {0}
-IsRest term (suc n) i = IsTree (severalAt term n i)
-
 unfoldable pub restAt : ℕ → (ℕ → RowTree Term) → ℕ → ℕ → ℕ → Value → Environment → Ended
 restAt nv term level zero i value Γ = ok ((Γ, asValue value), i)
 restAt nv term level (suc n) i value Γ = judgesAt nv (severalAt term n i) level Γ

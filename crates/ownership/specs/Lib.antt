@@ -1,4 +1,3 @@
--- The ownership check: what it answers, and what its code relies on about rows.
+-- The ownership check: what it answers, and the judge at a row.
 pub mod Answers
-pub mod RowTrees
 pub mod JudgeRows

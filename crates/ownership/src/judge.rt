@@ -3,15 +3,17 @@ ghost use mathlib.Core.Path.{_≡_};
 ghost use mathlib.Core.Bool.{false};
 ghost use Prim.Native.Nat.{_<_, _+_};
 ghost use Rattle.reader.specs.Kinds.{kindOf, wrapsOf};
+ghost use Rattle.reader.specs.RowParts.{fieldAt};
+ghost use Rattle.reader.specs.RowTrees.{IsTree, IsRest, treeAt};
 ghost use Rattle.rules.specs.Judge.{nothingTaken};
 ghost use Rattle.rules.specs.Table.{TableFor, environmentOf, asPlace};
 ghost use Rattle.rules.specs.Verdicts.{asRequirement, begun, answered};
-ghost use Rattle.ownership.specs.RowTrees.{rowNumber, IsTree, treeAt};
-ghost use Rattle.ownership.specs.JudgeRows.{judgeLeaf, ended, judgeAt, Wraps, beginAt, afterAt, IsRest, restAt, scriptAt};
+ghost use Rattle.ownership.specs.JudgeRows.{judgeLeaf, ended, judgeAt, Wraps, beginAt, afterAt, restAt, scriptAt};
 use crate::row;
 use crate::row::index_at;
 use crate::row::number_at;
 use crate::row::place_at;
+use reader::wraps;
 use rules::Place;
 use rules::Requirement;
 use rules::Value;
@@ -57,20 +59,7 @@ fn judge_leaf(
     }
 }
 
-// Box, let and assign stand around one inner term, which is in the next row.
-fn wraps(kind: u32) -> bool
-    ensures { λ r. ⌜ r ≡ wrapsOf kind ⌝ }
-{
-    if kind == row::BOX {
-        return true;
-    }
-    if kind == row::LET {
-        return true;
-    }
-    kind == row::ASSIGN
-}
-
-// What comes before the inner term of such a term: a let takes its number.
+// What comes before the inner term of a box, let or assign, which is in the next row: a let takes its number.
 fn judge_before(rows: &[u32], i: usize, env: &mut [u32], variables: usize) -> Requirement
     requires { ⌜ Wraps variables (now rows) i × TableFor (now env) variables ⌝ }
     ensures { λ r. ⌜ (begun (environmentOf (now (env .exit))) r ≡ beginAt (now (rows .entry)) i (environmentOf (now (env .entry)))) × TableFor (now (env .exit)) variables ⌝ }
@@ -131,7 +120,7 @@ fn judge_inmost(
     variables: usize,
     level: u32,
 ) -> JudgedTerm
-    requires { ⌜ IsTree (treeAt variables levels (now rows) i) × (wrapsOf (rowNumber (now rows) i 0) ≡ false) × TableFor (now env) variables × (level + levels < 4294967296) ⌝ }
+    requires { ⌜ IsTree (treeAt variables levels (now rows) i) × (wrapsOf (fieldAt (now rows) i 0) ≡ false) × TableFor (now env) variables × (level + levels < 4294967296) ⌝ }
     ensures { λ r. ⌜ (ended (environmentOf (now (env .exit))) r ≡ judgeAt variables (treeAt variables levels (now (rows .entry)) i) level (environmentOf (now (env .entry)))) × TableFor (now (env .exit)) variables ⌝ }
 {
     let next = i + 1;

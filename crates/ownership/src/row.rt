@@ -2,7 +2,8 @@
 ghost use mathlib.Core.Path.{_≡_};
 ghost use Prim.Native.Nat.{_<_, _≤_, _+_, _*_};
 ghost use lib.ListN.{length};
-ghost use Rattle.ownership.specs.RowTrees.{rowNumber, rowPlace};
+ghost use Rattle.reader.specs.RowParts.{fieldAt};
+ghost use Rattle.ownership.specs.JudgeRows.{rowPlace};
 use rules::Place;
 
 // The kinds that the judge tells apart. Number and reading are judged alike.
@@ -26,7 +27,7 @@ pub const BLOCK: u32 = 11;
 
 pub fn number_at(rows: &[u32], i: usize, k: usize) -> u32
     requires { ⌜ (5 * i + 5 ≤ length (now rows)) × (k < 5) ⌝ }
-    ensures { λ r. ⌜ r ≡ rowNumber (now (rows .entry)) i k ⌝ }
+    ensures { λ r. ⌜ r ≡ fieldAt (now (rows .entry)) i k ⌝ }
 {
     let at = 5 * i + k;
     rows[at]
@@ -35,7 +36,7 @@ pub fn number_at(rows: &[u32], i: usize, k: usize) -> u32
 // The same, as an index or a count.
 pub fn index_at(rows: &[u32], i: usize, k: usize) -> usize
     requires { ⌜ (5 * i + 5 ≤ length (now rows)) × (k < 5) ⌝ }
-    ensures { λ r. ⌜ r ≡ rowNumber (now (rows .entry)) i k ⌝ }
+    ensures { λ r. ⌜ r ≡ fieldAt (now (rows .entry)) i k ⌝ }
 {
     number_at(rows, i, k) as usize
 }

@@ -33,6 +33,8 @@ pub mod OutputLaws
 pub mod OutputTrees
 pub mod OutputAnswers
 pub mod Undo
+pub mod RowTrees
+pub mod RowTreeLaws
 pub mod RowFields
 pub mod RowTerms
 pub mod RowSpans

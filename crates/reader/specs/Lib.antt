@@ -12,4 +12,5 @@ pub mod Parts
 pub mod ByteParts
 pub mod Lent
 pub mod RowParts
+pub mod RowTrees
 pub mod OutputParts

@@ -13,6 +13,7 @@ mod script; // script.rt: a whole script in bytes
 mod rows; // rows.rt: terms and blocks in term rows, and what stands after them
 mod output; // output.rt: the bytes of a script, from its term rows
 
+pub use crate::rows::wraps; // for the layers above, which go along the rows too
 use crate::rows::first_used;
 use crate::rows::judge_block;
 use crate::rows::no_block;

@@ -4,7 +4,7 @@ ghost use mathlib.Core.Bool.{false};
 ghost use mathlib.Core.List.{_∷_, []};
 ghost use Prim.Native.Nat.{_+_, _*_, _<_, _≤_};
 ghost use lib.ListN.{length, drop};
-ghost use Rattle.reader.specs.Kinds.{until};
+ghost use Rattle.reader.specs.Kinds.{until, wrapsOf};
 ghost use Rattle.reader.specs.Parts.{IsKind, placeFields, boxesWith, fieldsOf};
 ghost use Rattle.reader.specs.RowParts.{fieldAt, fieldsFit, noBlock, rowNumber, RowsReady, termRows, blockRows, spanOf, spanned, bitsOf, firstUsed};
 use crate::limits;
@@ -106,6 +106,19 @@ fn row_number(rows: &[u32], i: usize, levels: usize, boxes: usize) -> u32
         return 0;
     }
     limits::OPERAND
+}
+
+// Box, let and assign stand around one inner term, which is in the next row.
+pub fn wraps(kind: u32) -> bool
+    ensures { λ r. ⌜ r ≡ wrapsOf kind ⌝ }
+{
+    if kind == 7 {
+        return true;
+    }
+    if kind == 8 {
+        return true;
+    }
+    kind == 9
 }
 
 fn boxes_with(kind: u32, boxes: usize) -> usize

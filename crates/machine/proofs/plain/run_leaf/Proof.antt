@@ -1,5 +1,5 @@
 -- `machine::plain::run_leaf` meets its contract. Assumes nothing.
-use Rattle.machine.proofs.RowLaws.{leaf-number, reading-index, leaf-reading, copy-root, move-root, below-roots, leaf-copy, leaf-move, leaf-below, borrow-root, leaf-borrow}
+use Rattle.machine.proofs.RowLaws.{reading-leaf, copy-leaf, move-leaf, below-leaf, borrow-leaf, leaf-number, leaf-reading, leaf-copy, leaf-move, leaf-below, leaf-borrow}
 use borrow.Author.Needs.{needs}
 use native.Mathlib.Omega.{arith}
 use mathlib.Core.Path.{sym, _∙_}
@@ -25,16 +25,16 @@ numbered-requires : tie.Need-numbered-requires
 numbered-requires c κs = search needs
 
 reading-bits-requires : tie.Need-reading-bits-requires
-reading-bits-requires c κs = omega (arith, c .before .before .before .before .before .before .before .before .pre .eight, c .before .before .before .wide .ensures, c .before .before .before .before .operand2 .ensures, reading-index _ _ (c .before .before .before .before .before .before .before .before .pre .leaf) (c .before .before .before .before .before .before .before .before .args .readings .now) (c .before .before .before .before .before .before .before .before .args .store .now) (sym (c .before .before .before .before .before .operand .ensures) ∙ c .match .keys2))
+reading-bits-requires c κs = omega (arith, c .before .before .before .before .before .before .before .before .pre .eight, c .before .before .before .wide .ensures, c .before .before .before .before .operand2 .ensures, reading-leaf _ _ (c .before .before .before .before .before .before .before .before .pre .leaf) (sym (c .before .before .before .before .before .operand .ensures) ∙ c .match .keys2) .0)
 
 numbered-requires-2 : tie.Need-numbered-requires-2
 numbered-requires-2 c κs = search needs
 
 run-copy-requires : tie.Need-run-copy-requires
-run-copy-requires c κs = ((c .before .before .before .before .before .before .before .before .before .pre .tidy), omega (arith, c .before .before .before .before .wide .ensures, c .before .before .before .before .before .operand2 .ensures, copy-root _ _ (c .before .before .before .before .before .before .before .before .before .pre .leaf) (c .before .before .before .before .before .before .before .before .before .args .readings .now) (c .before .before .before .before .before .before .before .before .before .args .store .now) (sym (c .before .before .before .before .before .before .operand .ensures) ∙ c .before .match .keys3)))
+run-copy-requires c κs = ((c .before .before .before .before .before .before .before .before .before .pre .tidy), omega (arith, c .before .before .before .before .wide .ensures, c .before .before .before .before .before .operand2 .ensures, copy-leaf _ _ (c .before .before .before .before .before .before .before .before .before .pre .leaf) (sym (c .before .before .before .before .before .before .operand .ensures) ∙ c .before .match .keys3) .0))
 
 run-move-requires : tie.Need-run-move-requires
-run-move-requires c κs = ((c .before .before .before .before .before .before .before .before .before .pre .tidy), omega (arith, c .before .before .before .before .wide .ensures, c .before .before .before .before .before .operand2 .ensures, move-root _ _ (c .before .before .before .before .before .before .before .before .before .pre .leaf) (c .before .before .before .before .before .before .before .before .before .args .readings .now) (c .before .before .before .before .before .before .before .before .before .args .store .now) (sym (c .before .before .before .before .before .before .operand .ensures) ∙ c .before .match .keys4)))
+run-move-requires c κs = ((c .before .before .before .before .before .before .before .before .before .pre .tidy), omega (arith, c .before .before .before .before .wide .ensures, c .before .before .before .before .before .operand2 .ensures, move-leaf _ _ (c .before .before .before .before .before .before .before .before .before .pre .leaf) (sym (c .before .before .before .before .before .before .operand .ensures) ∙ c .before .match .keys4) .0))
 
 operand-requires-4 : tie.Need-operand-requires-4
 operand-requires-4 c κs = (c .before .before .before .before .before .before .before .before .pre .room, omega arith)
@@ -49,12 +49,12 @@ wide-requires-4 : tie.Need-wide-requires-4
 wide-requires-4 c κs = search needs
 
 run-below-requires : tie.Need-run-below-requires
-run-below-requires c κs = ((c .before .before .before .before .before .before .before .before .before .before .before .before .before .pre .tidy), omega (arith, c .before .before .before .before .before .before .before .before .wide .ensures, c .before .before .before .before .before .before .before .before .before .operand2 .ensures, below-roots _ _ (c .before .before .before .before .before .before .before .before .before .before .before .before .before .pre .leaf) (c .before .before .before .before .before .before .before .before .before .before .before .before .before .args .readings .now) (c .before .before .before .before .before .before .before .before .before .before .before .before .before .args .store .now) (sym (c .before .before .before .before .before .before .before .before .before .before .operand .ensures) ∙ c .before .before .before .before .before .match .keys5) .0), omega (arith, c .before .before .before .wide3 .ensures, c .before .before .before .before .operand4 .ensures, below-roots _ _ (c .before .before .before .before .before .before .before .before .before .before .before .before .before .pre .leaf) (c .before .before .before .before .before .before .before .before .before .before .before .before .before .args .readings .now) (c .before .before .before .before .before .before .before .before .before .before .before .before .before .args .store .now) (sym (c .before .before .before .before .before .before .before .before .before .before .operand .ensures) ∙ c .before .before .before .before .before .match .keys5) .1))
+run-below-requires c κs = ((c .before .before .before .before .before .before .before .before .before .before .before .before .before .pre .tidy), omega (arith, c .before .before .before .before .before .before .before .before .wide .ensures, c .before .before .before .before .before .before .before .before .before .operand2 .ensures, below-leaf _ _ (c .before .before .before .before .before .before .before .before .before .before .before .before .before .pre .leaf) (sym (c .before .before .before .before .before .before .before .before .before .before .operand .ensures) ∙ c .before .before .before .before .before .match .keys5) .0), omega (arith, c .before .before .before .wide3 .ensures, c .before .before .before .before .operand4 .ensures, below-leaf _ _ (c .before .before .before .before .before .before .before .before .before .before .before .before .before .pre .leaf) (sym (c .before .before .before .before .before .before .before .before .before .before .operand .ensures) ∙ c .before .before .before .before .before .match .keys5) .1))
 
 run-borrow-requires : tie.Need-run-borrow-requires
 run-borrow-requires c κs =
     let r = c .before .match .rest in
-    ((c .before .before .before .before .before .before .before .before .before .pre .tidy), omega (arith, c .before .before .before .before .wide .ensures, c .before .before .before .before .before .operand2 .ensures, borrow-root _ _ (c .before .before .before .before .before .before .before .before .before .pre .leaf) (c .before .before .before .before .before .before .before .before .before .args .readings .now) (c .before .before .before .before .before .before .before .before .before .args .store .now) _ (c .before .before .before .before .before .before .operand .ensures) (r .0 .0 .0 .0 .1) (r .0 .0 .0 .1) (r .0 .0 .1) (r .0 .1) (r .1)))
+    ((c .before .before .before .before .before .before .before .before .before .pre .tidy), omega (arith, c .before .before .before .before .wide .ensures, c .before .before .before .before .before .operand2 .ensures, borrow-leaf _ _ (c .before .before .before .before .before .before .before .before .before .pre .leaf) _ (c .before .before .before .before .before .before .operand .ensures) (r .0 .0 .0 .0 .1) (r .0 .0 .0 .1) (r .0 .0 .1) (r .0 .1) (r .1) .0))
 
 returns : tie.Need-returns
 returns c = leaf-number _ _ (c .before .before .before .before .before .before .before .before .before .pre .leaf) _ _ (sym (c .before .before .before .before .before .before .operand .ensures) ∙ c .before .match .keys1) (c .before .before .before .before .before .before .before .before .before .pre .tidy) _ (c .before .before .before .before .before .operand2 .ensures) _ (record { fine = c .numbered .ensures .0; kind = c .numbered .ensures .1; is = c .numbered .ensures .2 })
@@ -86,7 +86,7 @@ same-length-4 c = search needs
 returns-6 : tie.Need-returns-6
 returns-6 c =
     let r = c .before .before .match .rest in
-    leaf-borrow _ _ (c .before .before .before .before .before .before .before .before .before .before .pre .leaf) _ _ _ (c .before .before .before .before .before .before .before .operand .ensures) (r .0 .0 .0 .0 .1) (r .0 .0 .0 .1) (r .0 .0 .1) (r .0 .1) (r .1) (c .before .before .before .before .before .before .before .before .before .before .pre .tidy) _ _ (c .before .before .before .before .before .wide .ensures ∙ c .before .before .before .before .before .before .operand2 .ensures) (c .before .before .before .wide2 .ensures ∙ c .before .before .before .before .operand3 .ensures) _ (c .run-borrow .ensures)
+    leaf-borrow _ _ (c .before .before .before .before .before .before .before .before .before .before .pre .leaf) _ _ _ _ (c .before .before .before .before .before .wide .ensures ∙ c .before .before .before .before .before .before .operand2 .ensures) (c .before .before .before .wide2 .ensures ∙ c .before .before .before .before .operand3 .ensures) _ (c .before .before .before .before .before .before .before .operand .ensures) (r .0 .0 .0 .0 .1) (r .0 .0 .0 .1) (r .0 .0 .1) (r .0 .1) (r .1) (c .before .before .before .before .before .before .before .before .before .before .pre .tidy) _ (c .run-borrow .ensures)
 
 pub run-leaf-spec : {M : Type 1} → statement M
 run-leaf-spec =

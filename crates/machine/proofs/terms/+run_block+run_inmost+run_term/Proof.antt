@@ -1,7 +1,7 @@
 -- Terms and blocks, which call each other. The measure is three times the levels left, one more for a term and two for a block. The block's loop has the invariant `Going`, the term's two loops `Inwards` and `Outwards`. Assumes nothing.
 use Rattle.reader.specs.Kinds.{wrapsOf}
+use Rattle.reader.proofs.RowTreeLaws.{has-level, has-room}
 use Rattle.machine.proofs.BlockRunLaws.{Going, going-ends, going-drops, turn-ready, going-stops, going-goes, going-enters, block-ready, block-ending, block-returns}
-use Rattle.machine.proofs.RowLaws.{has-level, has-room}
 use Rattle.machine.proofs.WrapLaws.{inmost-ready, inmost-returns, Inwards, Outwards, inwards-starts, inwards-here, inwards-room, inwards-level, inwards-goes, outwards-starts, outwards-ends, outwards-after, outwards-goes}
 use borrow.Author.Needs.{needs}
 use native.Mathlib.Omega.{arith}
@@ -26,7 +26,7 @@ use Rattle.machine.proofs.operands.operand.Reads as operand-reads
 use Rattle.machine.proofs.operands.wide.Reads as wide-reads
 use Rattle.machine.proofs.terms.run_after.Reads as run-after-reads
 use Rattle.machine.proofs.terms.run_plain.Reads as run-plain-reads
-use Rattle.machine.proofs.terms.wraps.Reads as wraps-reads
+use Rattle.reader.proofs.wraps.Reads as wraps-reads
 use Rattle.machine.proofs.terms.+run_block+run_inmost+run_term.{statement}
 use Rattle.machine.proofs.terms.+run_block+run_inmost+run_term.Tie.{close}
 
@@ -180,17 +180,17 @@ run-block-returns-3 : (t : ℕ) → run-block-lts.Need-returns-3 (run-block-clai
 run-block-returns-3 t c = going-ends _ _ _ _ _ _ _ _ _ _ _ _ (c .before .loop .inv) (c .loop-test .left)
 
 run-inmost-operand-requires : (t : ℕ) → run-inmost-lts.Need-operand-requires (run-inmost-claims t) (run-inmost-at t) run-inmost.Post
-run-inmost-operand-requires t c κs = (has-room _ _ _ (c .before .before .before .pre .1 .0 .is), omega arith)
+run-inmost-operand-requires t c κs = (has-room _ _ _ _ (c .before .before .before .pre .1 .0 .is), omega arith)
 
 run-inmost-sub-run-block : (t : ℕ) → run-inmost-lts.Need-sub-run-block (run-inmost-claims t) (run-inmost-at t) run-inmost.Post
-run-inmost-sub-run-block t c = omega (arith, has-level _ _ _ (c .before .before .before .before .before .pre .1 .0 .is))
+run-inmost-sub-run-block t c = omega (arith, has-level _ _ _ _ (c .before .before .before .before .before .pre .1 .0 .is))
 
 run-inmost-run-block-requires : (t : ℕ) → run-inmost-lts.Need-run-block-requires (run-inmost-claims t) (run-inmost-at t) run-inmost.Post
 run-inmost-run-block-requires t c κs =
     let at-if1 = c .before .before in
     let at-operand = at-if1 .before in
     let start = at-operand .before .before .before .before in
-    (omega (arith, start .pre .0, has-level _ _ _ (start .pre .1 .0 .is)), block-ready _ _ _ _ _ _ _ _ (start .pre .1 .0) (sym (at-operand .operand .ensures) ∙ at-if1 .if1 .taken))
+    (omega (arith, start .pre .0, has-level _ _ _ _ (start .pre .1 .0 .is)), block-ready _ _ _ _ _ _ _ _ (start .pre .1 .0) (sym (at-operand .operand .ensures) ∙ at-if1 .if1 .taken))
 
 run-inmost-close-block-requires : (t : ℕ) → run-inmost-lts.Need-close-block-requires (run-inmost-claims t) (run-inmost-at t) run-inmost.Post
 run-inmost-close-block-requires t c κs =
@@ -223,7 +223,7 @@ run-inmost-run-plain-requires t c κs =
     let at-if1 = c .before in
     let at-operand = at-if1 .before in
     let start = at-operand .before .before .before .before in
-    (inmost-ready _ _ _ _ _ _ _ _ (start .pre .1 .0) (start .pre .1 .1) _ (at-operand .operand .ensures) (at-if1 .if1 .left), omega (arith, has-room _ _ _ (start .pre .1 .0 .is), start .pre .1 .0 .ready .long))
+    (inmost-ready _ _ _ _ _ _ _ _ (start .pre .1 .0) (start .pre .1 .1) _ (at-operand .operand .ensures) (at-if1 .if1 .left), omega (arith, has-room _ _ _ _ (start .pre .1 .0 .is), start .pre .1 .0 .ready .long))
 
 run-inmost-same-length-3 : (t : ℕ) → run-inmost-lts.Need-same-length-3 (run-inmost-claims t) (run-inmost-at t) run-inmost.Post
 run-inmost-same-length-3 t c =
@@ -258,7 +258,7 @@ run-term-add-operand : (t : ℕ) → run-term-lts.Need-add-operand (run-term-cla
 run-term-add-operand t c = omega (arith, inwards-room _ _ _ _ _ _ _ _ _ (c .loop .inv))
 
 run-term-operand-requires : (t : ℕ) → run-term-lts.Need-operand-requires (run-term-claims t) (run-term-at t) run-term.Post run-term-Inv-loop run-term-μ-loop run-term-Inv-loop2 run-term-μ-loop2
-run-term-operand-requires t c κs = (has-room _ _ _ (inwards-here _ _ _ _ _ _ _ _ _ (c .loop .inv) .is), omega arith)
+run-term-operand-requires t c κs = (has-room _ _ _ _ (inwards-here _ _ _ _ _ _ _ _ _ (c .loop .inv) .is), omega arith)
 
 run-term-wraps-requires : (t : ℕ) → run-term-lts.Need-wraps-requires (run-term-claims t) (run-term-at t) run-term.Post run-term-Inv-loop run-term-μ-loop run-term-Inv-loop2 run-term-μ-loop2
 run-term-wraps-requires t c κs = search needs

@@ -11,14 +11,14 @@ use Rattle.rules.specs.Table.{TableFor, environmentOf}
 use Rattle.rules.specs.Verdicts.{answered}
 use Rattle.reader.specs.Result.{_>>=_}
 use Rattle.reader.specs.Kinds.{wrapsOf}
+use Rattle.reader.specs.RowTrees.{IsRest, treeAt}
 use Rattle.reader.proofs.KindBytes.{not-wrapping}
-use Rattle.ownership.specs.RowTrees.{treeAt}
-use Rattle.ownership.specs.JudgeRows.{ended, outwards, IsRest, restAt}
-use Rattle.ownership.proofs.RowLaws.{tree-level, tree-room, block-rest}
+use Rattle.reader.proofs.RowTreeLaws.{rest-first, has-level, has-room, block-rest}
+use Rattle.ownership.specs.JudgeRows.{ended, outwards, restAt}
 use Rattle.ownership.proofs.AroundLaws.{met-begun, refused-begun, wrapped, Inwards, inwards-start, inwards-more, inwards-refused, outwards-less, outwards-none}
 use Rattle.ownership.proofs.BlockTerm.{block-refused, block-fine}
 use Rattle.ownership.proofs.LeafLaws.{leaf-judged}
-use Rattle.ownership.proofs.BlockLaws.{first-is, rest-refused, rest-fine, rest-none}
+use Rattle.ownership.proofs.BlockLaws.{rest-refused, rest-fine, rest-none}
 use borrow.Fn.Kinds.{In}
 use borrow.Fn.PlainCycle.{Measures, is, falls, and}
 use Rattle.ownership.proofs.judge.judge_block.Reads as judge-block
@@ -33,7 +33,7 @@ use Rattle.ownership.proofs.judge.+judge_block+judge_inmost+judge_term.
 use Rattle.ownership.proofs.judge.judge_after.Reads as judge-after-reads
 use Rattle.ownership.proofs.judge.judge_before.Reads as judge-before-reads
 use Rattle.ownership.proofs.judge.judge_leaf.Reads as judge-leaf-reads
-use Rattle.ownership.proofs.judge.wraps.Reads as wraps-reads
+use Rattle.reader.proofs.wraps.Reads as wraps-reads
 use Rattle.ownership.proofs.row.index_at.Reads as index-at-reads
 use Rattle.ownership.proofs.row.number_at.Reads as number-at-reads
 use Rattle.ownership.proofs.row.place_at.Reads as place-at-reads
@@ -109,7 +109,7 @@ judge-block-judge-term-requires : (t : ℕ) → judge-block-lts.Need-judge-term-
 judge-block-judge-term-requires t c κs =
     let p = c .before .before .before .before .before .pre in
     let at-loop = c .before .before in
-    (omega (arith, p .0), (first-is _ _ _ (c .before .loop-test .taken) (at-loop .loop .inv .0), at-loop .loop .inv .2, p .1 .2))
+    (omega (arith, p .0), (rest-first _ _ _ (c .before .loop-test .taken) (at-loop .loop .inv .0), at-loop .loop .inv .2, p .1 .2))
 
 judge-block-enum-told : (t : ℕ) → judge-block-lts.Need-enum-told (judge-block-claims t) (judge-block-at t) judge-block.Post judge-block-Inv-loop judge-block-μ-loop
 judge-block-enum-told t c = search needs
@@ -150,25 +150,25 @@ judge-block-returns-2 t c =
     (rest-none _ _ _ _ _ _ _ (c .loop-test .left) (at-loop .loop .inv .4) ∙ at-loop .loop .inv .5, at-loop .loop .inv .2)
 
 judge-inmost-add-next : (t : ℕ) → judge-inmost-lts.Need-add-next (judge-inmost-claims t) (judge-inmost-at t) judge-inmost.Post
-judge-inmost-add-next t c = omega (arith, tree-room _ _ _ _ (c .before .before .pre .1 .0))
+judge-inmost-add-next t c = omega (arith, has-room _ _ _ _ (c .before .before .pre .1 .0))
 
 judge-inmost-number-at-requires : (t : ℕ) → judge-inmost-lts.Need-number-at-requires (judge-inmost-claims t) (judge-inmost-at t) judge-inmost.Post
-judge-inmost-number-at-requires t c κs = (tree-room _ _ _ _ (c .before .before .pre .1 .0), omega arith)
+judge-inmost-number-at-requires t c κs = (has-room _ _ _ _ (c .before .before .pre .1 .0), omega arith)
 
 judge-inmost-index-at-requires : (t : ℕ) → judge-inmost-lts.Need-index-at-requires (judge-inmost-claims t) (judge-inmost-at t) judge-inmost.Post
-judge-inmost-index-at-requires t c κs = (tree-room _ _ _ _ (c .before .before .before .before .pre .1 .0), omega arith)
+judge-inmost-index-at-requires t c κs = (has-room _ _ _ _ (c .before .before .before .before .pre .1 .0), omega arith)
 
 judge-inmost-sub-judge-block : (t : ℕ) → judge-inmost-lts.Need-sub-judge-block (judge-inmost-claims t) (judge-inmost-at t) judge-inmost.Post
-judge-inmost-sub-judge-block t c = omega (arith, tree-level _ _ _ _ (c .before .before .before .before .before .pre .1 .0))
+judge-inmost-sub-judge-block t c = omega (arith, has-level _ _ _ _ (c .before .before .before .before .before .pre .1 .0))
 
 judge-inmost-add-judge-block : (t : ℕ) → judge-inmost-lts.Need-add-judge-block (judge-inmost-claims t) (judge-inmost-at t) judge-inmost.Post
-judge-inmost-add-judge-block t c = omega (arith, c .before .before .before .before .before .before .pre .1 .3, tree-level _ _ _ _ (c .before .before .before .before .before .before .pre .1 .0))
+judge-inmost-add-judge-block t c = omega (arith, c .before .before .before .before .before .before .pre .1 .3, has-level _ _ _ _ (c .before .before .before .before .before .before .pre .1 .0))
 
 judge-inmost-judge-block-requires : (t : ℕ) → judge-inmost-lts.Need-judge-block-requires (judge-inmost-claims t) (judge-inmost-at t) judge-inmost.Post
 judge-inmost-judge-block-requires t c κs =
     let p = c .before .before .before .before .before .before .pre in
     let k = sym (c .before .before .before .number-at .ensures) ∙ c .before .before .if1 .taken in
-    (omega (arith, p .0, tree-level _ _ _ _ (p .1 .0)), (block-rest _ _ _ _ (p .1 .0) k _ (c .before .index-at .ensures), p .1 .2, omega (arith, p .1 .3, tree-level _ _ _ _ (p .1 .0))))
+    (omega (arith, p .0, has-level _ _ _ _ (p .1 .0)), (block-rest _ _ _ _ (p .1 .0) k _ (c .before .index-at .ensures), p .1 .2, omega (arith, p .1 .3, has-level _ _ _ _ (p .1 .0))))
 
 judge-inmost-enum-known-verdict : (t : ℕ) → judge-inmost-lts.Need-enum-known-verdict (judge-inmost-claims t) (judge-inmost-at t) judge-inmost.Post
 judge-inmost-enum-known-verdict t c = search needs
@@ -208,10 +208,10 @@ judge-inmost-returns-2 t c =
     (block-fine _ _ _ _ (start .pre .1 .0) _ _ k _ (at-index-at .index-at .ensures) _ _ _ (at-judge-block .judge-block .ensures .0) _ (at-verdict .verdict .given .1) _ _ (at-judge-block-end .judge-block-end .ensures .0), at-judge-block-end .judge-block-end .ensures .1)
 
 judge-inmost-place-at-requires : (t : ℕ) → judge-inmost-lts.Need-place-at-requires (judge-inmost-claims t) (judge-inmost-at t) judge-inmost.Post
-judge-inmost-place-at-requires t c κs = (tree-room _ _ _ _ (c .before .before .before .before .pre .1 .0), omega arith)
+judge-inmost-place-at-requires t c κs = (has-room _ _ _ _ (c .before .before .before .before .pre .1 .0), omega arith)
 
 judge-inmost-place-at-requires-2 : (t : ℕ) → judge-inmost-lts.Need-place-at-requires-2 (judge-inmost-claims t) (judge-inmost-at t) judge-inmost.Post
-judge-inmost-place-at-requires-2 t c κs = (tree-room _ _ _ _ (c .before .before .before .before .before .pre .1 .0), omega arith)
+judge-inmost-place-at-requires-2 t c κs = (has-room _ _ _ _ (c .before .before .before .before .before .pre .1 .0), omega arith)
 
 judge-inmost-judge-leaf-requires : (t : ℕ) → judge-inmost-lts.Need-judge-leaf-requires (judge-inmost-claims t) (judge-inmost-at t) judge-inmost.Post
 judge-inmost-judge-leaf-requires t c κs = c .before .before .before .before .before .before .before .pre .1 .2
@@ -234,16 +234,16 @@ judge-term-loop-holds : (t : ℕ) → judge-term-lts.Need-loop-holds (judge-term
 judge-term-loop-holds t c = (refl, c .before .before .pre .1 .1, inwards-start _ _ _ _ _ _ (c .before .before .pre .1 .0))
 
 judge-term-add-number-at : (t : ℕ) → judge-term-lts.Need-add-number-at (judge-term-claims t) (judge-term-at t) judge-term.Post judge-term-Inv-loop judge-term-μ-loop judge-term-Inv-loop2 judge-term-μ-loop2
-judge-term-add-number-at t c = omega (arith, tree-room _ _ _ _ (c .loop .inv .2 .inner))
+judge-term-add-number-at t c = omega (arith, has-room _ _ _ _ (c .loop .inv .2 .inner))
 
 judge-term-number-at-requires : (t : ℕ) → judge-term-lts.Need-number-at-requires (judge-term-claims t) (judge-term-at t) judge-term.Post judge-term-Inv-loop judge-term-μ-loop judge-term-Inv-loop2 judge-term-μ-loop2
-judge-term-number-at-requires t c κs = (tree-room _ _ _ _ (c .loop .inv .2 .inner), omega arith)
+judge-term-number-at-requires t c κs = (has-room _ _ _ _ (c .loop .inv .2 .inner), omega arith)
 
 judge-term-wraps-requires : (t : ℕ) → judge-term-lts.Need-wraps-requires (judge-term-claims t) (judge-term-at t) judge-term.Post judge-term-Inv-loop judge-term-μ-loop judge-term-Inv-loop2 judge-term-μ-loop2
 judge-term-wraps-requires t c κs = search needs
 
 judge-term-add-judge-before : (t : ℕ) → judge-term-lts.Need-add-judge-before (judge-term-claims t) (judge-term-at t) judge-term.Post judge-term-Inv-loop judge-term-μ-loop judge-term-Inv-loop2 judge-term-μ-loop2
-judge-term-add-judge-before t c = omega (arith, tree-room _ _ _ _ (c .before .before .before .loop .inv .2 .inner))
+judge-term-add-judge-before t c = omega (arith, has-room _ _ _ _ (c .before .before .before .loop .inv .2 .inner))
 
 judge-term-judge-before-requires : (t : ℕ) → judge-term-lts.Need-judge-before-requires (judge-term-claims t) (judge-term-at t) judge-term.Post judge-term-Inv-loop judge-term-μ-loop judge-term-Inv-loop2 judge-term-μ-loop2
 judge-term-judge-before-requires t c κs =
@@ -273,10 +273,10 @@ judge-term-enum-told : (t : ℕ) → judge-term-lts.Need-enum-told (judge-term-c
 judge-term-enum-told t c = search needs
 
 judge-term-add-around : (t : ℕ) → judge-term-lts.Need-add-around (judge-term-claims t) (judge-term-at t) judge-term.Post judge-term-Inv-loop judge-term-μ-loop judge-term-Inv-loop2 judge-term-μ-loop2
-judge-term-add-around t c = omega (arith, tree-room _ _ _ _ (c .before .before .before .before .before .before .before .before .before .loop .inv .2 .inner))
+judge-term-add-around t c = omega (arith, has-room _ _ _ _ (c .before .before .before .before .before .before .before .before .before .loop .inv .2 .inner))
 
 judge-term-loop-less : (t : ℕ) → judge-term-lts.Need-loop-less (judge-term-claims t) (judge-term-at t) judge-term.Post judge-term-Inv-loop judge-term-μ-loop judge-term-Inv-loop2 judge-term-μ-loop2
-judge-term-loop-less t c = omega (arith, tree-level _ _ _ _ (c .before .before .before .before .before .before .before .before .before .loop .inv .2 .inner))
+judge-term-loop-less t c = omega (arith, has-level _ _ _ _ (c .before .before .before .before .before .before .before .before .before .loop .inv .2 .inner))
 
 judge-term-loop-again : (t : ℕ) → judge-term-lts.Need-loop-again (judge-term-claims t) (judge-term-at t) judge-term.Post judge-term-Inv-loop judge-term-μ-loop judge-term-Inv-loop2 judge-term-μ-loop2
 judge-term-loop-again t c =
@@ -288,10 +288,10 @@ judge-term-loop-again t c =
     (at-judge-before .judge-before .kept .1 .1 .0 ∙ at-loop .loop .inv .0, at-judge-before .judge-before .ensures .1, inwards-more _ _ _ _ _ _ _ _ (at-loop .loop .inv .2) w _ (met-begun _ (c .enum-told .given .1) (at-judge-before .judge-before .ensures .0)))
 
 judge-term-add-judge-inmost : (t : ℕ) → judge-term-lts.Need-add-judge-inmost (judge-term-claims t) (judge-term-at t) judge-term.Post judge-term-Inv-loop judge-term-μ-loop judge-term-Inv-loop2 judge-term-μ-loop2
-judge-term-add-judge-inmost t c = omega (arith, tree-room _ _ _ _ (c .before .before .before .loop .inv .2 .inner))
+judge-term-add-judge-inmost t c = omega (arith, has-room _ _ _ _ (c .before .before .before .loop .inv .2 .inner))
 
 judge-term-sub-judge-inmost : (t : ℕ) → judge-term-lts.Need-sub-judge-inmost (judge-term-claims t) (judge-term-at t) judge-term.Post judge-term-Inv-loop judge-term-μ-loop judge-term-Inv-loop2 judge-term-μ-loop2
-judge-term-sub-judge-inmost t c = omega (arith, tree-level _ _ _ _ (c .before .before .before .loop .inv .2 .inner))
+judge-term-sub-judge-inmost t c = omega (arith, has-level _ _ _ _ (c .before .before .before .loop .inv .2 .inner))
 
 judge-term-judge-inmost-requires : (t : ℕ) → judge-term-lts.Need-judge-inmost-requires (judge-term-claims t) (judge-term-at t) judge-term.Post judge-term-Inv-loop judge-term-μ-loop judge-term-Inv-loop2 judge-term-μ-loop2
 judge-term-judge-inmost-requires t c κs =
@@ -308,7 +308,7 @@ judge-term-sub-around : (t : ℕ) → judge-term-lts.Need-sub-around (judge-term
 judge-term-sub-around t c = omega arith
 
 judge-term-add-judge-after : (t : ℕ) → judge-term-lts.Need-add-judge-after (judge-term-claims t) (judge-term-at t) judge-term.Post judge-term-Inv-loop judge-term-μ-loop judge-term-Inv-loop2 judge-term-μ-loop2
-judge-term-add-judge-after t c = omega (arith, tree-room _ _ _ _ (c .before .before .before .before .before .before .before .before .before .loop .inv .2 .inner))
+judge-term-add-judge-after t c = omega (arith, has-room _ _ _ _ (c .before .before .before .before .before .before .before .before .before .loop .inv .2 .inner))
 
 judge-term-judge-after-requires : (t : ℕ) → judge-term-lts.Need-judge-after-requires (judge-term-claims t) (judge-term-at t) judge-term.Post judge-term-Inv-loop judge-term-μ-loop judge-term-Inv-loop2 judge-term-μ-loop2
 judge-term-judge-after-requires t c κs = (c .before .before .before .before .before .before .before .before .before .before .loop .inv .2 .around _ (omega arith), c .before .before .loop2 .inv .2)

@@ -2,8 +2,9 @@
 use native.Mathlib.Omega.{arith}
 use mathlib.Core.Path.{_∙_}
 use borrow.Author.Needs.{needs}
+use Rattle.reader.proofs.RowTreeLaws.{rest-one}
 use Rattle.rules.specs.Verdicts.{asRequirement}
-use Rattle.ownership.proofs.BlockLaws.{one-rest, rest-one}
+use Rattle.ownership.proofs.BlockLaws.{one-judged}
 use Rattle.ownership.proofs.ScriptLaws.{script-refused, script-fine}
 use Rattle.ownership.proofs.judge.judge_script.Statement.{statement}
 use Rattle.ownership.proofs.judge.judge_script.Tie as tie
@@ -11,7 +12,7 @@ use Rattle.ownership.proofs.judge.judge_script.Tie as tie
 judge-block-requires : tie.Need-judge-block-requires
 judge-block-requires c κs =
     let p = c .before .before .before .pre in
-    (one-rest 0 _ _ (p .0), p .1, omega (arith, p .3))
+    (rest-one _ _ (p .0), p .1, omega (arith, p .3))
 
 enum-known-verdict : tie.Need-enum-known-verdict
 enum-known-verdict c = search needs
@@ -31,7 +32,7 @@ returns c =
     let at-verdict = c .before in
     let at-judge-block = at-verdict .before .before .before .before in
     let start = at-judge-block .before .before .before .before in
-    script-refused _ _ _ (start .pre .2) _ _ (start .pre .0) (at-judge-block .judge-block .ensures .0 ∙ rest-one _ _ _ _ _ _) _ _ (at-verdict .verdict .given .1)
+    script-refused _ _ _ (start .pre .2) _ _ (start .pre .0) (at-judge-block .judge-block .ensures .0 ∙ one-judged _ _ _ _ _ _) _ _ (at-verdict .verdict .given .1)
 
 same-length-2 : tie.Need-same-length-2
 same-length-2 c = c .before .before .before .before .before .before .judge-block .kept .1 .1 .1 .1 .0
@@ -41,7 +42,7 @@ returns-2 c =
     let at-verdict2 = c .before .before in
     let at-judge-block = at-verdict2 .before .before .before .before in
     let start = at-judge-block .before .before .before .before in
-    c .judge-answer .ensures (start .args .variables) ∙ script-fine _ _ _ (start .pre .2) _ _ (start .pre .0) (at-judge-block .judge-block .ensures .0 ∙ rest-one _ _ _ _ _ _) _ (at-verdict2 .verdict2 .given .1)
+    c .judge-answer .ensures (start .args .variables) ∙ script-fine _ _ _ (start .pre .2) _ _ (start .pre .0) (at-judge-block .judge-block .ensures .0 ∙ one-judged _ _ _ _ _ _) _ (at-verdict2 .verdict2 .given .1)
 
 pub judge-script-spec : {M : Type 1} → statement M
 judge-script-spec =

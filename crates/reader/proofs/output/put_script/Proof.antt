@@ -1,5 +1,5 @@
 -- `reader::output::put_script` meets its contract. The loop's invariant: after the mark and the version stand the bytes of the rows passed, up to `at`.
-use Prim.Native.Nat.{_+_, _-_, _≤_}
+use Prim.Native.Nat.{_+_, _-_}
 use native.Mathlib.Omega.{arith}
 use mathlib.Core.Path.{_≡_, refl, _∙_}
 use lib.ListN.{length}
