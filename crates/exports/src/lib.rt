@@ -5,7 +5,7 @@ ghost use Rattle.reader.specs.Answers.{told, readOf, judgedOf, writtenOf};
 ghost use Rattle.ownership.specs.Answers.{toldChecked, checkOf};
 ghost use Rattle.machine.specs.Answers.{toldRun, runOf};
 ghost use Rattle.room.specs.Calling.{toldCall, callOf};
-ghost use Rattle.exports.specs.Answers.{tells, tellsRan, tellsCalled};
+ghost use Rattle.exports.specs.Answers.{answerIn, ranIn, calledIn, inC};
 use machine::RunOutcome;
 use ownership::Checked;
 use reader::Outcome;
@@ -21,7 +21,7 @@ pub struct Answer {
 }
 
 fn c_answer(outcome: Outcome) -> Answer
-    ensures { λ r. ⌜ tells r ≡ told outcome ⌝ }
+    ensures { λ r. ⌜ r ≡ answerIn (told outcome) ⌝ }
 {
     match outcome {
         Outcome::Count(count) => Answer {
@@ -39,34 +39,34 @@ fn c_answer(outcome: Outcome) -> Answer
 
 #[no_mangle]
 pub extern "C" fn roomscript_read(script: &[u8], rows: &mut [u32]) -> Answer
-    ensures { λ r. ⌜ (tells r, now (rows .exit)) ≡ readOf base (now (script .entry)) (now (rows .entry)) ⌝ }
+    ensures { λ r. ⌜ (r, now (rows .exit)) ≡ inC answerIn (readOf base (now (script .entry)) (now (rows .entry))) ⌝ }
 {
     c_answer(reader::read(script, rows))
 }
 
 #[no_mangle]
 pub extern "C" fn roomscript_judge_rows(rows: &[u32]) -> Answer
-    ensures { λ r. ⌜ tells r ≡ judgedOf base (now (rows .entry)) ⌝ }
+    ensures { λ r. ⌜ r ≡ answerIn (judgedOf base (now (rows .entry))) ⌝ }
 {
     c_answer(reader::judge_rows(rows))
 }
 
 #[no_mangle]
 pub extern "C" fn roomscript_write(rows: &[u32], output: &mut [u8]) -> Answer
-    ensures { λ r. ⌜ (tells r, now (output .exit)) ≡ writtenOf base (now (rows .entry)) (now (output .entry)) ⌝ }
+    ensures { λ r. ⌜ (r, now (output .exit)) ≡ inC answerIn (writtenOf base (now (rows .entry)) (now (output .entry))) ⌝ }
 {
     c_answer(reader::write(rows, output))
 }
 
 #[no_mangle]
 pub extern "C" fn roomscript_check(rows: &[u32]) -> Answer
-    ensures { λ r. ⌜ tells r ≡ checkOf base (now (rows .entry)) ⌝ }
+    ensures { λ r. ⌜ r ≡ answerIn (checkOf base (now (rows .entry))) ⌝ }
 {
     c_checked(ownership::check(rows))
 }
 
 fn c_checked(checked: Checked) -> Answer
-    ensures { λ r. ⌜ tells r ≡ toldChecked checked ⌝ }
+    ensures { λ r. ⌜ r ≡ answerIn (toldChecked checked) ⌝ }
 {
     match checked {
         Checked::Accepted(terms) => Answer {
@@ -83,7 +83,7 @@ fn c_checked(checked: Checked) -> Answer
 }
 
 // outcome is 0 where the run answers: value is then the count of cells taken. It is 1 for a refusal, with its
-// number and place, and 2 for a fault, with its number and term.
+// number and place, and 2 for a fault, with its number and term. answer is 0 unless the run answers.
 #[repr(C)]
 pub struct Ran {
     pub outcome: u32,
@@ -93,7 +93,7 @@ pub struct Ran {
 }
 
 fn c_ran(ran: RunOutcome) -> Ran
-    ensures { λ r. ⌜ tellsRan r ≡ toldRun ran ⌝ }
+    ensures { λ r. ⌜ r ≡ ranIn (toldRun ran) ⌝ }
 {
     match ran {
         RunOutcome::Answered(answer, cells) => Ran {
@@ -119,7 +119,7 @@ fn c_ran(ran: RunOutcome) -> Ran
 
 #[no_mangle]
 pub extern "C" fn roomscript_run(rows: &[u32], readings: &[i32], store: &mut [u32]) -> Ran
-    ensures { λ r. ⌜ (tellsRan r, now (store .exit)) ≡ runOf base (now (rows .entry)) (now (readings .entry)) (now (store .entry)) ⌝ }
+    ensures { λ r. ⌜ (r, now (store .exit)) ≡ inC ranIn (runOf base (now (rows .entry)) (now (readings .entry)) (now (store .entry))) ⌝ }
 {
     c_ran(machine::run(rows, readings, store))
 }
@@ -136,7 +136,7 @@ pub struct Call {
 }
 
 fn c_called(called: Called) -> Call
-    ensures { λ r. ⌜ tellsCalled r ≡ toldCall called ⌝ }
+    ensures { λ r. ⌜ r ≡ calledIn (toldCall called) ⌝ }
 {
     match called {
         Called::Answered(terms, answer, cells) => Call {
@@ -165,7 +165,7 @@ pub extern "C" fn roomscript_call(
     rows: &mut [u32],
     store: &mut [u32],
 ) -> Call
-    ensures { λ r. ⌜ (tellsCalled r, (now (rows .exit), now (store .exit))) ≡ callOf base (now (script .entry)) (now (readings .entry)) (now (rows .entry)) (now (store .entry)) ⌝ }
+    ensures { λ r. ⌜ (r, (now (rows .exit), now (store .exit))) ≡ inC calledIn (callOf base (now (script .entry)) (now (readings .entry)) (now (rows .entry)) (now (store .entry))) ⌝ }
 {
     c_called(room::call(script, readings, rows, store))
 }

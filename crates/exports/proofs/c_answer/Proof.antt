@@ -1,7 +1,7 @@
 -- `exports::c_answer` meets its contract. Assumes nothing.
 use mathlib.Core.Path.{refl}
 use Rattle.reader.specs.Answers.{told}
-use Rattle.exports.specs.Answers.{tells}
+use Rattle.exports.specs.Answers.{answerIn}
 use borrow.Author.Needs.{needs}
 use Rattle.exports.proofs.c_answer.Statement.{statement}
 use Rattle.exports.proofs.c_answer.Tie as tie
@@ -13,11 +13,11 @@ enum-known-outcome-2 : tie.Need-enum-known-outcome-2
 enum-known-outcome-2 c = search needs
 
 returns : tie.Need-returns
-unfolding tells told
+unfolding answerIn told
 returns c = rw (c .before .outcome .given .1) refl
 
 returns-2 : tie.Need-returns-2
-unfolding tells told
+unfolding answerIn told
 returns-2 c = rw (c .before .outcome2 .given .1) refl
 
 pub c-answer-spec : {M : Type 1} → statement M

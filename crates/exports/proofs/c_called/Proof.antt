@@ -4,7 +4,7 @@ use mir.Facts.{toZ-ofZ}
 use mir.Syntax.{w32}
 use mir.Val.{SFits}
 use Rattle.room.specs.Calling.{toldCall}
-use Rattle.exports.specs.Answers.{tellsCalled}
+use Rattle.exports.specs.Answers.{calledIn}
 use borrow.Author.Needs.{needs}
 use Rattle.exports.proofs.c_called.Statement.{statement}
 use Rattle.exports.proofs.c_called.Tie as tie
@@ -16,13 +16,13 @@ enum-known-called-2 : tie.Need-enum-known-called-2
 enum-known-called-2 c = search needs
 
 returns : tie.Need-returns
-unfolding tellsCalled toldCall
+unfolding calledIn toldCall
 returns c =
     let h : SFits w32 (c .before .called .given .0 .1 .0) = search needs in
     rw (c .before .called .given .1, toZ-ofZ h) refl
 
 returns-2 : tie.Need-returns-2
-unfolding tellsCalled toldCall
+unfolding calledIn toldCall
 returns-2 c = rw (c .before .called2 .given .1) refl
 
 pub c-called-spec : {M : Type 1} → statement M

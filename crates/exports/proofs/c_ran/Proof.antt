@@ -4,7 +4,7 @@ use mir.Facts.{toZ-ofZ}
 use mir.Syntax.{w32}
 use mir.Val.{SFits}
 use Rattle.machine.specs.Answers.{toldRun}
-use Rattle.exports.specs.Answers.{tellsRan}
+use Rattle.exports.specs.Answers.{ranIn}
 use borrow.Author.Needs.{needs}
 use Rattle.exports.proofs.c_ran.Statement.{statement}
 use Rattle.exports.proofs.c_ran.Tie as tie
@@ -19,17 +19,17 @@ enum-known-ran-3 : tie.Need-enum-known-ran-3
 enum-known-ran-3 c = search needs
 
 returns : tie.Need-returns
-unfolding tellsRan toldRun
+unfolding ranIn toldRun
 returns c =
     let h : SFits w32 (c .before .ran .given .0 .0) = search needs in
     rw (c .before .ran .given .1, toZ-ofZ h) refl
 
 returns-2 : tie.Need-returns-2
-unfolding tellsRan toldRun
+unfolding ranIn toldRun
 returns-2 c = rw (c .before .ran2 .given .1) refl
 
 returns-3 : tie.Need-returns-3
-unfolding tellsRan toldRun
+unfolding ranIn toldRun
 returns-3 c = rw (c .before .ran3 .given .1) refl
 
 pub c-ran-spec : {M : Type 1} → statement M

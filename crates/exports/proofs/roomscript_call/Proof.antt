@@ -1,5 +1,7 @@
 -- `exports::roomscript_call` meets its contract. Assumes nothing.
+use mathlib.Core.Path.{ap}
 use borrow.Author.Needs.{needs}
+use Rattle.exports.specs.Answers.{calledIn, inC}
 use Rattle.exports.proofs.roomscript_call.Statement.{statement}
 use Rattle.exports.proofs.roomscript_call.Tie as tie
 
@@ -16,7 +18,7 @@ same-length-2 : tie.Need-same-length-2
 same-length-2 c = search needs
 
 returns : tie.Need-returns
-returns c = rw (c .c-called .ensures) (c .before .before .before .before .before .call .ensures .0)
+returns c = rw (c .c-called .ensures) (ap (inC calledIn) (c .before .before .before .before .before .call .ensures .0))
 
 pub roomscript-call-spec : {M : Type 1} → statement M
 roomscript-call-spec =

@@ -1,6 +1,7 @@
 -- `exports::roomscript_check` meets its contract. Assumes nothing.
-use mathlib.Core.Path.{_∙_}
+use mathlib.Core.Path.{_∙_, ap}
 use borrow.Author.Needs.{needs}
+use Rattle.exports.specs.Answers.{answerIn}
 use Rattle.exports.proofs.roomscript_check.Statement.{statement}
 use Rattle.exports.proofs.roomscript_check.Tie as tie
 
@@ -11,7 +12,7 @@ c-checked-requires : tie.Need-c-checked-requires
 c-checked-requires c κs = search needs
 
 returns : tie.Need-returns
-returns c = c .c-checked .ensures ∙ c .before .check .ensures
+returns c = c .c-checked .ensures ∙ ap answerIn (c .before .check .ensures)
 
 pub roomscript-check-spec : {M : Type 1} → statement M
 roomscript-check-spec = tie.close (tie.spec check-requires c-checked-requires returns)

@@ -1,5 +1,7 @@
 -- `exports::roomscript_read` meets its contract. Assumes nothing.
+use mathlib.Core.Path.{ap}
 use borrow.Author.Needs.{needs}
+use Rattle.exports.specs.Answers.{answerIn, inC}
 use Rattle.exports.proofs.roomscript_read.Statement.{statement}
 use Rattle.exports.proofs.roomscript_read.Tie as tie
 
@@ -13,7 +15,7 @@ same-length : tie.Need-same-length
 same-length c = search needs
 
 returns : tie.Need-returns
-returns c = rw (c .c-answer .ensures) (c .before .before .before .read .ensures)
+returns c = rw (c .c-answer .ensures) (ap (inC answerIn) (c .before .before .before .read .ensures))
 
 pub roomscript-read-spec : {M : Type 1} → statement M
 roomscript-read-spec = tie.close (tie.spec read-requires c-answer-requires same-length returns)

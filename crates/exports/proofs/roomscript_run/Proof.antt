@@ -1,5 +1,7 @@
 -- `exports::roomscript_run` meets its contract. Assumes nothing.
+use mathlib.Core.Path.{ap}
 use borrow.Author.Needs.{needs}
+use Rattle.exports.specs.Answers.{ranIn, inC}
 use Rattle.exports.proofs.roomscript_run.Statement.{statement}
 use Rattle.exports.proofs.roomscript_run.Tie as tie
 
@@ -13,7 +15,7 @@ same-length : tie.Need-same-length
 same-length c = search needs
 
 returns : tie.Need-returns
-returns c = rw (c .c-ran .ensures) (c .before .before .before .run .ensures)
+returns c = rw (c .c-ran .ensures) (ap (inC ranIn) (c .before .before .before .run .ensures))
 
 pub roomscript-run-spec : {M : Type 1} → statement M
 roomscript-run-spec = tie.close (tie.spec run-requires c-ran-requires same-length returns)

@@ -1,5 +1,7 @@
 -- `exports::roomscript_write` meets its contract. Assumes nothing.
+use mathlib.Core.Path.{ap}
 use borrow.Author.Needs.{needs}
+use Rattle.exports.specs.Answers.{answerIn, inC}
 use Rattle.exports.proofs.roomscript_write.Statement.{statement}
 use Rattle.exports.proofs.roomscript_write.Tie as tie
 
@@ -13,7 +15,7 @@ same-length : tie.Need-same-length
 same-length c = search needs
 
 returns : tie.Need-returns
-returns c = rw (c .c-answer .ensures) (c .before .before .before .write .ensures)
+returns c = rw (c .c-answer .ensures) (ap (inC answerIn) (c .before .before .before .write .ensures))
 
 pub roomscript-write-spec : {M : Type 1} → statement M
 roomscript-write-spec = tie.close (tie.spec write-requires c-answer-requires same-length returns)
