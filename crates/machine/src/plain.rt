@@ -1,6 +1,8 @@
 // The terms without an inner term: one function for each run rule.
 ghost use mathlib.Core.Path.{_≡_};
 ghost use Prim.Native.Nat.{_<_};
+ghost use lib.ListN.{length};
+ghost use Rattle.machine.specs.Answers.{bitsOf};
 ghost use Rattle.machine.specs.Words.{Tidy};
 ghost use Rattle.machine.specs.Parts.{Copied, Moved, Borrowed, Numbered, Compared, LeafReady, LeafRan};
 use crate::limits;
@@ -9,8 +11,8 @@ use crate::locate::locate;
 use crate::locate::read_row;
 use crate::operands::operand;
 use crate::operands::wide;
+use crate::signed::bits_of;
 use crate::signed::raised;
-use crate::signed::reading_bits;
 use crate::store::put_row;
 
 // A fault, and no value.
@@ -33,6 +35,15 @@ fn numbered(bits: u32) -> Gave
         kind: limits::NUMBER,
         payload: bits,
     }
+}
+
+// Reading n as its 32 bits.
+fn reading_bits(readings: &[i32], n: usize) -> u32
+    requires { ⌜ n < length (now readings) ⌝ }
+    ensures { λ r. ⌜ r ≡ bitsOf (now (readings .entry)) n ⌝ }
+{
+    let x = readings[n];
+    bits_of(x)
 }
 
 // "Copy and move read a filled row".

@@ -1,10 +1,8 @@
 // Signed numbers and their 32 bits: signed only at the edge, bits everywhere inside.
 ghost use mathlib.Core.Path.{_≡_};
-ghost use Prim.Native.Nat.{_<_, _+_, _%_};
+ghost use Prim.Native.Nat.{_+_, _%_};
 ghost use mir.Syntax.{w32};
 ghost use mir.Val.{ofZ, toZ};
-ghost use lib.ListN.{length};
-ghost use Rattle.machine.specs.Answers.{bitsOf};
 
 // The 32 bits of x.
 pub fn bits_of(x: i32) -> u32
@@ -39,13 +37,4 @@ pub fn raised(b: u32) -> u32
     } else {
         b - 2147483648
     }
-}
-
-// Reading n as its 32 bits.
-pub fn reading_bits(readings: &[i32], n: usize) -> u32
-    requires { ⌜ n < length (now readings) ⌝ }
-    ensures { λ r. ⌜ r ≡ bitsOf (now (readings .entry)) n ⌝ }
-{
-    let x = readings[n];
-    bits_of(x)
 }

@@ -2,3 +2,4 @@
 pub mod RunLaws
 pub mod CallLaws
 pub mod CallSafe
+pub mod AcceptedSafe

@@ -1,4 +1,4 @@
--- `machine::signed::reading_bits` meets its contract. Assumes nothing.
+-- `machine::plain::reading_bits` meets its contract. Assumes nothing.
 use mir.Syntax.{w32}
 use mir.Val.{SFits}
 use mir.Facts.{toZ-ofZ}
@@ -7,8 +7,8 @@ use lib.IntN.{pos}
 use mathlib.Core.Path.{_∙_}
 use Rattle.machine.specs.Answers.{bitsOf}
 use borrow.Author.Needs.{needs}
-use Rattle.machine.proofs.signed.reading_bits.Statement.{statement}
-use Rattle.machine.proofs.signed.reading_bits.Tie as tie
+use Rattle.machine.proofs.plain.reading_bits.Statement.{statement}
+use Rattle.machine.proofs.plain.reading_bits.Tie as tie
 
 mul-x : tie.Need-mul-x
 mul-x c = search needs
