@@ -13,7 +13,7 @@ use Rattle.reader.specs.Kinds.{Kind, kNumber, kReading, kCopy, kMove, kShared, 
 use Rattle.reader.specs.RowParts.{fieldAt}
 use Rattle.reader.specs.RowTrees.{placeAt, RowTree, IsTree, onlyIf, around, severalAt, termsAt, kindAt, treeAt}
 use Rattle.reader.proofs.KindBytes.{has, found}
-use Rattle.reader.proofs.RowTreeLaws.{only-if, only-in, around-inner, rest-first, tree-kind}
+use Rattle.reader.proofs.RowTreeLaws.{only-if, only-in, only-is, around-inner, rest-first, tree-kind}
 use Rattle.machine.specs.Store.{State}
 use Rattle.machine.specs.Run.{runBorrow, run}
 use Rattle.machine.specs.Answers.{bitsOf}
@@ -53,8 +53,7 @@ unfolding leafAt kindAt endOf
 leaf-end rows i good = go (kindOf 1 (fieldAt rows i 0)) good
   where
     one : (b : Bool) (t : Term) → IsTree (onlyIf b (some (t, i + 1))) → endOf (onlyIf b (some (t, i + 1))) ≡ i + 1
-    one true t h = refl
-    one false t h = absurd h
+    one b t h = ap endOf (only-is b (some (t, i + 1)) h)
 
     go : (o : Option Kind) → IsTree (kindAt o 64 (λ j. none) rows i) → endOf (kindAt o 64 (λ j. none) rows i) ≡ i + 1
     go none h = absurd h
@@ -78,8 +77,8 @@ module _ (rows : List ℕ) (i : ℕ) (good : IsTree (leafAt rows i)) where
   -- A field that the row is tested for is below its bound.
   tested : (x n : ℕ) (d : RowTree Term) → leafAt rows i ≡ onlyIf (ltb x n) d → (x < n) × (leafAt rows i ≡ d)
   tested x n d e =
-      let y : ltb x n ≡ true = only-if (ltb x n) d (rw e at good) in
-      (ltb-true x n y, e ∙ rw y)
+      let t : IsTree (onlyIf (ltb x n) d) = rw e at good in
+      (ltb-true x n (only-if (ltb x n) d t), e ∙ only-is (ltb x n) d t)
 
   pub reading-leaf : fieldAt rows i 0 ≡ 2 → (fieldAt rows i 1 < 8) × (leafAt rows i ≡ some (reading i (fieldAt rows i 1), i + 1))
   unfolding kindAt byteOf

@@ -1,7 +1,6 @@
 -- The terms that have no inner term.
 use Prim.Native.Nat.{ℕ, _+_, _-_}
 use mathlib.Core.Path.{_≡_, refl, sym}
-use mathlib.Core.Bool.{Bool, true, false}
 use mathlib.Core.Option.{Option, none, some}
 use mathlib.Core.List.{List}
 use lib.Dec.{ltb}
@@ -10,9 +9,9 @@ use Rattle.reader.specs.Script as script
 use Rattle.reader.specs.Script.{Term}
 use Rattle.reader.specs.Kinds.{Kind, kNumber, kReading, kCopy, kMove, kShared, kExclusive, kBox, kLet, kAssign, kBelow, kBlock, byteOf, kindOf}
 use Rattle.reader.specs.RowParts.{fieldAt}
-use Rattle.reader.specs.RowTrees.{placeAt, RowTree, IsTree, onlyIf, kindAt, treeAt}
+use Rattle.reader.specs.RowTrees.{placeAt, RowTree, IsTree, kindAt, treeAt}
 use Rattle.reader.proofs.KindBytes.{found}
-use Rattle.reader.proofs.RowTreeLaws.{only-in, tree-kind}
+use Rattle.reader.proofs.RowTreeLaws.{only-in, only-is, tree-kind}
 use Rattle.rules.specs.declared.table.Place.{Place}
 use Rattle.rules.specs.declared.verdicts.Verdict.{Verdict}
 use Rattle.rules.specs.Environment.{Environment}
@@ -47,23 +46,18 @@ leaf-judged nv l rows i good level Γ k ek n d p q ep eq Γ₁ out w =
     let z : treeAt nv l rows i ≡ kindAt (kindOf 1 k) nv (treeAt nv (l - 1) rows) rows i = tree-kind nv l rows i (kindOf 1 k) good (rw ek) in
     rw (w, ep, eq, z) (go (treeAt nv (l - 1) rows) (kindOf 1 k) refl (rw z at good))
   where
-    -- The row's test is met, so its term stands there.
-    met : (b : Bool) (d : RowTree Term) → IsTree (onlyIf b d) → onlyIf b d ≡ d
-    met true d t = refl
-    met false d t = absurd t
-
     go : (f : ℕ → RowTree Term) (o : Option Kind) → kindOf 1 k ≡ o → IsTree (kindAt o nv f rows i) → atRow (i + 1) (judgeLeaf nv o i (placeAt rows i 1) (placeAt rows i 3) Γ) ≡ judgeAt nv (kindAt o nv f rows i) level Γ
     go f none h t = absurd t
     go f (some kNumber) h t = refl
-    go f (some kReading) h t = rw (met _ _ t)
-    go f (some kCopy) h t = rw (met _ _ t)
-    go f (some kMove) h t = rw (met _ _ t)
-    go f (some kShared) h t = rw (met _ _ t)
-    go f (some kExclusive) h t = rw (met _ _ t)
+    go f (some kReading) h t = rw (only-is _ _ t)
+    go f (some kCopy) h t = rw (only-is _ _ t)
+    go f (some kMove) h t = rw (only-is _ _ t)
+    go f (some kShared) h t = rw (only-is _ _ t)
+    go f (some kExclusive) h t = rw (only-is _ _ t)
     go f (some kBox) h t = absurd (n .0 (sym (found 1 k kBox h)))
     go f (some kLet) h t = absurd (n .1 (sym (found 1 k kLet h)))
     go f (some kAssign) h t = absurd (n .2 (sym (found 1 k kAssign h)))
     go f (some kBelow) h t =
         let u = only-in (ltb (fieldAt rows i 1) nv) _ t in
-        rw (met (ltb (fieldAt rows i 1) nv) _ t, met (ltb (fieldAt rows i 3) nv) _ u)
+        rw (only-is (ltb (fieldAt rows i 1) nv) _ t, only-is (ltb (fieldAt rows i 3) nv) _ u)
     go f (some kBlock) h t = absurd (d (sym (found 1 k kBlock h)))

@@ -28,6 +28,10 @@ module _ {A : Type 0} where
   only-in true d h = h
   only-in false d h = absurd h
 
+  pub only-is : (b : Bool) (d : RowTree A) → IsTree (onlyIf b d) → onlyIf b d ≡ d
+  only-is true d h = refl
+  only-is false d h = absurd h
+
   pub around-inner : {B : Type 0} (f : A → B) (d : RowTree A) → IsTree (around f d) → IsTree d
   around-inner f none h = absurd h
   around-inner f (some r) h = tt

@@ -80,7 +80,7 @@ pub fn fresh_state(links: u32, end: BorrowEnd, level: u32) -> VariableState
     }
 }
 
-// In scope, in a block inside that of the level.
+// In scope, in a block inside that of the level. Most numbers are in no such block, so that is asked first.
 fn is_deeper(env: &[u32], x: usize, level: u32) -> bool
     requires { ⌜ x * 8 + 8 ≤ length (now env) ⌝ }
     ensures { λ r. ⌜ r ≡ isDeeper (now (env .entry)) x level ⌝ }
