@@ -1,4 +1,4 @@
--- The store machine: the store, the run rules, and what demand 3 says.
+-- The store machine: the store and the run rules.
 pub mod Values
 pub mod Store
 pub mod Encode
@@ -6,9 +6,6 @@ pub mod Locate
 pub mod Drop
 pub mod Run
 pub mod Boxes
-pub mod Safety
-pub mod Met
-pub mod Examples
 -- What `run` answers; and what only the contracts of the code's parts are said with.
 pub mod Answers
 pub mod Words

@@ -14,7 +14,6 @@ pub mod Refusals
 pub mod BlockLaws
 pub mod OperandLaws
 pub mod TermLaws
-pub mod Fits
 pub mod Leading
 pub mod Lengths
 pub mod MoreLimits

@@ -119,7 +119,3 @@ decodes l t i =
     let n = rowNumbers l - length (lay inRows t) in
     let b = script-does l 1 inRows (start (rowsOf l t)) t (zeros n) i refl refl refl (λ k. blank n k) in
     answers (script l 1 inRows) (rowsOf l t) t (b .0) (b .1)
-
--- Equal rows are equal scripts.
-pub same-rows : (l : Limits) (t t′ : Term) → Within l t → Within l t′ → rowsOf l t ≡ rowsOf l t′ → t ≡ t′
-same-rows l t t′ a b e = let z : _≡_ {A = Result Refusal Term} (ok t) (ok t′) = sym (decodes l t a) ∙ ap (decode l) e ∙ decodes l t′ b in cc

@@ -12,7 +12,7 @@ use Rattle.reader.proofs.RoundTrip.{rows-length}
 use Rattle.ownership.proofs.Accepted.{accepted}
 use Rattle.machine.specs.Values.{closed}
 use Rattle.machine.specs.Answers.{bitsOf, runFits, runnable, ranInto, runInto, runOf}
-use Rattle.machine.proofs.Demand3.{demand-three}
+use Rattle.safety.proofs.Demand3.{demand-three}
 use Rattle.room.specs.Accepted.{AcceptedRuns}
 
 pub accepted-runs : (l : Limits) → AcceptedRuns l

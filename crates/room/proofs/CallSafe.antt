@@ -15,9 +15,9 @@ use Rattle.machine.specs.Values.{closed}
 use Rattle.machine.specs.Store.{State, Ran}
 use Rattle.machine.specs.Run.{runScript}
 use Rattle.machine.specs.Encode.{encode}
-use Rattle.machine.specs.Safety.{Safe, closedRows, givenRows}
+use Rattle.safety.specs.Safety.{Safe, closedRows, givenRows}
 use Rattle.machine.specs.Answers.{bitsOf}
-use Rattle.machine.proofs.Demand3.{demand-three}
+use Rattle.safety.proofs.Demand3.{demand-three}
 use Rattle.room.specs.Calling.{called, refused, toldCall, CallMade, callFits, runCalled, judgedCalled, parsedCalled, fitCalled, callOf, SafeCall}
 use Rattle.room.specs.declared.Called.{Called}
 

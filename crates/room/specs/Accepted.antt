@@ -12,7 +12,7 @@ use Rattle.reader.specs.Measures.{size}
 use Rattle.reader.specs.Within.{Under}
 use Rattle.ownership.specs.Answers.{checkOf}
 use Rattle.machine.specs.Store.{Store}
-use Rattle.machine.specs.Safety.{Safe, closedRows, givenRows}
+use Rattle.safety.specs.Safety.{Safe, closedRows, givenRows}
 use Rattle.machine.specs.Answers.{answered, bitsOf, runOf}
 
 -- The rows are those of a script of n terms. Its run is safe whatever the store was before; and `run` answers, and leaves the store all 0

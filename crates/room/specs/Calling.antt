@@ -18,7 +18,7 @@ use Rattle.machine.specs.Values.{closed}
 use Rattle.machine.specs.Store.{Store, State, Ran}
 use Rattle.machine.specs.Run.{runScript}
 use Rattle.machine.specs.Encode.{encode}
-use Rattle.machine.specs.Safety.{Safe, closedRows, givenRows}
+use Rattle.safety.specs.Safety.{Safe, closedRows, givenRows}
 use Rattle.machine.specs.Answers.{runFits, bitsOf}
 use Rattle.room.specs.declared.Called.{Called}
 use Rattle.room.specs.declared.Called.the-variants.{Answered, Refused}

@@ -1,0 +1,171 @@
+// The C interface: numbers and slices. `bindings/` has the header, and a safe Rust wrapper.
+ghost use mathlib.Core.Path.{_≡_};
+ghost use Rattle.reader.specs.Limits.{base};
+ghost use Rattle.reader.specs.Answers.{told, readOf, judgedOf, writtenOf};
+ghost use Rattle.ownership.specs.Answers.{toldChecked, checkOf};
+ghost use Rattle.machine.specs.Answers.{toldRun, runOf};
+ghost use Rattle.room.specs.Calling.{toldCall, callOf};
+ghost use Rattle.roomscript.specs.Answers.{answerIn, ranIn, calledIn, inC};
+use machine::RunOutcome;
+use ownership::Checked;
+use reader::Outcome;
+use room::Called;
+
+// refused is 0 or 1. Where it is 0, value is the count (terms, or bytes written) and number is 0;
+// else number is 01's number and value the place.
+#[repr(C)]
+pub struct Answer {
+    pub refused: u32,
+    pub number: u32,
+    pub value: u64,
+}
+
+fn c_answer(outcome: Outcome) -> Answer
+    ensures { λ r. ⌜ r ≡ answerIn (told outcome) ⌝ }
+{
+    match outcome {
+        Outcome::Count(count) => Answer {
+            refused: 0,
+            number: 0,
+            value: count as u64,
+        },
+        Outcome::Refused(number, place) => Answer {
+            refused: 1,
+            number: number,
+            value: place as u64,
+        },
+    }
+}
+
+#[no_mangle]
+pub extern "C" fn roomscript_read(script: &[u8], rows: &mut [u32]) -> Answer
+    ensures { λ r. ⌜ (r, now (rows .exit)) ≡ inC answerIn (readOf base (now (script .entry)) (now (rows .entry))) ⌝ }
+{
+    c_answer(reader::read(script, rows))
+}
+
+#[no_mangle]
+pub extern "C" fn roomscript_judge_rows(rows: &[u32]) -> Answer
+    ensures { λ r. ⌜ r ≡ answerIn (judgedOf base (now (rows .entry))) ⌝ }
+{
+    c_answer(reader::judge_rows(rows))
+}
+
+#[no_mangle]
+pub extern "C" fn roomscript_write(rows: &[u32], output: &mut [u8]) -> Answer
+    ensures { λ r. ⌜ (r, now (output .exit)) ≡ inC answerIn (writtenOf base (now (rows .entry)) (now (output .entry))) ⌝ }
+{
+    c_answer(reader::write(rows, output))
+}
+
+#[no_mangle]
+pub extern "C" fn roomscript_check(rows: &[u32]) -> Answer
+    ensures { λ r. ⌜ r ≡ answerIn (checkOf base (now (rows .entry))) ⌝ }
+{
+    c_checked(ownership::check(rows))
+}
+
+fn c_checked(checked: Checked) -> Answer
+    ensures { λ r. ⌜ r ≡ answerIn (toldChecked checked) ⌝ }
+{
+    match checked {
+        Checked::Accepted(terms) => Answer {
+            refused: 0,
+            number: 0,
+            value: terms as u64,
+        },
+        Checked::Refused(number, place) => Answer {
+            refused: 1,
+            number: number,
+            value: place as u64,
+        },
+    }
+}
+
+// outcome is 0 where the run answers: value is then the count of cells taken. It is 1 for a refusal, with its
+// number and place, and 2 for a fault, with its number and term. answer is 0 unless the run answers.
+#[repr(C)]
+pub struct Ran {
+    pub outcome: u32,
+    pub number: u32,
+    pub answer: i32,
+    pub value: u64,
+}
+
+fn c_ran(ran: RunOutcome) -> Ran
+    ensures { λ r. ⌜ r ≡ ranIn (toldRun ran) ⌝ }
+{
+    match ran {
+        RunOutcome::Answered(answer, cells) => Ran {
+            outcome: 0,
+            number: 0,
+            answer: answer,
+            value: cells as u64,
+        },
+        RunOutcome::Refused(number, place) => Ran {
+            outcome: 1,
+            number: number,
+            answer: 0,
+            value: place as u64,
+        },
+        RunOutcome::Faulted(number, term) => Ran {
+            outcome: 2,
+            number: number,
+            answer: 0,
+            value: term as u64,
+        },
+    }
+}
+
+#[no_mangle]
+pub extern "C" fn roomscript_run(rows: &[u32], readings: &[i32], store: &mut [u32]) -> Ran
+    ensures { λ r. ⌜ (r, now (store .exit)) ≡ inC ranIn (runOf base (now (rows .entry)) (now (readings .entry)) (now (store .entry))) ⌝ }
+{
+    c_ran(machine::run(rows, readings, store))
+}
+
+// refused is 0 or 1; where it is 1, number and place say why, and the others are 0.
+#[repr(C)]
+pub struct Call {
+    pub refused: u32,
+    pub number: u32,
+    pub answer: i32,
+    pub place: u64,
+    pub terms: u64,
+    pub cells: u64,
+}
+
+fn c_called(called: Called) -> Call
+    ensures { λ r. ⌜ r ≡ calledIn (toldCall called) ⌝ }
+{
+    match called {
+        Called::Answered(terms, answer, cells) => Call {
+            refused: 0,
+            number: 0,
+            answer: answer,
+            place: 0,
+            terms: terms as u64,
+            cells: cells as u64,
+        },
+        Called::Refused(number, place) => Call {
+            refused: 1,
+            number: number,
+            answer: 0,
+            place: place as u64,
+            terms: 0,
+            cells: 0,
+        },
+    }
+}
+
+#[no_mangle]
+pub extern "C" fn roomscript_call(
+    script: &[u8],
+    readings: &[i32],
+    rows: &mut [u32],
+    store: &mut [u32],
+) -> Call
+    ensures { λ r. ⌜ (r, (now (rows .exit), now (store .exit))) ≡ inC calledIn (callOf base (now (script .entry)) (now (readings .entry)) (now (rows .entry)) (now (store .entry))) ⌝ }
+{
+    c_called(room::call(script, readings, rows, store))
+}

@@ -1,0 +1,42 @@
+-- E1 to E11: the rules give what 01 says.
+use Prim.Native.Nat.{ℕ}
+use mathlib.Core.Path.{_≡_, refl}
+use mathlib.Core.List.{List}
+use Rattle.reader.specs.Result
+use Rattle.reader.specs.Limits
+use Rattle.reader.specs.Kinds
+use Rattle.reader.specs.Layout.{bytesOf}
+use Rattle.reader.specs.Layout
+use Rattle.reader.specs.Measures
+use Rattle.rules.specs.Links
+use Rattle.rules.specs.Environment
+use Rattle.rules.specs.Follow
+use Rattle.rules.specs.Bars
+use Rattle.rules.specs.Rules
+use Rattle.rules.specs.Judge
+use Rattle.machine.specs.Store
+use Rattle.machine.specs.Locate
+use Rattle.machine.specs.Drop
+use Rattle.machine.specs.Run
+use Rattle.safety.specs.Examples.{e1, e1Bytes, Line, lines, table}
+use Rattle.safety.specs.Examples
+
+pub examples : _≡_ {A = List ℕ × List Line} (bytesOf e1, lines) (e1Bytes, table)
+unfolding
+    lines table Examples.e1Bytes Examples.checked Examples.unchecked Examples.verdict Examples.ranTo Examples.readings Examples.boxed Examples.e1 Examples.e2 Examples.e3 Examples.e4 Examples.e5 Examples.e6 Examples.e7 Examples.e9 Examples.nine Examples.eight Examples.e11
+    Result._>>=_ Result.need
+    Limits.base
+    Kinds.byteOf
+    Layout.bytesOf Layout.lay Layout.head Layout.wordOf Layout.unused Layout.zeros Layout.others
+    Measures.size
+    Links.leadingBoxes Links.maxLinks Links.noShared Links.isNumber Links.copies Links.sameLink Links.sameLinks
+    Environment.update Environment.isFree Environment.levelOf Environment.borrowOf Environment.livesAt Environment.leaveSlot Environment.leave
+    Follow.through Follow.followAt Follow.follow Follow.wholeAt Follow.wholeThere Follow.valueWhole
+    Bars.borrowsAny Bars.borrowsExclusive Bars.holding Bars.heldBy Bars.held
+    Rules.inScope Rules.reached Rules.valued Rules.judgePlace Rules.judgeReadable Rules.judgeCopy Rules.judgeMove Rules.judgeShared Rules.judgeExclusive Rules.judgeBox Rules.judgeLet Rules.judgeAssign Rules.judgeNumber Rules.judgeBelow Rules.judgeBlockEnd
+    Judge.judge Judge.judgeScript
+    Store.sameLocation Store.put Store.isOpen
+    Locate.followed Locate.locateFrom Locate.locate Locate.filled Locate.numberIn
+    Drop.giveBack Drop.dropStep Drop.isGivenBack Drop.cellsGivenBack Drop.cellsLeft Drop.dropAlong Drop.dropValue Drop.closeAll
+    Run.runCopy Run.runMove Run.runBorrow Run.runNumber Run.less Run.runBelow Run.runBox Run.runLet Run.runAssign Run.runBlockEnd Run.run Run.runScript
+examples = refl

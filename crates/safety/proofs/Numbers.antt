@@ -1,0 +1,48 @@
+-- Number, reading, below.
+use Prim.Native.Nat.{ℕ}
+use mathlib.Core.Path.{_≡_, refl}
+use mathlib.Core.Option.{none, some}
+use Rattle.reader.specs.Result.{ok, _>>=_, pick}
+use Rattle.reader.specs.Script.{Place}
+use Rattle.rules.specs.Environment.{Environment}
+use Rattle.rules.specs.Rules.{numberTy, judgeReadable, judgeNumber}
+use Rattle.machine.specs.Values.{Location, empty, num, openWith}
+use Rattle.machine.specs.Store.{State, Ran}
+use Rattle.machine.specs.Locate.{locate, filled, numberIn}
+use Rattle.machine.specs.Run.{Outcome, runCopy, runNumber, less, runBelow}
+use Rattle.machine.proofs.Results.{then, needed}
+use Rattle.safety.proofs.Inversion.{number-nil, readable-ok}
+use Rattle.safety.proofs.Invariant.{Invariant}
+use Rattle.safety.proofs.Finding.{number-there}
+use Rattle.safety.proofs.Following.{judged-found, is-whole}
+use Rattle.safety.proofs.Progress.{Progress, unchanged}
+use Rattle.safety.proofs.NewValue.{new-number}
+
+module _ {nv : ℕ} {Γ : Environment} {lv : ℕ} {s : State} (I : Invariant nv Γ none lv s empty) where
+  pub case-number : (n : ℕ) (r : Ran Outcome) → r ≡ ok (s, num n) → Progress nv Γ Γ (some numberTy) lv r
+  case-number n r e = unchanged I (some numberTy) (num n) r e (new-number I n)
+
+  pub run-num : (i : ℕ) (p : Place) (loc : Location) (n : ℕ) → locate s i p ≡ ok loc → s .store loc ≡ openWith (num n)
+      → (runNumber s i p ≡ ok n) × (runCopy s i p ≡ ok (s, num n))
+  unfolding runNumber runCopy filled numberIn _>>=_
+  run-num i p loc n e h = (rw (e, h) refl, rw (e, h) refl)
+
+  pub one-number : (i j : ℕ) (p : Place) (u : Unit {0}) → judgeNumber nv Γ j p ≡ ok u → (n : ℕ) × (runNumber s i p ≡ ok n)
+  unfolding judgeNumber
+  one-number i j p u h =
+      let a = then (judgeReadable nv Γ j p) _ u h in
+      let b = readable-ok nv Γ j p (a .0) (a .1) in
+      let F = judged-found I i j p (a .0) (b .0) in
+      let N = number-there I p (a .0) i F (is-whole I (p .root) (a .0 .root) (F .is) (b .1)) (number-nil _ (needed _ _ _ (a .2))) in
+      (N .0, run-num i p (F .loc) (N .0) (F .run) (N .2 (F .loc) (F .run)) .0)
+
+  run-both : (i : ℕ) (p q : Place) (a b : ℕ) → runNumber s i p ≡ ok a → runNumber s i q ≡ ok b → runBelow s i p q ≡ ok (s, num (pick (less a b) 1 0))
+  unfolding runBelow _>>=_
+  run-both i p q a b e f = rw (e, f) refl
+
+  pub case-below : (i : ℕ) (p q : Place) (u u′ : Unit {0}) → judgeNumber nv Γ i p ≡ ok u → judgeNumber nv Γ i q ≡ ok u′
+      → Progress nv Γ Γ (some numberTy) lv (runBelow s i p q)
+  case-below i p q u u′ e f =
+      let a = one-number i i p u e in
+      let b = one-number i i q u′ f in
+      case-number (pick (less (a .0) (b .0)) 1 0) (runBelow s i p q) (run-both i p q (a .0) (b .0) (a .1) (b .1))

@@ -1,0 +1,58 @@
+-- The invariant where a run begins.
+use Prim.Native.Nat.{ℕ}
+use native.Mathlib.Omega.{arith}
+use mathlib.Core.Path.{_≡_, refl}
+use mathlib.Core.Option.{none}
+use Rattle.rules.specs.Judge.{nothingTaken}
+use Rattle.machine.specs.Values.{Value, empty, closed}
+use Rattle.machine.specs.Store.{Store}
+use Rattle.machine.specs.Run.{begun}
+use Rattle.machine.proofs.Apart.{open≢closed}
+use Rattle.safety.proofs.Apart.{free≢live}
+use Rattle.safety.proofs.Memory.{inFlight, inDrop, var, Spot, top, inCell, noRow, has}
+use Rattle.safety.proofs.Lifted.{lift}
+use Rattle.safety.proofs.Ghost.{vacant}
+use Rattle.safety.proofs.Covering.{vacant≢live}
+use Rattle.safety.proofs.Invariant.{Invariant}
+
+all-closed : (q : Spot) → lift (λ l. closed) closed closed q ≡ closed
+all-closed (top inFlight) = refl
+all-closed (top inDrop) = refl
+all-closed (top (var x)) = refl
+all-closed (inCell c) = refl
+
+noRow≢has : {A : Type 0} {n : ℕ} {v : Value} → noRow ≡ has n v → A
+noRow≢has e = let z : _≡_ {A = ℕ} 0 1 = cc in absurd (omega arith)
+
+-- No name has a row, and none is in scope.
+pub start : (nv : ℕ) (earlier : Store) → Invariant nv (nothingTaken nv) none 0 (begun earlier) empty
+start nv earlier = record {
+  Θ = λ z. vacant;
+  H = λ z. noRow;
+  ρ = λ x d. top x;
+  rank = λ x. 0;
+  mem = record {
+    base = λ x. refl;
+    link = λ x n v d e h. noRow≢has e;
+    leaf = λ x n v e. noRow≢has e;
+    plain = λ x n v e. noRow≢has e;
+    shut = λ x e. all-closed (top x);
+    distinct = λ x y n m v u d e hx. noRow≢has hx;
+    owned = λ c u e. absurd (open≢closed e (all-closed (inCell c)));
+    untaken = λ c h. refl;
+    taken = λ c h. absurd (omega arith);
+  };
+  typed = record {
+    at = λ x q e. absurd (vacant≢live e);
+    bound = λ x q e. absurd (vacant≢live e);
+    quiet = λ q e. vacant≢live e;
+    exclusive = λ x y a b p q K. absurd (vacant≢live (K .is));
+    absent = λ x g h. refl;
+  };
+  vars = λ x. tt;
+  flight = tt;
+  idle = refl;
+  nothing = λ e. refl;
+  deep = λ x q e. absurd (free≢live e);
+  scope = λ x q e. absurd (free≢live e);
+}

@@ -1,0 +1,176 @@
+-- Scripts E1 to E11, what they come to, and what 01 says they come to.
+use Prim.Native.Nat.{ℕ, zero, suc}
+use mathlib.Core.List.{List, [], _∷_}
+use Rattle.reader.specs.Result.{Result, ok, err, Refusal}
+use Rattle.reader.specs.Limits.{base}
+use Rattle.reader.specs.Script.{Place, Term, number, reading, copy, move, borrowShared, borrowExclusive, box, declare, assign, below, block, Terms, last, more}
+use Rattle.reader.specs.Measures.{size}
+use Rattle.rules.specs.Judge.{judgeScript}
+use Rattle.machine.specs.Values.{closed}
+use Rattle.machine.specs.Store.{State, Ran}
+use Rattle.machine.specs.Run.{runScript}
+
+-- "vN is variable N, a star a follow".
+abbrev v : ℕ → Place
+v x = record { root = x; follows = 0 }
+
+abbrev star : Place → Place
+star p = record { root = p .root; follows = suc (p .follows) }
+
+infixr 30 _⨾_
+abbrev _⨾_ : Term → Terms → Terms
+_⨾_ t ts = more t ts
+
+-- `v0=reading 0; v1=reading 1; v2=&v0; below *v2, v1`
+unfoldable pub e1 : Term
+e1 =
+    block 0 (
+    declare 1 0 (reading 2 0)
+    ⨾ declare 3 1 (reading 4 1)
+    ⨾ declare 5 2 (borrowShared 6 (v 0))
+    ⨾ last (below 7 (star (v 2)) (v 1)))
+
+unfoldable pub e1Bytes : List ℕ
+e1Bytes =
+    0x52 ∷ 0x43 ∷ 0x53 ∷ 0x00 ∷ 0x01 ∷ 0x0b ∷ 0x04 ∷ 0x08 ∷ 0x00 ∷ 0x02 ∷ 0x00 ∷ 0x08 ∷ 0x01
+    ∷ 0x02 ∷ 0x01 ∷ 0x08 ∷ 0x02 ∷ 0x05 ∷ 0x00 ∷ 0x00 ∷ 0x0a ∷ 0x02 ∷ 0x01 ∷ 0x01 ∷ 0x00 ∷ []
+
+-- `let v0=5; let v1=&mut v0; copy v0`
+unfoldable pub e2 : Term
+e2 =
+    block 0 (
+    declare 1 0 (number 2 5)
+    ⨾ declare 3 1 (borrowExclusive 4 (v 0))
+    ⨾ last (copy 5 (v 0)))
+
+-- `let v0=box 7; let v1=move v0; copy *v0`
+unfoldable pub e3 : Term
+e3 =
+    block 0 (
+    declare 1 0 (box 2 (number 3 7))
+    ⨾ declare 4 1 (move 5 (v 0))
+    ⨾ last (copy 6 (star (v 0))))
+
+-- `let v0=box 7; let v1=move *v0; *v0=8; copy *v0`
+unfoldable pub e4 : Term
+e4 =
+    block 0 (
+    declare 1 0 (box 2 (number 3 7))
+    ⨾ declare 4 1 (move 5 (star (v 0)))
+    ⨾ assign 6 (star (v 0)) (number 7 8)
+    ⨾ last (copy 8 (star (v 0))))
+
+-- `let v0=1; let v1={let v2=3; &v2}; copy v0`
+unfoldable pub e5 : Term
+e5 =
+    block 0 (
+    declare 1 0 (number 2 1)
+    ⨾ declare 3 1 (block 4 (declare 5 2 (number 6 3) ⨾ last (borrowShared 7 (v 2))))
+    ⨾ last (copy 8 (v 0)))
+
+-- `let v0=1; let v1=2; let v2=&v0; v2=&v1; v0=9; copy *v2`
+unfoldable pub e6 : Term
+e6 =
+    block 0 (
+    declare 1 0 (number 2 1)
+    ⨾ declare 3 1 (number 4 2)
+    ⨾ declare 5 2 (borrowShared 6 (v 0))
+    ⨾ assign 7 (v 2) (borrowShared 8 (v 1))
+    ⨾ assign 9 (v 0) (number 10 9)
+    ⨾ last (copy 11 (star (v 2))))
+
+-- `let v0=1; let v1=&v0; let v2=&v1; **v2=4; 0`
+unfoldable pub e7 : Term
+e7 =
+    block 0 (
+    declare 1 0 (number 2 1)
+    ⨾ declare 3 1 (borrowShared 4 (v 0))
+    ⨾ declare 5 2 (borrowShared 6 (v 1))
+    ⨾ assign 7 (star (star (v 2))) (number 8 4)
+    ⨾ last (number 9 0))
+
+-- `let v0=box 1; let v1=copy v0; 0`
+unfoldable pub e9 : Term
+e9 =
+    block 0 (
+    declare 1 0 (box 2 (number 3 1))
+    ⨾ declare 4 1 (copy 5 (v 0))
+    ⨾ last (number 6 0))
+
+-- n boxes round 1, numbered from i on.
+unfoldable pub boxed : ℕ → ℕ → Term
+boxed zero i = number i 1
+boxed (suc n) i = box i (boxed n (suc i))
+
+-- `let v0=` nine boxes round 1`; 0`, or eight.
+unfoldable pub nine : Term
+nine =
+    block 0 (
+    declare 1 0 (boxed 9 2)
+    ⨾ last (number 12 0))
+
+unfoldable pub eight : Term
+eight =
+    block 0 (
+    declare 1 0 (boxed 8 2)
+    ⨾ last (number 11 0))
+
+-- `let v0=1; let v1=2; let v2=&v0; v2={let v3=&v1; &*v3}; copy *v2`
+unfoldable pub e11 : Term
+e11 =
+    block 0 (
+    declare 1 0 (number 2 1)
+    ⨾ declare 3 1 (number 4 2)
+    ⨾ declare 5 2 (borrowShared 6 (v 0))
+    ⨾ assign 7 (v 2) (block 8 (declare 9 3 (borrowShared 10 (v 1)) ⨾ last (borrowShared 11 (star (v 3)))))
+    ⨾ last (copy 12 (star (v 2))))
+
+-- "Readings 185, 200".
+unfoldable pub readings : ℕ → ℕ
+readings zero = 185
+readings (suc n) = 200
+
+-- As `roomcheck` prints it: `accepted 8 call 1 cells 0`, terms, answer, cells taken; `refused 34 at 5`. And a fault, with its term.
+pub data Line : Type 0 where
+  accepted : ℕ → ℕ → ℕ → Line
+  refused faulted : ℕ → ℕ → Line
+
+unfoldable pub ranTo : Term → Ran (State × ℕ) → Line
+ranTo t (ok r) = accepted (size t) (r .1) (r .0 .taken)
+ranTo t (err f) = faulted (f .number) (f .term)
+
+unfoldable pub unchecked : Term → Line
+unchecked t = ranTo t (runScript readings t (λ l. closed))
+
+unfoldable pub verdict : Term → Result Refusal (Unit {0}) → Line
+verdict t (ok u) = unchecked t
+verdict t (err e) = refused (e .0) (e .1)
+
+unfoldable pub checked : Term → Line
+checked t = verdict t (judgeScript (base .variables) t)
+
+unfoldable pub lines : List Line
+lines =
+    checked e1 ∷ checked e2 ∷ checked e3 ∷ checked e4 ∷ checked e5 ∷ checked e6 ∷ checked e7 ∷ unchecked e3
+    ∷ checked e9 ∷ unchecked e9 ∷ checked nine ∷ checked eight ∷ checked e11 ∷ []
+
+unfoldable pub table : List Line
+table =
+    -- E1 to E4: "answer 1, 8 terms, 0 cells", "34 at 5", "33 at 6", "8, one cell".
+    accepted 8 1 0
+    ∷ refused 34 5
+    ∷ refused 33 6
+    ∷ accepted 9 8 1
+    -- E5 to E7: "40 at 4", "2", "36 at 7".
+    ∷ refused 40 4
+    ∷ accepted 12 2 0
+    ∷ refused 36 7
+    -- E8: "E3 run unchecked: 60 at 6". E9: "37 at 5; unchecked, 63 at 0".
+    ∷ faulted 60 6
+    ∷ refused 37 5
+    ∷ faulted 63 0
+    -- E10: "42 at 2. Eight: accepted". E11: "40 at 8".
+    ∷ refused 42 2
+    ∷ accepted 12 0 8
+    ∷ refused 40 8
+    ∷ []
