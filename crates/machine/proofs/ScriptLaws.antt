@@ -18,6 +18,8 @@ use Rattle.reader.specs.Reader.{decode}
 use Rattle.reader.specs.RowTrees.{RowTree, IsTree, treeAt}
 use Rattle.reader.specs.Answers.{told, rowsTree, judgedOf}
 use Rattle.reader.specs.declared.Outcome.the-variants as judgement
+use Rattle.reader.proofs.Answers.{then}
+use Rattle.reader.proofs.Promise.{tree-decoded}
 use Rattle.machine.specs.Values.{cell, closed}
 use Rattle.machine.specs.Store.{Store, State, Ran}
 use Rattle.machine.specs.Locate.{numberIn}
@@ -25,7 +27,7 @@ use Rattle.machine.specs.Run.{Outcome, run, runScript}
 use Rattle.machine.specs.Encode.{encode}
 use Rattle.machine.specs.Answers.{answered, refused, faulted, AnswerAndStore, toldRun, runFits, runnable, bitsOf, ranInto, runInto, runOf}
 use Rattle.machine.specs.Words.{valueOf, storeOf}
-use Rattle.machine.specs.Parts.{stateAt, since, Stop, seen, Stood, atRow, outcome, stood, ranOn, EndReady, BlockClosed, endOf, boxesBy, stoodOn, runAt, TermReady, TermRan, BlockReady, BlockRan, ScriptReady, scriptOn, scriptRan}
+use Rattle.machine.specs.Parts.{stateAt, since, Stop, seen, Stood, atRow, outcome, stood, ranOn, EndReady, BlockClosed, endOf, boxesBy, stoodOn, runAt, TermReady, TermRan, BlockReady, BlockRan, ScriptReady, scriptOn, scriptRan, RunReady}
 use Rattle.machine.specs.declared.around.Standing.{Standing}
 use Rattle.machine.specs.declared.RunOutcome.the-variants as out
 use Rattle.machine.proofs.WordLaws.{cleared-store, cleared-tidy}
@@ -85,63 +87,7 @@ module _ (readings : List ℤ) (w : List ℕ) (words : encode 64 128 (storeOf w)
     tree-answers none h q k = absurd h
     tree-answers (some t) h q k = number-ends readings (t .0) w words (r .taken) (since opened 0 (r .opened - 0)) (r .kind) (r .payload) (tree-ran t q) k
 
--- ---- the run of judged rows
-
-module _ (rows : List ℕ) (readings : List ℤ) (w : List ℕ) (g : ScriptReady rows readings w) (w₁ : List ℕ) (e : w₁ ≡ zeros (length w)) where
-  zeroed : w₁ ≡ zeros 384
-  zeroed = e ∙ ap zeros (g .size)
-
-  closed-now : storeOf w₁ ≡ (λ l. closed)
-  closed-now = cleared-store w₁ zeroed
-
-  script-ready : (opened : List ℕ) → length opened ≡ 512 → TermReady rows 0 16 readings w₁ opened 0 0
-  script-ready opened h = record {
-    ready = record {
-      long = g .long;
-      eight = g .eight;
-      many = h;
-      tidy = cleared-tidy w₁ zeroed;
-      ordered = λ c l. ap (λ (S : Store). S (cell c)) closed-now;
-      few = omega arith;
-      listed = λ k l. absurd (omega arith);
-    };
-    is = g .is;
-    cells = let a = g .cells in omega arith;
-  }
-
-  module _ (opened : List ℕ) (h : length opened ≡ 512) where
-    pub script-begins : BlockReady rows 0 15 readings w₁ opened 0 0
-    script-begins = block-ready rows 0 16 readings w₁ opened 0 0 (script-ready opened h) (g .root)
-
-    module _ (w₂ opened₂ : List ℕ) (inner : Standing) (t : BlockRan rows 0 15 readings w₁ opened 0 0 w₂ opened₂ inner) where
-      pub script-closes : length opened₂ ≡ 512 → EndReady w₂ opened₂ 0 inner
-      script-closes long = block-ending rows 0 16 readings w₁ opened 0 0 (script-ready opened h) (g .root) w₂ opened₂ inner t long
-
-      module _ (w₃ : List ℕ) (r : Standing) (b : BlockClosed w₂ opened₂ 0 0 inner w₃ r) where
-        term-ran : TermRan rows 0 16 readings w₁ opened 0 0 w₃ opened₂ r
-        term-ran = block-returns rows 0 16 readings w₁ opened 0 0 (script-ready opened h) (g .root) w₂ opened₂ inner t w₃ r b
-
-        ran : stood w₃ opened₂ 0 r ≡ runAt readings (treeAt 64 16 rows 0) start
-        unfolding since
-        ran = term-ran .is 0 (omega arith) ∙ ap (λ (S : Store). runAt readings (treeAt 64 16 rows 0) (record { store = S; taken = 0; opened = [] })) closed-now
-
-        -- A fault of a term.
-        pub script-faults : (r .fault ≡ 0 → ⊥) → _≡_ {A = AnswerAndStore} (toldRun (out.Faulted (r .fault) (r .term)), w₃) (scriptRan rows readings)
-        unfolding scriptRan toldRun
-        script-faults n = tree-faults readings w₃ (b .tidy .words) (treeAt 64 16 rows 0) (g .is) (r .fault) (r .term) (sym (stood-stops w₃ opened₂ 0 r n) ∙ ran)
-
-        module _ (n : r .fault ≡ 0) where
-          -- The answer is no number.
-          pub script-wrong : (r .kind ≡ 1 → ⊥) → _≡_ {A = AnswerAndStore} (toldRun (out.Faulted 61 0), w₃) (scriptRan rows readings)
-          unfolding scriptRan toldRun
-          script-wrong k = tree-wrong readings w₃ (b .tidy .words) opened₂ r (treeAt 64 16 rows 0) (g .is) (sym (stood-goes w₃ opened₂ 0 r n) ∙ ran) k
-
-          -- The answer.
-          pub script-answers : r .kind ≡ 1 → (a : ℤ) → a ≡ toZ w32 (r .payload) → _≡_ {A = AnswerAndStore} (toldRun (out.Answered a (r .taken)), w₃) (scriptRan rows readings)
-          unfolding scriptRan toldRun
-          script-answers k a ea = rw ea (tree-answers readings w₃ (b .tidy .words) opened₂ r (treeAt 64 16 rows 0) (g .is) (sym (stood-goes w₃ opened₂ 0 r n) ∙ ran) k)
-
--- ---- the public function
+-- ---- what the lengths and the reader make of the answer
 
 refused-rows : (readings : List ℤ) (w : List ℕ) (m : Result Refusal Term) (n p : ℕ) → _≡_ {A = Result Refusal ℕ} (err (n, p)) (m >>= λ t. ok (size t)) → _≡_ {A = AnswerAndStore} (refused n p, w) (runInto base readings w m)
 unfolding runInto _>>=_
@@ -186,15 +132,14 @@ module _ (rows : List ℕ) (readings : List ℤ) (w : List ℕ) where
             go m q = refused-rows readings w m n p q
 
         -- They are accepted.
-        module _ (words : (j : ℕ) → getD rows j 0 < 4294967296) (terms : ℕ) (q : told (judgement.Count terms) ≡ judgedOf base rows) where
+        module _ (words : (j : ℕ) → getD rows j 0 < 4294967296) (terms : ℕ) (q : ok terms ≡ judgedOf base rows) where
           script : (t : Term) × (decode base rows ≡ ok t)
-          unfolding told
           script = accepted-rows (decode base rows) terms (q ∙ judged-decoded)
 
           runs : Runnable rows (script .0)
           runs = judged rows (script .0) words a (script .1)
 
-          pub script-judged : ScriptReady rows readings w
+          script-judged : ScriptReady rows readings w
           unfolding boxesBy
           script-judged = record {
             long = a;
@@ -205,6 +150,79 @@ module _ (rows : List ℕ) (readings : List ℤ) (w : List ℕ) where
             cells = rw (runs .is) (runs .cells);
           }
 
-          pub script-is : scriptRan rows readings ≡ runOf base rows readings w
+          script-is : scriptRan rows readings ≡ runOf base rows readings w
           unfolding scriptRan scriptOn runOf runInto
           script-is = rw (runs .is) (sym (ap (runInto base readings w) (runs-decoded ∙ script .1)))
+
+-- The reader's word for the rows, and the lengths, are all that the run asks.
+module _ (rows : List ℕ) (readings : List ℤ) (w : List ℕ) (g : RunReady rows readings w) (words : (j : ℕ) → getD rows j 0 < 4294967296) where
+  rows-long : length rows ≡ 2560
+  unfolding judgedOf rowNumbers base
+  rows-long =
+      let q = then (rowsTree base rows) (λ t. ok (size t)) (g .terms) (g .judged) in
+      tree-decoded base rows (q .0) (q .1) .0
+
+  run-ready : ScriptReady rows readings w
+  run-ready = script-judged rows readings w rows-long (g .size) (g .eight) words (g .terms) (sym (g .judged))
+
+  run-is : scriptRan rows readings ≡ runOf base rows readings w
+  run-is = script-is rows readings w rows-long (g .size) (g .eight) words (g .terms) (sym (g .judged))
+
+-- ---- the run of judged rows
+
+module _ (rows : List ℕ) (readings : List ℤ) (w : List ℕ) (ready : RunReady rows readings w) (words : (j : ℕ) → getD rows j 0 < 4294967296) (w₁ : List ℕ) (e : w₁ ≡ zeros (length w)) where
+  g : ScriptReady rows readings w
+  g = run-ready rows readings w ready words
+
+  zeroed : w₁ ≡ zeros 384
+  zeroed = e ∙ ap zeros (g .size)
+
+  closed-now : storeOf w₁ ≡ (λ l. closed)
+  closed-now = cleared-store w₁ zeroed
+
+  script-ready : (opened : List ℕ) → length opened ≡ 512 → TermReady rows 0 16 readings w₁ opened 0 0
+  script-ready opened h = record {
+    ready = record {
+      long = g .long;
+      eight = g .eight;
+      many = h;
+      tidy = cleared-tidy w₁ zeroed;
+      ordered = λ c l. ap (λ (S : Store). S (cell c)) closed-now;
+      few = omega arith;
+      listed = λ k l. absurd (omega arith);
+    };
+    is = g .is;
+    cells = let a = g .cells in omega arith;
+  }
+
+  module _ (opened : List ℕ) (h : length opened ≡ 512) where
+    pub script-begins : BlockReady rows 0 15 readings w₁ opened 0 0
+    script-begins = block-ready rows 0 16 readings w₁ opened 0 0 (script-ready opened h) (g .root)
+
+    module _ (w₂ opened₂ : List ℕ) (inner : Standing) (t : BlockRan rows 0 15 readings w₁ opened 0 0 w₂ opened₂ inner) where
+      pub script-closes : length opened₂ ≡ 512 → EndReady w₂ opened₂ 0 inner
+      script-closes long = block-ending rows 0 16 readings w₁ opened 0 0 (script-ready opened h) (g .root) w₂ opened₂ inner t long
+
+      module _ (w₃ : List ℕ) (r : Standing) (b : BlockClosed w₂ opened₂ 0 0 inner w₃ r) where
+        term-ran : TermRan rows 0 16 readings w₁ opened 0 0 w₃ opened₂ r
+        term-ran = block-returns rows 0 16 readings w₁ opened 0 0 (script-ready opened h) (g .root) w₂ opened₂ inner t w₃ r b
+
+        ran : stood w₃ opened₂ 0 r ≡ runAt readings (treeAt 64 16 rows 0) start
+        unfolding since
+        ran = term-ran .is 0 (omega arith) ∙ ap (λ (S : Store). runAt readings (treeAt 64 16 rows 0) (record { store = S; taken = 0; opened = [] })) closed-now
+
+        -- A fault of a term.
+        pub script-faults : (r .fault ≡ 0 → ⊥) → _≡_ {A = AnswerAndStore} (toldRun (out.Faulted (r .fault) (r .term)), w₃) (runOf base rows readings w)
+        unfolding scriptRan toldRun
+        script-faults n = tree-faults readings w₃ (b .tidy .words) (treeAt 64 16 rows 0) (g .is) (r .fault) (r .term) (sym (stood-stops w₃ opened₂ 0 r n) ∙ ran) ∙ run-is rows readings w ready words
+
+        module _ (n : r .fault ≡ 0) where
+          -- The answer is no number.
+          pub script-wrong : (r .kind ≡ 1 → ⊥) → _≡_ {A = AnswerAndStore} (toldRun (out.Faulted 61 0), w₃) (runOf base rows readings w)
+          unfolding scriptRan toldRun
+          script-wrong k = tree-wrong readings w₃ (b .tidy .words) opened₂ r (treeAt 64 16 rows 0) (g .is) (sym (stood-goes w₃ opened₂ 0 r n) ∙ ran) k ∙ run-is rows readings w ready words
+
+          -- The answer.
+          pub script-answers : r .kind ≡ 1 → (a : ℤ) → a ≡ toZ w32 (r .payload) → _≡_ {A = AnswerAndStore} (toldRun (out.Answered a (r .taken)), w₃) (runOf base rows readings w)
+          unfolding scriptRan toldRun
+          script-answers k a ea = rw ea ((tree-answers readings w₃ (b .tidy .words) opened₂ r (treeAt 64 16 rows 0) (g .is) (sym (stood-goes w₃ opened₂ 0 r n) ∙ ran) k) ∙ run-is rows readings w ready words)

@@ -13,6 +13,7 @@ use Rattle.reader.specs.Result.{Result, ok, err, pick, _>>=_}
 use Rattle.reader.specs.Limits.{base}
 use Rattle.reader.specs.Script.{Place, Term, Terms, number}
 use Rattle.reader.specs.Measures.{boxesIn, boxesAll}
+use Rattle.reader.specs.Answers.{judgedOf}
 use Rattle.reader.specs.RowParts.{fieldAt}
 use Rattle.reader.specs.RowTrees.{RowTree, IsTree, IsRest, severalAt, termsAt, kindAt, treeAt}
 use Rattle.machine.specs.Values.{Location, variable, Value, empty, openWith, closed}
@@ -366,3 +367,10 @@ scriptOn readings (some r) = ranInto base (runScript (bitsOf readings) (r .0) (�
 
 unfoldable pub scriptRan : List ℕ → List ℤ → AnswerAndStore
 scriptRan rows readings = scriptOn readings (treeAt 64 16 rows 0)
+
+-- What the run of judged rows asks: the reader's word for the rows, and the lengths of the rest.
+pub record RunReady (rows : List ℕ) (readings : List ℤ) (w : List ℕ) : Type 0 where
+  pub terms : ℕ
+  pub judged : judgedOf base rows ≡ ok terms
+  pub eight : length readings ≡ 8
+  pub size : length w ≡ 384

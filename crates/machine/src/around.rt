@@ -5,11 +5,11 @@ ghost use Rattle.machine.specs.Words.{Tidy, Sound};
 ghost use Rattle.machine.specs.Parts.{withoutValue, enteredAt, Wrote, PlaceAssigned, InnerReady, BoxReady, Boxed, LetReady, Declared, Assigned, EndReady, BlockClosed};
 use crate::drops::close_variables;
 use crate::drops::drop_any;
-use crate::limits;
 use crate::locate::locate;
-use crate::operands::wide;
+use crate::numbers;
 use crate::store::load;
 use crate::store::put_row;
+use reader::fields::index_of;
 
 // Where a run stands after a term: the fault, 0 for none, and its term; the term's value; the cells taken, the
 // variables opened, and the row of the next term.
@@ -30,7 +30,7 @@ pub fn without_value(ran: Standing, fault: u32, i: usize) -> Standing
     Standing {
         fault: fault,
         term: i,
-        kind: limits::EMPTY,
+        kind: numbers::EMPTY,
         payload: 0,
         taken: ran.taken,
         opened: ran.opened,
@@ -44,9 +44,9 @@ pub fn entered(block: usize, count: usize, taken: usize) -> Standing
     ensures { λ r. ⌜ r ≡ enteredAt block count taken ⌝ }
 {
     Standing {
-        fault: limits::NO_FAULT,
+        fault: numbers::NO_FAULT,
         term: block,
-        kind: limits::EMPTY,
+        kind: numbers::EMPTY,
         payload: 0,
         taken: taken,
         opened: count,
@@ -59,20 +59,20 @@ pub fn run_box(store: &mut [u32], inner: Standing) -> Standing
     requires { ⌜ BoxReady (now store) inner ⌝ }
     ensures { λ r. ⌜ Boxed (now (store .entry)) inner (now (store .exit)) r ⌝ }
 {
-    if inner.fault != limits::NO_FAULT {
+    if inner.fault != numbers::NO_FAULT {
         return inner;
     }
     put_row(
         store,
-        limits::FIRST_CELL + inner.taken,
-        limits::OPEN,
+        numbers::FIRST_CELL + inner.taken,
+        numbers::OPEN,
         inner.kind,
         inner.payload,
     );
     Standing {
-        fault: limits::NO_FAULT,
+        fault: numbers::NO_FAULT,
         term: inner.term,
-        kind: limits::OWNER,
+        kind: numbers::OWNER,
         payload: inner.taken as u32,
         taken: inner.taken + 1,
         opened: inner.opened,
@@ -85,21 +85,21 @@ pub fn run_let(store: &mut [u32], opened: &mut [u8], i: usize, x: u32, inner: St
     requires { ⌜ LetReady (now store) (now opened) x inner ⌝ }
     ensures { λ r. ⌜ Declared (now (store .entry)) (now (opened .entry)) i x inner (now (store .exit)) (now (opened .exit)) r ⌝ }
 {
-    if inner.fault != limits::NO_FAULT {
+    if inner.fault != numbers::NO_FAULT {
         return inner;
     }
     let row = x as usize;
     let here = load(store, row);
-    if here.state == limits::OPEN {
-        return without_value(inner, limits::OPEN_ALREADY, i);
+    if here.state == numbers::OPEN {
+        return without_value(inner, numbers::OPEN_ALREADY, i);
     }
-    put_row(store, row, limits::OPEN, inner.kind, inner.payload);
+    put_row(store, row, numbers::OPEN, inner.kind, inner.payload);
     let at = inner.opened;
     opened[at] = x as u8;
     Standing {
-        fault: limits::NO_FAULT,
+        fault: numbers::NO_FAULT,
         term: i,
-        kind: limits::EMPTY,
+        kind: numbers::EMPTY,
         payload: 0,
         taken: inner.taken,
         opened: inner.opened + 1,
@@ -113,10 +113,10 @@ pub fn write_open(store: &mut [u32], row: usize, kind: u32, payload: u32)
     ensures { λ _. ⌜ Wrote (now (store .entry)) row kind payload (now (store .exit)) ⌝ }
 {
     let here = load(store, row);
-    if here.state != limits::OPEN {
+    if here.state != numbers::OPEN {
         return;
     }
-    put_row(store, row, limits::OPEN, kind, payload);
+    put_row(store, row, numbers::OPEN, kind, payload);
 }
 
 // "locates, drops the old value (the row keeps it meanwhile)", and then writes. The fault, 0 for none.
@@ -125,16 +125,16 @@ pub fn assign_place(store: &mut [u32], root: usize, follows: usize, kind: u32, p
     ensures { λ r. ⌜ PlaceAssigned (now (store .entry)) root follows kind payload (now (store .exit)) r ⌝ }
 {
     let found = locate(store, root, follows);
-    if found.fault != limits::NO_FAULT {
+    if found.fault != numbers::NO_FAULT {
         return found.fault;
     }
     let old = load(store, found.row);
     let fault = drop_any(store, old.kind, old.payload);
-    if fault != limits::NO_FAULT {
+    if fault != numbers::NO_FAULT {
         return fault;
     }
     write_open(store, found.row, kind, payload);
-    limits::NO_FAULT
+    numbers::NO_FAULT
 }
 
 // "Assign runs its right side", and then assigns.
@@ -142,10 +142,16 @@ pub fn run_assign(store: &mut [u32], i: usize, root: u32, follows: u32, inner: S
     requires { ⌜ InnerReady (now store) inner × (root < 64) ⌝ }
     ensures { λ r. ⌜ Assigned (now (store .entry)) i root follows inner (now (store .exit)) r ⌝ }
 {
-    if inner.fault != limits::NO_FAULT {
+    if inner.fault != numbers::NO_FAULT {
         return inner;
     }
-    let fault = assign_place(store, wide(root), wide(follows), inner.kind, inner.payload);
+    let fault = assign_place(
+        store,
+        index_of(root),
+        index_of(follows),
+        inner.kind,
+        inner.payload,
+    );
     without_value(inner, fault, i)
 }
 
@@ -160,7 +166,7 @@ pub fn close_block(
     requires { ⌜ EndReady (now store) (now opened) begin inner ⌝ }
     ensures { λ r. ⌜ BlockClosed (now (store .entry)) (now (opened .entry)) i begin inner (now (store .exit)) r ⌝ }
 {
-    if inner.fault != limits::NO_FAULT {
+    if inner.fault != numbers::NO_FAULT {
         return inner;
     }
     let fault = close_variables(store, opened, begin, inner.opened);

@@ -3,7 +3,7 @@ ghost use Prim.Native.Nat.{_<_, _≤_};
 ghost use lib.ListN.{length};
 ghost use Rattle.machine.specs.Words.{Tidy, Sound};
 ghost use Rattle.machine.specs.Parts.{Dropped, ClosedOne, ClosedAll, Listed};
-use crate::limits;
+use crate::numbers;
 use crate::store::load;
 use crate::store::put_row;
 
@@ -13,15 +13,15 @@ pub fn drop_value(store: &mut [u32], kind: u32, payload: u32) -> u32
     requires { ⌜ Tidy (now store) × Sound kind payload ⌝ }
     ensures { λ r. ⌜ Dropped (now (store .entry)) kind payload (now (store .exit)) r ⌝ }
 {
-    if kind != limits::OWNER {
-        return limits::NO_FAULT;
+    if kind != numbers::OWNER {
+        return numbers::NO_FAULT;
     }
-    let row = limits::FIRST_CELL + payload as usize;
+    let row = numbers::FIRST_CELL + payload as usize;
     let held = load(store, row);
-    if held.state != limits::OPEN {
-        return limits::BACK_ALREADY;
+    if held.state != numbers::OPEN {
+        return numbers::BACK_ALREADY;
     }
-    put_row(store, row, limits::GIVEN_BACK, limits::EMPTY, 0);
+    put_row(store, row, numbers::GIVEN_BACK, numbers::EMPTY, 0);
     drop_value(store, held.kind, held.payload)
 }
 
@@ -30,8 +30,8 @@ pub fn drop_any(store: &mut [u32], kind: u32, payload: u32) -> u32
     requires { ⌜ Tidy (now store) × Sound kind payload ⌝ }
     ensures { λ r. ⌜ Dropped (now (store .entry)) kind payload (now (store .exit)) r ⌝ }
 {
-    if kind != limits::OWNER {
-        return limits::NO_FAULT;
+    if kind != numbers::OWNER {
+        return numbers::NO_FAULT;
     }
     drop_value(store, kind, payload)
 }
@@ -42,7 +42,7 @@ pub fn close_variable(store: &mut [u32], x: usize) -> u32
     ensures { λ r. ⌜ ClosedOne (now (store .entry)) x (now (store .exit)) r ⌝ }
 {
     let value = load(store, x);
-    put_row(store, x, limits::CLOSED, limits::EMPTY, 0);
+    put_row(store, x, numbers::CLOSED, numbers::EMPTY, 0);
     drop_any(store, value.kind, value.payload)
 }
 
@@ -56,9 +56,9 @@ pub fn close_variables(store: &mut [u32], opened: &[u8], begin: usize, end: usiz
         left -= 1;
         let x = opened[left] as usize;
         let fault = close_variable(store, x);
-        if fault != limits::NO_FAULT {
+        if fault != numbers::NO_FAULT {
             return fault;
         }
     }
-    limits::NO_FAULT
+    numbers::NO_FAULT
 }

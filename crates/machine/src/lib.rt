@@ -2,14 +2,13 @@
 ghost use mathlib.Core.Path.{_≡_};
 ghost use Rattle.reader.specs.Limits.{base};
 ghost use Rattle.machine.specs.Answers.{toldRun, runOf};
-ghost use Rattle.machine.specs.Parts.{ScriptReady, scriptRan};
+ghost use Rattle.machine.specs.Parts.{RunReady};
 
-mod limits; // limits.rt: 01's sizes and numbers
+mod numbers; // numbers.rt: the numbers in the store's rows, and the faults
 mod store; // store.rt: the rows of the lent store
 mod locate; // locate.rt: locating a place and reading rows
 mod drops; // drops.rt: dropping values and closing variables
 pub mod signed; // signed.rt: signed numbers and their bits
-mod operands; // operands.rt: the operands of the term rows
 mod plain; // plain.rt: the terms without an inner term
 mod around; // around.rt: what follows an inner term
 mod terms; // terms.rt: terms and blocks
@@ -18,6 +17,7 @@ use crate::around::close_block;
 use crate::signed::number_of;
 use crate::store::clear;
 use crate::terms::run_block;
+use reader::limits;
 
 // The answer and the cells taken; or a refusal and its place; or a fault and its term.
 pub enum RunOutcome {
@@ -26,21 +26,21 @@ pub enum RunOutcome {
     Faulted(u32, usize),
 }
 
-// Runs the script of judged rows, whose outermost term is a block.
-fn run_judged(rows: &[u32], readings: &[i32], store: &mut [u32]) -> RunOutcome
-    requires { ⌜ ScriptReady (now rows) (now readings) (now store) ⌝ }
-    ensures { λ r. ⌜ (toldRun r, now (store .exit)) ≡ scriptRan (now (rows .entry)) (now (readings .entry)) ⌝ }
+// Runs rows that the reader accepts, with memory of the right lengths: for callers that have the reader's word for it.
+pub fn run_judged(rows: &[u32], readings: &[i32], store: &mut [u32]) -> RunOutcome
+    requires { ⌜ RunReady (now rows) (now readings) (now store) ⌝ }
+    ensures { λ r. ⌜ (toldRun r, now (store .exit)) ≡ runOf base (now (rows .entry)) (now (readings .entry)) (now (store .entry)) ⌝ }
 {
     clear(store);
     let mut opened: [u8; 512] = [0; 512];
     let deeper = limits::LEVELS - 1;
     let inner = run_block(rows, 0, deeper, readings, store, &mut opened, 0, 0);
     let ran = close_block(store, &opened, 0, 0, inner);
-    if ran.fault != limits::NO_FAULT {
+    if ran.fault != numbers::NO_FAULT {
         return RunOutcome::Faulted(ran.fault, ran.term);
     }
-    if ran.kind != limits::NUMBER {
-        return RunOutcome::Faulted(limits::WRONG_KIND, 0);
+    if ran.kind != numbers::NUMBER {
+        return RunOutcome::Faulted(numbers::WRONG_KIND, 0);
     }
     RunOutcome::Answered(number_of(ran.payload), ran.taken)
 }
@@ -56,7 +56,7 @@ pub fn run(rows: &[u32], readings: &[i32], store: &mut [u32]) -> RunOutcome
     if store.len() != limits::STORE_NUMBERS {
         return RunOutcome::Refused(limits::STORE_LENGTH, 0);
     }
-    if readings.len() != limits::READINGS {
+    if readings.len() != limits::READINGS as usize {
         return RunOutcome::Refused(limits::READINGS_LENGTH, 0);
     }
     let judged = reader::judge_rows(rows);

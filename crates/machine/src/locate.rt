@@ -2,7 +2,7 @@
 ghost use Prim.Native.Nat.{_<_};
 ghost use Rattle.machine.specs.Words.{Tidy};
 ghost use Rattle.machine.specs.Parts.{Followed, Located, Filled};
-use crate::limits;
+use crate::numbers;
 use crate::store::load;
 
 // A row, or a fault: 0 for none.
@@ -24,32 +24,32 @@ pub fn follow(store: &[u32], row: usize) -> Found
     ensures { λ r. ⌜ Followed (now (store .entry)) row r ⌝ }
 {
     let here = load(store, row);
-    if here.state != limits::OPEN {
+    if here.state != numbers::OPEN {
         return Found {
-            fault: limits::NOT_THERE,
+            fault: numbers::NOT_THERE,
             row: row,
         };
     }
-    if here.kind == limits::OWNER {
+    if here.kind == numbers::OWNER {
         return Found {
-            fault: limits::NO_FAULT,
-            row: limits::FIRST_CELL + here.payload as usize,
+            fault: numbers::NO_FAULT,
+            row: numbers::FIRST_CELL + here.payload as usize,
         };
     }
-    if here.kind == limits::REFERENCE {
+    if here.kind == numbers::REFERENCE {
         return Found {
-            fault: limits::NO_FAULT,
+            fault: numbers::NO_FAULT,
             row: here.payload as usize,
         };
     }
-    if here.kind == limits::EMPTY {
+    if here.kind == numbers::EMPTY {
         return Found {
-            fault: limits::NOT_THERE,
+            fault: numbers::NOT_THERE,
             row: row,
         };
     }
     Found {
-        fault: limits::WRONG_KIND,
+        fault: numbers::WRONG_KIND,
         row: row,
     }
 }
@@ -63,21 +63,21 @@ pub fn locate(store: &[u32], root: usize, follows: usize) -> Found
     let mut left = follows;
     while 0 < left {
         let found = follow(store, row);
-        if found.fault != limits::NO_FAULT {
+        if found.fault != numbers::NO_FAULT {
             return found;
         }
         row = found.row;
         left -= 1;
     }
     let here = load(store, row);
-    if here.state != limits::OPEN {
+    if here.state != numbers::OPEN {
         return Found {
-            fault: limits::NOT_THERE,
+            fault: numbers::NOT_THERE,
             row: row,
         };
     }
     Found {
-        fault: limits::NO_FAULT,
+        fault: numbers::NO_FAULT,
         row: row,
     }
 }
@@ -88,22 +88,22 @@ pub fn read_row(store: &[u32], row: usize) -> Gave
     ensures { λ r. ⌜ Filled (now (store .entry)) row r ⌝ }
 {
     let here = load(store, row);
-    if here.state != limits::OPEN {
+    if here.state != numbers::OPEN {
         return Gave {
-            fault: limits::NOT_THERE,
-            kind: limits::EMPTY,
+            fault: numbers::NOT_THERE,
+            kind: numbers::EMPTY,
             payload: 0,
         };
     }
-    if here.kind == limits::EMPTY {
+    if here.kind == numbers::EMPTY {
         return Gave {
-            fault: limits::NOT_THERE,
-            kind: limits::EMPTY,
+            fault: numbers::NOT_THERE,
+            kind: numbers::EMPTY,
             payload: 0,
         };
     }
     Gave {
-        fault: limits::NO_FAULT,
+        fault: numbers::NO_FAULT,
         kind: here.kind,
         payload: here.payload,
     }

@@ -5,15 +5,16 @@ ghost use lib.ListN.{length};
 ghost use Rattle.machine.specs.Answers.{bitsOf};
 ghost use Rattle.machine.specs.Words.{Tidy};
 ghost use Rattle.machine.specs.Parts.{Copied, Moved, Borrowed, Numbered, Compared, LeafReady, LeafRan};
-use crate::limits;
 use crate::locate::Gave;
 use crate::locate::locate;
 use crate::locate::read_row;
-use crate::operands::operand;
-use crate::operands::wide;
+use crate::numbers;
 use crate::signed::bits_of;
 use crate::signed::raised;
 use crate::store::put_row;
+use reader::fields::field_at;
+use reader::fields::index_of;
+use reader::kinds;
 
 // A fault, and no value.
 fn failed(fault: u32) -> Gave
@@ -21,7 +22,7 @@ fn failed(fault: u32) -> Gave
 {
     Gave {
         fault: fault,
-        kind: limits::EMPTY,
+        kind: numbers::EMPTY,
         payload: 0,
     }
 }
@@ -31,8 +32,8 @@ fn numbered(bits: u32) -> Gave
     ensures { λ r. ⌜ (r .fault ≡ 0) × (r .kind ≡ 1) × (r .payload ≡ bits) ⌝ }
 {
     Gave {
-        fault: limits::NO_FAULT,
-        kind: limits::NUMBER,
+        fault: numbers::NO_FAULT,
+        kind: numbers::NUMBER,
         payload: bits,
     }
 }
@@ -52,7 +53,7 @@ pub fn run_copy(store: &[u32], root: usize, follows: usize) -> Gave
     ensures { λ r. ⌜ Copied (now (store .entry)) root follows r ⌝ }
 {
     let found = locate(store, root, follows);
-    if found.fault != limits::NO_FAULT {
+    if found.fault != numbers::NO_FAULT {
         return failed(found.fault);
     }
     read_row(store, found.row)
@@ -64,14 +65,14 @@ pub fn run_move(store: &mut [u32], root: usize, follows: usize) -> Gave
     ensures { λ r. ⌜ Moved (now (store .entry)) root follows (now (store .exit)) r ⌝ }
 {
     let found = locate(store, root, follows);
-    if found.fault != limits::NO_FAULT {
+    if found.fault != numbers::NO_FAULT {
         return failed(found.fault);
     }
     let held = read_row(store, found.row);
-    if held.fault != limits::NO_FAULT {
+    if held.fault != numbers::NO_FAULT {
         return held;
     }
-    put_row(store, found.row, limits::OPEN, limits::EMPTY, 0);
+    put_row(store, found.row, numbers::OPEN, numbers::EMPTY, 0);
     held
 }
 
@@ -81,12 +82,12 @@ pub fn run_borrow(store: &[u32], root: usize, follows: usize) -> Gave
     ensures { λ r. ⌜ Borrowed (now (store .entry)) root follows r ⌝ }
 {
     let found = locate(store, root, follows);
-    if found.fault != limits::NO_FAULT {
+    if found.fault != numbers::NO_FAULT {
         return failed(found.fault);
     }
     Gave {
-        fault: limits::NO_FAULT,
-        kind: limits::REFERENCE,
+        fault: numbers::NO_FAULT,
+        kind: numbers::REFERENCE,
         payload: found.row as u32,
     }
 }
@@ -97,11 +98,11 @@ pub fn run_number(store: &[u32], root: usize, follows: usize) -> Gave
     ensures { λ r. ⌜ Numbered (now (store .entry)) root follows r ⌝ }
 {
     let held = run_copy(store, root, follows);
-    if held.fault != limits::NO_FAULT {
+    if held.fault != numbers::NO_FAULT {
         return held;
     }
-    if held.kind != limits::NUMBER {
-        return failed(limits::WRONG_KIND);
+    if held.kind != numbers::NUMBER {
+        return failed(numbers::WRONG_KIND);
     }
     held
 }
@@ -112,11 +113,11 @@ pub fn run_below(store: &[u32], root: usize, follows: usize, other: usize, other
     ensures { λ r. ⌜ Compared (now (store .entry)) root follows other others r ⌝ }
 {
     let first = run_number(store, root, follows);
-    if first.fault != limits::NO_FAULT {
+    if first.fault != numbers::NO_FAULT {
         return first;
     }
     let second = run_number(store, other, others);
-    if second.fault != limits::NO_FAULT {
+    if second.fault != numbers::NO_FAULT {
         return second;
     }
     if raised(first.payload) < raised(second.payload) {
@@ -130,18 +131,18 @@ pub fn run_leaf(rows: &[u32], i: usize, readings: &[i32], store: &mut [u32]) -> 
     requires { ⌜ LeafReady (now rows) i (now readings) (now store) ⌝ }
     ensures { λ r. ⌜ LeafRan (now (rows .entry)) i (now (readings .entry)) (now (store .entry)) (now (store .exit)) r ⌝ }
 {
-    let kind = operand(rows, i, 0);
-    let first = operand(rows, i, 1);
-    let root = wide(first);
-    let follows = wide(operand(rows, i, 2));
+    let kind = field_at(rows, i, 0);
+    let first = field_at(rows, i, 1);
+    let root = index_of(first);
+    let follows = index_of(field_at(rows, i, 2));
     match kind {
-        1 => numbered(first),
-        2 => numbered(reading_bits(readings, root)),
-        3 => run_copy(store, root, follows),
-        4 => run_move(store, root, follows),
-        10 => {
-            let other = wide(operand(rows, i, 3));
-            let others = wide(operand(rows, i, 4));
+        kinds::NUMBER => numbered(first),
+        kinds::READING => numbered(reading_bits(readings, root)),
+        kinds::COPY => run_copy(store, root, follows),
+        kinds::MOVE => run_move(store, root, follows),
+        kinds::BELOW => {
+            let other = index_of(field_at(rows, i, 3));
+            let others = index_of(field_at(rows, i, 4));
             run_below(store, root, follows, other, others)
         }
         _ => run_borrow(store, root, follows),

@@ -13,11 +13,12 @@ use crate::around::run_box;
 use crate::around::run_let;
 use crate::around::without_value;
 use crate::drops::drop_any;
-use crate::limits;
-use crate::operands::operand;
-use crate::operands::wide;
+use crate::numbers;
 use crate::plain::run_leaf;
-use reader::wraps;
+use reader::fields::field_at;
+use reader::fields::index_of;
+use reader::kinds;
+use reader::kinds::wraps;
 
 // The term at row i, if it has no inner term: it opens no variable and takes no cell.
 fn run_plain(
@@ -54,11 +55,11 @@ fn run_after(
     requires { ⌜ AfterReady (now rows) i (now store) (now opened) inner ⌝ }
     ensures { λ r. ⌜ AfterRan (now (rows .entry)) i (now (store .entry)) (now (opened .entry)) inner (now (store .exit)) (now (opened .exit)) r ⌝ }
 {
-    let kind = operand(rows, i, 0);
+    let kind = field_at(rows, i, 0);
     match kind {
-        7 => run_box(store, inner),
-        8 => run_let(store, opened, i, operand(rows, i, 1), inner),
-        _ => run_assign(store, i, operand(rows, i, 1), operand(rows, i, 2), inner),
+        kinds::BOX => run_box(store, inner),
+        kinds::LET => run_let(store, opened, i, field_at(rows, i, 1), inner),
+        _ => run_assign(store, i, field_at(rows, i, 1), field_at(rows, i, 2), inner),
     }
 }
 
@@ -76,8 +77,8 @@ fn run_inmost(
     requires { ⌜ TermReady (now rows) i levels (now readings) (now store) (now opened) count taken × (wrapsOf (fieldAt (now rows) i 0) ≡ false) ⌝ }
     ensures { λ r. ⌜ TermRan (now (rows .entry)) i levels (now (readings .entry)) (now (store .entry)) (now (opened .entry)) count taken (now (store .exit)) (now (opened .exit)) r ⌝ }
 {
-    let kind = operand(rows, i, 0);
-    if kind == 11 {
+    let kind = field_at(rows, i, 0);
+    if kind == kinds::BLOCK {
         let inner = run_block(rows, i, levels - 1, readings, store, opened, count, taken);
         return close_block(store, opened, i, count, inner);
     }
@@ -100,7 +101,7 @@ fn run_term(
     ensures { λ r. ⌜ TermRan (now (rows .entry)) i levels (now (readings .entry)) (now (store .entry)) (now (opened .entry)) count taken (now (store .exit)) (now (opened .exit)) r ⌝ }
 {
     let mut around = 0;
-    while wraps(operand(rows, i + around, 0)) {
+    while wraps(field_at(rows, i + around, 0)) {
         around += 1;
     }
     let inmost = i + around;
@@ -127,11 +128,11 @@ pub fn run_block(
     requires { ⌜ BlockReady (now rows) block levels (now readings) (now store) (now opened) count taken ⌝ }
     ensures { λ r. ⌜ BlockRan (now (rows .entry)) block levels (now (readings .entry)) (now (store .entry)) (now (opened .entry)) count taken (now (store .exit)) (now (opened .exit)) r ⌝ }
 {
-    let mut left = wide(operand(rows, block, 1));
+    let mut left = index_of(field_at(rows, block, 1));
     let mut at = entered(block, count, taken);
     while 0 < left {
         let fault = drop_any(store, at.kind, at.payload);
-        if fault != limits::NO_FAULT {
+        if fault != numbers::NO_FAULT {
             return without_value(at, fault, block);
         }
         let ran = run_term(
@@ -144,7 +145,7 @@ pub fn run_block(
             at.opened,
             at.taken,
         );
-        if ran.fault != limits::NO_FAULT {
+        if ran.fault != numbers::NO_FAULT {
             return ran;
         }
         at = ran;

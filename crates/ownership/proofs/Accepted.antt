@@ -17,7 +17,7 @@ use Rattle.reader.proofs.Answers.{then}
 use Rattle.reader.proofs.RoundTrip.{decoded, decodes, rows-length}
 use Rattle.rules.specs.Judge.{judgeScript}
 use Rattle.ownership.specs.Answers.{checkOf}
-use Rattle.ownership.proofs.CheckLaws.{tree-decoded}
+use Rattle.reader.proofs.Promise.{tree-decoded}
 
 -- A script of n terms, in its rows.
 pub record Accepted (l : Limits) (rows : List ℕ) (n : ℕ) : Type 0 where

@@ -22,19 +22,13 @@ use Rattle.reader.specs.declared.Outcome.the-variants as outcome
 use Rattle.reader.proofs.Answers.{then, needed}
 use Rattle.reader.proofs.Lists.{under-all}
 use Rattle.reader.proofs.RowTrees.{tree-stands}
+use Rattle.reader.proofs.Promise.{tree-decoded}
 use Rattle.rules.specs.declared.rules.Requirement.{Requirement}
 use Rattle.rules.specs.declared.rules.Requirement.the-variants as requirement
 use Rattle.rules.specs.Judge.{judgeScript}
 use Rattle.rules.specs.Verdicts.{asRequirement}
 use Rattle.ownership.specs.Answers.{checkOf}
 use Rattle.ownership.specs.JudgeRows.{scriptAt}
-
--- Rows that the reader accepts have the right number and decode.
-pub tree-decoded : (l : Limits) (rows : List ℕ) (t : Term) → rowsTree l rows ≡ ok t → (length rows ≡ rowNumbers l) × (decode l rows ≡ ok t)
-unfolding rowsTree
-tree-decoded l rows t h =
-    let q = then (need (eqb (length rows) (rowNumbers l)) (2, 0)) (λ _. decode l rows) t h in
-    (eqb-true (length rows) (rowNumbers l) (needed (eqb (length rows) (rowNumbers l)) (2, 0) (q .0) (q .1)), q .2)
 
 -- What the type of a slice says of its elements.
 pub under-words : (rows : List ℕ) → ((i : ℕ) → Fits w32 (getD rows i 0)) → Under 4294967296 rows
@@ -50,12 +44,11 @@ rows-refused l rows o n at h q = go (rowsTree l rows) (rw q at h)
     go (err e) z = z
 
 -- The reader counts n terms.
-module _ (rows : List ℕ) (under : Under 4294967296 rows) (o : Outcome) (n : ℕ) (counted : told o ≡ judgedOf base rows) (q : o ≡ outcome.Count n) where
+module _ (rows : List ℕ) (under : Under 4294967296 rows) (n : ℕ) (counted : judgedOf base rows ≡ ok n) where
   script : (t : Term) × (rowsTree base rows ≡ ok t) × (n ≡ size t) × (treeAt 64 16 rows 0 ≡ some (t, size t))
-  unfolding told judgedOf base
+  unfolding judgedOf base
   script =
-      let z : _≡_ {A = Result Refusal ℕ} (ok n) (rowsTree base rows >>= λ t. ok (size t)) = rw q at counted in
-      let w = then (rowsTree base rows) (λ t. ok (size t)) n (sym z) in
+      let w = then (rowsTree base rows) (λ t. ok (size t)) n counted in
       let d = tree-decoded base rows (w .0) (w .1) in
       (w .0, w .1, cc (w .2), tree-stands base rows (w .0) under (d .0) (d .1))
 

@@ -9,11 +9,11 @@ ghost use Rattle.rules.specs.Judge.{nothingTaken};
 ghost use Rattle.rules.specs.Table.{TableFor, environmentOf, asPlace};
 ghost use Rattle.rules.specs.Verdicts.{asRequirement, begun, answered};
 ghost use Rattle.ownership.specs.JudgeRows.{judgeLeaf, ended, judgeAt, Wraps, beginAt, afterAt, restAt, scriptAt};
-use crate::row;
-use crate::row::index_at;
-use crate::row::number_at;
 use crate::row::place_at;
-use reader::wraps;
+use reader::fields::field_at;
+use reader::fields::index_at;
+use reader::kinds;
+use reader::kinds::wraps;
 use rules::Place;
 use rules::Requirement;
 use rules::Value;
@@ -50,11 +50,11 @@ fn judge_leaf(
     ensures { λ r. ⌜ (answered (environmentOf (now (env .exit))) r ≡ judgeLeaf variables (kindOf 1 kind) i (asPlace first) (asPlace second) (environmentOf (now (env .entry)))) × TableFor (now (env .exit)) variables ⌝ }
 {
     match kind {
-        row::COPY => judge_copy(env, variables, i, first),
-        row::MOVE => judge_move(env, variables, i, first),
-        row::SHARED => judge_shared(env, variables, i, first),
-        row::EXCLUSIVE => judge_exclusive(env, variables, i, first),
-        row::BELOW => judge_below(env, variables, i, first, second),
+        kinds::COPY => judge_copy(env, variables, i, first),
+        kinds::MOVE => judge_move(env, variables, i, first),
+        kinds::SHARED => judge_shared(env, variables, i, first),
+        kinds::EXCLUSIVE => judge_exclusive(env, variables, i, first),
+        kinds::BELOW => judge_below(env, variables, i, first, second),
         _ => number_value(),
     }
 }
@@ -64,8 +64,8 @@ fn judge_before(rows: &[u32], i: usize, env: &mut [u32], variables: usize) -> Re
     requires { ⌜ Wraps variables (now rows) i × TableFor (now env) variables ⌝ }
     ensures { λ r. ⌜ (begun (environmentOf (now (env .exit))) r ≡ beginAt (now (rows .entry)) i (environmentOf (now (env .entry)))) × TableFor (now (env .exit)) variables ⌝ }
 {
-    let kind = number_at(rows, i, 0);
-    if kind != row::LET {
+    let kind = field_at(rows, i, 0);
+    if kind != kinds::LET {
         return Requirement::Met;
     }
     let x = index_at(rows, i, 1);
@@ -88,13 +88,13 @@ fn judge_after(
     let Verdict::Fine(value) = verdict else {
         return inner;
     };
-    let kind = number_at(rows, i, 0);
+    let kind = field_at(rows, i, 0);
     match kind {
-        row::BOX => JudgedTerm {
+        kinds::BOX => JudgedTerm {
             next: inner.next,
             verdict: judge_box(i, value),
         },
-        row::LET => {
+        kinds::LET => {
             let x = index_at(rows, i, 1);
             JudgedTerm {
                 next: inner.next,
@@ -124,8 +124,8 @@ fn judge_inmost(
     ensures { λ r. ⌜ (ended (environmentOf (now (env .exit))) r ≡ judgeAt variables (treeAt variables levels (now (rows .entry)) i) level (environmentOf (now (env .entry)))) × TableFor (now (env .exit)) variables ⌝ }
 {
     let next = i + 1;
-    let kind = number_at(rows, i, 0);
-    if kind == row::BLOCK {
+    let kind = field_at(rows, i, 0);
+    if kind == kinds::BLOCK {
         let count = index_at(rows, i, 1);
         let inner = judge_block(rows, next, count, levels - 1, env, variables, level + 1);
         let verdict = inner.verdict;
@@ -159,7 +159,7 @@ fn judge_term(
     ensures { λ r. ⌜ (ended (environmentOf (now (env .exit))) r ≡ judgeAt variables (treeAt variables levels (now (rows .entry)) i) level (environmentOf (now (env .entry)))) × TableFor (now (env .exit)) variables ⌝ }
 {
     let mut around: usize = 0;
-    while wraps(number_at(rows, i + around, 0)) {
+    while wraps(field_at(rows, i + around, 0)) {
         let begun = judge_before(rows, i + around, env, variables);
         if let Requirement::Refused(number, term) = begun {
             return JudgedTerm {

@@ -1,14 +1,17 @@
 // The ownership check of a script that is given as term rows.
 ghost use mathlib.Core.Path.{_≡_};
+ghost use Rattle.reader.specs.Result.{ok};
 ghost use Rattle.reader.specs.Limits.{base};
+ghost use Rattle.reader.specs.Answers.{judgedOf};
 ghost use Rattle.ownership.specs.Answers.{toldChecked, checkOf};
 
-mod row; // row.rt: the numbers of a term row
+mod row; // row.rt: the places in a term row
 mod judge; // judge.rt: terms, blocks and the whole script
 
 use crate::judge::judge_script;
 use reader::Outcome;
 use reader::judge_rows;
+use reader::limits;
 use rules::Requirement;
 
 // The number of terms, or 01's number and place: the row (12 to 19) or the term (30 to 43).
@@ -17,9 +20,19 @@ pub enum Checked {
     Refused(u32, usize),
 }
 
-const VARIABLES: usize = 64;
-
-const LEVELS: usize = 16;
+// The check of rows that the reader accepts as so many terms: for callers that have the reader's word for it.
+pub fn check_judged(rows: &[u32], terms: usize) -> Checked
+    requires { ⌜ judgedOf base (now rows) ≡ ok terms ⌝ }
+    ensures { λ r. ⌜ toldChecked r ≡ checkOf base (now (rows .entry)) ⌝ }
+{
+    // The table of the variables: 8 words to each, and two rows of notes.
+    let mut env: [u32; 528] = [0; 528];
+    let verdict = judge_script(rows, limits::LEVELS, &mut env, limits::VARIABLES as usize);
+    match verdict {
+        Requirement::Met => Checked::Accepted(terms),
+        Requirement::Refused(number, term) => Checked::Refused(number, term),
+    }
+}
 
 // "2 rows not 2,560", then 12 to 19 by the reader, then 30 to 43 by the ownership rules.
 pub fn check(rows: &[u32]) -> Checked
@@ -28,14 +41,6 @@ pub fn check(rows: &[u32]) -> Checked
     let outcome = judge_rows(rows);
     match outcome {
         Outcome::Refused(number, row) => Checked::Refused(number, row),
-        Outcome::Count(terms) => {
-            // The table of the variables: 8 words to each, and two rows of notes.
-            let mut env: [u32; 528] = [0; 528];
-            let verdict = judge_script(rows, LEVELS, &mut env, VARIABLES);
-            match verdict {
-                Requirement::Met => Checked::Accepted(terms),
-                Requirement::Refused(number, term) => Checked::Refused(number, term),
-            }
-        }
+        Outcome::Count(terms) => check_judged(rows, terms),
     }
 }

@@ -40,3 +40,4 @@ pub mod RowSpans
 pub mod Outermost
 pub mod LeftOver
 pub mod RowsJudged
+pub mod Promise

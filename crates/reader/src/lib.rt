@@ -3,7 +3,9 @@ ghost use mathlib.Core.Path.{_≡_};
 ghost use Rattle.reader.specs.Limits.{base};
 ghost use Rattle.reader.specs.Answers.{told, readOf, judgedOf, writtenOf};
 
-mod limits; // limits.rt: 01's limits and refusal numbers
+pub mod limits; // limits.rt: limits and refusal numbers
+pub mod kinds; // kinds.rt: the kinds of terms
+pub mod fields; // fields.rt: the numbers of a row, and of four bytes
 mod packed; // packed.rt: the answers of the term and block functions, each in one number
 mod opening; // opening.rt: what stands at a kind byte, or at a row
 mod operands; // operands.rt: the operands after a kind byte, and the row that they fill
@@ -13,7 +15,6 @@ mod script; // script.rt: a whole script in bytes
 mod rows; // rows.rt: terms and blocks in term rows, and what stands after them
 mod output; // output.rt: the bytes of a script, from its term rows
 
-pub use crate::rows::wraps; // for the layers above, which go along the rows too
 use crate::rows::first_used;
 use crate::rows::judge_block;
 use crate::rows::no_block;

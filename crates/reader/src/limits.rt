@@ -1,10 +1,8 @@
-// 01's limits and refusal numbers.
+// The limits of scripts, the lengths of lent memory, and the refusal numbers that more than one layer gives.
 
 pub const BYTES: usize = 4096;
 
 pub const TERMS: usize = 512;
-
-pub const ROW_NUMBERS: usize = 2560;
 
 pub const BOXES: usize = 64;
 
@@ -18,10 +16,19 @@ pub const FOLLOWS: u32 = 9;
 // One more than the terms of a block can be.
 pub const BLOCK: u32 = 256;
 
+// Five numbers for each term; three for each variable and each cell.
+pub const ROW_NUMBERS: usize = 2560;
+
+pub const STORE_NUMBERS: usize = 384;
+
 // By the caller.
 pub const SCRIPT_TOO_LONG: u32 = 1;
 
 pub const ROWS_LENGTH: u32 = 2;
+
+pub const STORE_LENGTH: u32 = 3;
+
+pub const READINGS_LENGTH: u32 = 4;
 
 pub const OUTPUT_SHORT: u32 = 5;
 

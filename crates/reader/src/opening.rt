@@ -1,6 +1,7 @@
 // What stands at a kind byte.
 ghost use mathlib.Core.Path.{_≡_};
 ghost use Rattle.reader.specs.ByteParts.{openingNumber};
+use crate::kinds;
 use crate::limits;
 
 // The number of the refusal at a kind byte, in 01's order 12, 13, 18, 16, 15, 17; 0 where there is none.
@@ -11,15 +12,15 @@ pub fn opening_number(tail: &[u8], levels: usize, outer: bool, terms: usize, box
     if tail.len() == 0 {
         return limits::ENDED;
     }
-    let kind = tail[0];
+    let kind = tail[0] as u32;
     if kind == 0 {
         return limits::UNKNOWN_KIND;
     }
-    if 11 < kind {
+    if kinds::BLOCK < kind {
         return limits::UNKNOWN_KIND;
     }
     if outer {
-        if kind != 11 {
+        if kind != kinds::BLOCK {
             return limits::NO_BLOCK;
         }
     }
@@ -29,7 +30,7 @@ pub fn opening_number(tail: &[u8], levels: usize, outer: bool, terms: usize, box
     if levels == 0 {
         return limits::TOO_DEEP;
     }
-    if kind == 7 {
+    if kind == kinds::BOX {
         if limits::BOXES <= boxes {
             return limits::TOO_MANY_BOXES;
         }

@@ -6,19 +6,16 @@ ghost use lib.ListN.{length};
 ghost use lib.Seq.{sets};
 ghost use Rattle.reader.specs.Parts.{fieldsOf, IsKind};
 ghost use Rattle.reader.specs.Parts.{placeFields};
-ghost use Rattle.reader.specs.ByteParts.{fieldNumber, wordAt, judgedFields, wordField, oneField, twoPlaceFields, Filled};
+ghost use Rattle.reader.specs.ByteParts.{fieldNumber, judgedFields, wordField, oneField, twoPlaceFields, Filled};
+use crate::fields::wide;
+use crate::fields::word_at;
+use crate::kinds;
 use crate::limits;
 
 // The bytes up to the end of a term's operands, counted from its kind byte, or the refusal.
 pub enum Fields {
     Fine(usize),
     Refused(u32, usize),
-}
-
-pub fn wide(byte: u8) -> u32
-    ensures { λ r. ⌜ (r ≡ byte) × (r < 256) ⌝ }
-{
-    byte as u32
 }
 
 // The row of term n.
@@ -72,18 +69,7 @@ pub fn judge_place(tail: &[u8], at: usize, j: usize) -> Fields
     Fields::Fine(j1 + 1)
 }
 
-// Four bytes after the kind byte, high byte first.
-pub fn word(tail: &[u8]) -> u32
-    requires { ⌜ 5 ≤ length (now tail) ⌝ }
-    ensures { λ r. ⌜ r ≡ wordAt (now (tail .entry)) 1 ⌝ }
-{
-    let a = wide(tail[1]);
-    let b = wide(tail[2]);
-    let c = wide(tail[3]);
-    let d = wide(tail[4]);
-    a * 16777216 + b * 65536 + c * 256 + d
-}
-
+// Four bytes after the kind byte.
 pub fn read_word(tail: &[u8], at: usize, n: usize, rows: &mut [u32]) -> Fields
     requires { ⌜ (at + length (now tail) ≤ 4096) × (n * 5 + 5 ≤ length (now rows)) ⌝ }
     ensures { λ r. ⌜ Filled wordField 1 (now (tail .entry)) at n (now (rows .entry)) (now (rows .exit)) r ⌝ }
@@ -91,8 +77,8 @@ pub fn read_word(tail: &[u8], at: usize, n: usize, rows: &mut [u32]) -> Fields
     if tail.len() < 5 {
         return Fields::Refused(limits::ENDED, at + tail.len());
     }
-    let bits = word(tail);
-    put_row(rows, n, 1, bits, 0, 0, 0);
+    let bits = word_at(tail, 1);
+    put_row(rows, n, kinds::NUMBER, bits, 0, 0, 0);
     Fields::Fine(5)
 }
 
@@ -144,7 +130,7 @@ pub fn read_two_places(tail: &[u8], at: usize, n: usize, rows: &mut [u32]) -> Fi
     put_row(
         rows,
         n,
-        10,
+        kinds::BELOW,
         wide(tail[1]),
         wide(tail[2]),
         wide(tail[3]),
@@ -154,20 +140,20 @@ pub fn read_two_places(tail: &[u8], at: usize, n: usize, rows: &mut [u32]) -> Fi
 }
 
 // The operands of a known kind, and its row.
-pub fn read_operands(tail: &[u8], at: usize, kind: u8, n: usize, rows: &mut [u32]) -> Fields
+pub fn read_operands(tail: &[u8], at: usize, kind: u32, n: usize, rows: &mut [u32]) -> Fields
     requires { ⌜ (at + length (now tail) ≤ 4096) × (n * 5 + 5 ≤ length (now rows)) × IsKind kind ⌝ }
     ensures { λ r. ⌜ Filled (fieldsOf kind) kind (now (tail .entry)) at n (now (rows .entry)) (now (rows .exit)) r ⌝ }
 {
     match kind {
-        1 => read_word(tail, at, n, rows),
-        2 => read_one(tail, at, 2, 0, limits::READINGS, n, rows),
-        7 => {
-            put_row(rows, n, 7, 0, 0, 0, 0);
+        kinds::NUMBER => read_word(tail, at, n, rows),
+        kinds::READING => read_one(tail, at, kind, 0, limits::READINGS, n, rows),
+        kinds::BOX => {
+            put_row(rows, n, kind, 0, 0, 0, 0);
             Fields::Fine(1)
         }
-        8 => read_one(tail, at, 8, 0, limits::VARIABLES, n, rows),
-        10 => read_two_places(tail, at, n, rows),
-        11 => read_one(tail, at, 11, 1, limits::BLOCK, n, rows),
-        _ => read_place(tail, at, wide(kind), n, rows),
+        kinds::LET => read_one(tail, at, kind, 0, limits::VARIABLES, n, rows),
+        kinds::BELOW => read_two_places(tail, at, n, rows),
+        kinds::BLOCK => read_one(tail, at, kind, 1, limits::BLOCK, n, rows),
+        _ => read_place(tail, at, kind, n, rows),
     }
 }

@@ -7,15 +7,16 @@ ghost use Prim.Native.Nat.{ℕ, _+_, _*_, _%_, _≤_};
 ghost use lib.ListN.{length};
 ghost use lib.Seq.{sets};
 ghost use Rattle.reader.specs.OutputParts.{rowBytes, bytesAt, scriptFrom};
+use crate::kinds;
 
 // The bytes that a row of this kind gives, whatever its fields hold.
 fn row_length(kind: u32) -> usize
     ensures { λ r. ⌜ ((a b c d : ℕ) → length (rowBytes kind a b c d) ≡ r) × (r ≤ 5) ⌝ }
 {
     match kind {
-        1 | 10 => 5,
-        2 | 8 | 11 => 2,
-        7 => 1,
+        kinds::NUMBER | kinds::BELOW => 5,
+        kinds::READING | kinds::LET | kinds::BLOCK => 2,
+        kinds::BOX => 1,
         _ => 3,
     }
 }
@@ -83,13 +84,13 @@ fn put_row_bytes(rows: &[u32], i: usize, output: &mut [u8], at: usize) -> usize
     let row = i * 5;
     let kind = rows[row];
     match kind {
-        1 => {
+        kinds::NUMBER => {
             let n = rows[row + 1];
             put_five(output, at, kind, n / 16777216, n / 65536, n / 256, n)
         }
-        2 | 8 | 11 => put_two(output, at, kind, rows[row + 1]),
-        7 => put_one(output, at, kind),
-        10 => put_five(
+        kinds::READING | kinds::LET | kinds::BLOCK => put_two(output, at, kind, rows[row + 1]),
+        kinds::BOX => put_one(output, at, kind),
+        kinds::BELOW => put_five(
             output,
             at,
             kind,

@@ -4,20 +4,14 @@ ghost use mathlib.Core.Bool.{false};
 ghost use mathlib.Core.List.{_∷_, []};
 ghost use Prim.Native.Nat.{_+_, _*_, _<_, _≤_};
 ghost use lib.ListN.{length, drop};
-ghost use Rattle.reader.specs.Kinds.{until, wrapsOf};
-ghost use Rattle.reader.specs.Parts.{IsKind, placeFields, boxesWith, fieldsOf};
-ghost use Rattle.reader.specs.RowParts.{fieldAt, fieldsFit, noBlock, rowNumber, RowsReady, termRows, blockRows, spanOf, spanned, bitsOf, firstUsed};
+ghost use Rattle.reader.specs.Kinds.{until};
+ghost use Rattle.reader.specs.Parts.{IsKind, placeFields, fieldsOf};
+ghost use Rattle.reader.specs.RowParts.{fieldsFit, noBlock, rowNumber, RowsReady, termRows, blockRows, spanOf, spanned, bitsOf, firstUsed};
+use crate::fields::field_at;
+use crate::kinds;
+use crate::kinds::boxes_with;
 use crate::limits;
 use crate::packed;
-
-// Field k of row i: the kind is field 0.
-fn field_at(rows: &[u32], i: usize, k: usize) -> u32
-    requires { ⌜ (length (now rows) ≡ 2560) × (i < 512) × (k < 5) ⌝ }
-    ensures { λ r. ⌜ r ≡ fieldAt (now (rows .entry)) i k ⌝ }
-{
-    let at = 5 * i + k;
-    rows[at]
-}
 
 fn place_fits(root: u32, follows: u32) -> bool
     ensures { λ r. ⌜ r ≡ fieldsFit placeFields (root ∷ follows ∷ []) ⌝ }
@@ -54,12 +48,12 @@ fn fields_fit(kind: u32, a: u32, b: u32, c: u32, d: u32) -> bool
     ensures { λ r. ⌜ r ≡ fieldsFit (fieldsOf kind) (a ∷ b ∷ c ∷ d ∷ []) ⌝ }
 {
     match kind {
-        1 => all_zero(0, b, c, d),
-        2 => one_fits(0, limits::READINGS, a, b, c, d),
-        7 => all_zero(a, b, c, d),
-        8 => one_fits(0, limits::VARIABLES, a, b, c, d),
-        10 => place_fits(a, b) && place_fits(c, d),
-        11 => one_fits(1, limits::BLOCK, a, b, c, d),
+        kinds::NUMBER => all_zero(0, b, c, d),
+        kinds::READING => one_fits(0, limits::READINGS, a, b, c, d),
+        kinds::BOX => all_zero(a, b, c, d),
+        kinds::LET => one_fits(0, limits::VARIABLES, a, b, c, d),
+        kinds::BELOW => place_fits(a, b) && place_fits(c, d),
+        kinds::BLOCK => one_fits(1, limits::BLOCK, a, b, c, d),
         _ => place_fits(a, b) && all_zero(0, 0, c, d),
     }
 }
@@ -71,7 +65,7 @@ pub fn no_block(rows: &[u32]) -> bool
     ensures { λ r. ⌜ r ≡ noBlock (now (rows .entry)) ⌝ }
 {
     let kind = field_at(rows, 0, 0);
-    0 < kind && kind < 11
+    0 < kind && kind < kinds::BLOCK
 }
 
 // The number of the refusal at row i, in 01's order 12, 13, 15, 17, 14; 0 where there is none.
@@ -87,13 +81,13 @@ fn row_number(rows: &[u32], i: usize, levels: usize, boxes: usize) -> u32
     if kind == 0 {
         return limits::ENDED;
     }
-    if 11 < kind {
+    if kinds::BLOCK < kind {
         return limits::UNKNOWN_KIND;
     }
     if levels == 0 {
         return limits::TOO_DEEP;
     }
-    if kind == 7 {
+    if kind == kinds::BOX {
         if limits::BOXES <= boxes {
             return limits::TOO_MANY_BOXES;
         }
@@ -106,26 +100,6 @@ fn row_number(rows: &[u32], i: usize, levels: usize, boxes: usize) -> u32
         return 0;
     }
     limits::OPERAND
-}
-
-// Box, let and assign stand around one inner term, which is in the next row.
-pub fn wraps(kind: u32) -> bool
-    ensures { λ r. ⌜ r ≡ wrapsOf kind ⌝ }
-{
-    if kind == 7 {
-        return true;
-    }
-    if kind == 8 {
-        return true;
-    }
-    kind == 9
-}
-
-fn boxes_with(kind: u32, boxes: usize) -> usize
-    requires { ⌜ boxes ≤ 64 ⌝ }
-    ensures { λ r. ⌜ r ≡ boxesWith kind boxes ⌝ }
-{
-    if kind == 7 { boxes + 1 } else { boxes }
 }
 
 // The term at row i, nested at most as deep as levels says, after so many boxes. Box, let and assign are judged as
@@ -145,14 +119,14 @@ fn judge_term(rows: &[u32], i: usize, levels: usize, boxes: usize) -> usize
         let kind = field_at(rows, at, 0);
         let next = at + 1;
         // The kinds without inner terms come first, since most terms are of those.
-        if kind < 7 {
+        if kind < kinds::BOX {
             return packed::counted(next, boxed);
         }
-        if kind == 10 {
+        if kind == kinds::BELOW {
             return packed::counted(next, boxed);
         }
         left -= 1;
-        if kind == 11 {
+        if kind == kinds::BLOCK {
             let count = field_at(rows, at, 1) as usize;
             return judge_block(rows, next, count, left, boxed);
         }

@@ -2,19 +2,13 @@
 ghost use mathlib.Core.Path.{_≡_};
 ghost use Prim.Native.Nat.{_<_, _≤_};
 ghost use Rattle.reader.specs.Layout.{lay, lays, inRows};
-ghost use Rattle.reader.specs.Parts.{boxesWith};
 ghost use Rattle.reader.specs.ByteParts.{Ready, found, Reading, readTerm, readBlock};
+use crate::kinds;
+use crate::kinds::boxes_with;
 use crate::opening::opening_number;
 use crate::operands::Fields;
 use crate::operands::read_operands;
 use crate::packed;
-
-fn boxes_with(kind: u8, boxes: usize) -> usize
-    requires { ⌜ boxes ≤ 64 ⌝ }
-    ensures { λ r. ⌜ r ≡ boxesWith kind boxes ⌝ }
-{
-    if kind == 7 { boxes + 1 } else { boxes }
-}
 
 // tail begins at the kind byte, which stands at offset at of the script.
 pub fn read_term(
@@ -33,7 +27,7 @@ pub fn read_term(
     if number != 0 {
         return packed::refused(number, at);
     }
-    let kind = tail[0];
+    let kind = tail[0] as u32;
     let fields = read_operands(tail, at, kind, terms, rows);
     match fields {
         Fields::Refused(number, place) => packed::refused(number, place),
@@ -42,14 +36,14 @@ pub fn read_term(
             let met = terms + 1;
             let leaf = packed::fine(next, met, boxes);
             // The kinds without inner terms come first, since most terms are of those.
-            if kind < 7 {
+            if kind < kinds::BOX {
                 return leaf;
             }
-            if kind == 10 {
+            if kind == kinds::BELOW {
                 return leaf;
             }
             let deeper = levels - 1;
-            if kind == 11 {
+            if kind == kinds::BLOCK {
                 let count = tail[1] as usize;
                 return read_block(&tail[used..], next, count, deeper, met, boxes, rows);
             }

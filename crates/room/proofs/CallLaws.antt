@@ -61,6 +61,10 @@ module _ (script : List ℕ) (readings : List ℤ) (rows store : List ℕ) where
     all-fit : Fits 0
     all-fit = subst Fits (sym e ∙ z) fits
 
+    pub fit-lengths : (length readings ≡ 8) × (length store ≡ 384)
+    unfolding Fits
+    fit-lengths = (all-fit .3, all-fit .2)
+
     fit-call : callOf base script readings rows store ≡ parsedCalled base readings store (parse base script)
     unfolding Fits callOf fitCalled
     fit-call = let f : callFits base script readings rows store ≡ ok tt = all-fit .0 in rw f refl

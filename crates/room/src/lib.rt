@@ -1,13 +1,17 @@
 // Reads, checks and runs a script in one call. What the check accepts runs without a fault, so the answer has none.
 ghost use mathlib.Core.Path.{_≡_};
-ghost use Prim.Native.Nat.{_<_};
+ghost use lib.ListN.{length};
+ghost use Rattle.reader.specs.Result.{ok};
 ghost use Rattle.reader.specs.Limits.{base};
+ghost use Rattle.reader.specs.Answers.{judgedOf};
 ghost use Rattle.room.specs.Calling.{toldCall, callOf, SafeCall, readingAt};
 ghost use Rattle.room.specs.Parts.{fitNumber, checkedRun};
 use machine::RunOutcome;
 use machine::signed::number_of;
 use ownership::Checked;
 use reader::Outcome;
+use reader::fields::word_at;
+use reader::limits;
 
 // The terms, the answer and the cells taken; or 01's number and place.
 pub enum Called {
@@ -19,30 +23,31 @@ pub enum Called {
 fn fit_number(script: usize, rows: usize, store: usize, readings: usize) -> u32
     ensures { λ r. ⌜ r ≡ fitNumber script rows store readings ⌝ }
 {
-    if 4096 < script {
-        return 1;
+    if limits::BYTES < script {
+        return limits::SCRIPT_TOO_LONG;
     }
-    if rows != 2560 {
-        return 2;
+    if rows != limits::ROW_NUMBERS {
+        return limits::ROWS_LENGTH;
     }
-    if store != 384 {
-        return 3;
+    if store != limits::STORE_NUMBERS {
+        return limits::STORE_LENGTH;
     }
-    if readings != 8 {
-        return 4;
+    if readings != limits::READINGS as usize {
+        return limits::READINGS_LENGTH;
     }
     0
 }
 
-// The check of rows that were read, and the run of what it accepts.
+// The check of rows that were read, and the run of what it accepts. Neither judges the rows again.
 fn run_checked(terms: usize, rows: &[u32], readings: &[i32], store: &mut [u32]) -> Called
+    requires { ⌜ (judgedOf base (now rows) ≡ ok terms) × (length (now readings) ≡ 8) × (length (now store) ≡ 384) ⌝ }
     ensures { λ r. ⌜ (toldCall r, now (store .exit)) ≡ checkedRun base terms (now (rows .entry)) (now (readings .entry)) (now (store .entry)) ⌝ }
 {
-    let checked = ownership::check(rows);
+    let checked = ownership::check_judged(rows, terms);
     match checked {
         Checked::Refused(number, term) => Called::Refused(number, term),
         Checked::Accepted(n) => {
-            let ran = machine::run(rows, readings, store);
+            let ran = machine::run_judged(rows, readings, store);
             match ran {
                 RunOutcome::Answered(answer, cells) => Called::Answered(terms, answer, cells),
                 RunOutcome::Refused(number, place) => Called::Refused(number, place),
@@ -79,15 +84,5 @@ pub fn reading_at(input: &[u8], at: usize) -> i32
     if input.len() - 4 < at {
         return 0;
     }
-    let a = wide(input[at]);
-    let b = wide(input[at + 1]);
-    let c = wide(input[at + 2]);
-    let d = wide(input[at + 3]);
-    number_of(a * 16777216 + b * 65536 + c * 256 + d)
-}
-
-fn wide(byte: u8) -> u32
-    ensures { λ r. ⌜ (r ≡ byte) × (r < 256) ⌝ }
-{
-    byte as u32
+    number_of(word_at(input, at))
 }

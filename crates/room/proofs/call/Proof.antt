@@ -1,6 +1,7 @@
 -- `room::call` meets its contract. Assumes nothing.
 use Rattle.reader.proofs.Lists.{under-bytes}
-use Rattle.room.proofs.CallLaws.{call-unfit, call-unread, call-read}
+use Rattle.reader.proofs.Promise.{read-judged}
+use Rattle.room.proofs.CallLaws.{call-unfit, fit-lengths, call-unread, call-read}
 use Rattle.room.proofs.CallSafe.{safe-call}
 use borrow.Author.Needs.{needs}
 use Rattle.room.proofs.call.Statement.{statement}
@@ -24,7 +25,10 @@ enum-known-read-2 : tie.Need-enum-known-read-2
 enum-known-read-2 c = search needs
 
 run-checked-requires : tie.Need-run-checked-requires
-run-checked-requires c κs = search needs
+run-checked-requires c κs =
+    let lengths = fit-lengths (c .before .before .before .before .before .before .before .before .before .before .before .before .before .before .args .script .now) (c .before .before .before .before .before .before .before .before .before .before .before .before .before .before .args .readings .now) (c .before .before .before .before .before .before .before .before .before .before .before .before .before .before .args .rows .now) (c .before .before .before .before .before .before .before .before .before .before .before .before .before .before .args .store .now) _ (c .before .before .before .before .before .before .before .before .before .before .fit-number .ensures) (c .before .before .before .before .before .before .before .before .before .if1 .left) in
+    let bytes = under-bytes (c .before .before .before .before .before .before .before .before .before .before .before .before .before .before .args .script .now) (c .before .before .before .before .before .before .before .before .before .before .before .before .before .shared-slice-known .given) in
+    (read-judged _ _ bytes _ _ _ _ (c .before .before .before .before .before .before .before .read .ensures) (c .before .before .before .read3 .given .1), lengths .0, lengths .1)
 
 same-length : tie.Need-same-length
 same-length c = search needs

@@ -7,8 +7,8 @@ use borrow.Author.Needs.{needs}
 use Rattle.room.proofs.run_checked.Statement.{statement}
 use Rattle.room.proofs.run_checked.Tie as tie
 
-check-requires : tie.Need-check-requires
-check-requires c κs = search needs
+check-judged-requires : tie.Need-check-judged-requires
+check-judged-requires c κs = c .before .before .pre .0
 
 enum-known-checked : tie.Need-enum-known-checked
 enum-known-checked c = search needs
@@ -16,8 +16,8 @@ enum-known-checked c = search needs
 enum-known-checked-2 : tie.Need-enum-known-checked-2
 enum-known-checked-2 c = search needs
 
-run-requires : tie.Need-run-requires
-run-requires c κs = search needs
+run-judged-requires : tie.Need-run-judged-requires
+run-judged-requires c κs = record { terms = _; judged = c .before .before .before .before .before .before .before .pre .0; eight = c .before .before .before .before .before .before .before .pre .1; size = c .before .before .before .before .before .before .before .pre .2 }
 
 enum-known-ran : tie.Need-enum-known-ran
 enum-known-ran c = search needs
@@ -29,7 +29,7 @@ enum-known-ran-3 : tie.Need-enum-known-ran-3
 enum-known-ran-3 c = search needs
 
 returns : tie.Need-returns
-returns c = run-unaccepted _ _ _ _ _ (c .before .before .before .check .ensures) _ _ (c .before .checked .given .1)
+returns c = run-unaccepted _ _ _ _ _ (c .before .before .before .check-judged .ensures) _ _ (c .before .checked .given .1)
 
 same-length : tie.Need-same-length
 same-length c = search needs
@@ -37,28 +37,28 @@ same-length c = search needs
 returns-2 : tie.Need-returns-2
 returns-2 c =
     let h : SFits w32 (c .before .ran .given .0 .0) = search needs in
-    rw (toZ-ofZ h) (run-answered _ _ _ _ _ (c .before .before .before .before .before .before .before .before .before .before .check .ensures) _ (c .before .before .before .before .before .before .before .before .checked2 .given .1) _ _ (c .before .before .before .before .before .run .ensures) _ _ (c .before .ran .given .1))
+    rw (toZ-ofZ h) (run-answered _ _ _ _ _ (c .before .before .before .before .before .before .before .before .before .before .check-judged .ensures) _ (c .before .before .before .before .before .before .before .before .checked2 .given .1) _ _ (c .before .before .before .before .before .run-judged .ensures) _ _ (c .before .ran .given .1))
 
 same-length-2 : tie.Need-same-length-2
 same-length-2 c = search needs
 
 returns-3 : tie.Need-returns-3
-returns-3 c = run-refused _ _ _ _ _ (c .before .before .before .before .before .before .before .before .before .before .check .ensures) _ (c .before .before .before .before .before .before .before .before .checked2 .given .1) _ _ (c .before .before .before .before .before .run .ensures) _ _ (c .before .ran2 .given .1)
+returns-3 c = run-refused _ _ _ _ _ (c .before .before .before .before .before .before .before .before .before .before .check-judged .ensures) _ (c .before .before .before .before .before .before .before .before .checked2 .given .1) _ _ (c .before .before .before .before .before .run-judged .ensures) _ _ (c .before .ran2 .given .1)
 
 same-length-3 : tie.Need-same-length-3
 same-length-3 c = search needs
 
 returns-4 : tie.Need-returns-4
-returns-4 c = run-faulted _ _ _ _ _ (c .before .before .before .before .before .before .before .before .before .before .check .ensures) _ (c .before .before .before .before .before .before .before .before .checked2 .given .1) _ _ (c .before .before .before .before .before .run .ensures) _ _ (c .before .ran3 .given .1)
+returns-4 c = run-faulted _ _ _ _ _ (c .before .before .before .before .before .before .before .before .before .before .check-judged .ensures) _ (c .before .before .before .before .before .before .before .before .checked2 .given .1) _ _ (c .before .before .before .before .before .run-judged .ensures) _ _ (c .before .ran3 .given .1)
 
 pub run-checked-spec : {M : Type 1} → statement M
 run-checked-spec =
     tie.close
     (tie.spec
-    check-requires
+    check-judged-requires
     enum-known-checked
     enum-known-checked-2
-    run-requires
+    run-judged-requires
     enum-known-ran
     enum-known-ran-2
     enum-known-ran-3

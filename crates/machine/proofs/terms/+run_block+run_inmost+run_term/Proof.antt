@@ -22,11 +22,11 @@ use Rattle.machine.proofs.around.close_block.Reads as close-block-reads
 use Rattle.machine.proofs.around.entered.Reads as entered-reads
 use Rattle.machine.proofs.around.without_value.Reads as without-value-reads
 use Rattle.machine.proofs.drops.drop_any.Reads as drop-any-reads
-use Rattle.machine.proofs.operands.operand.Reads as operand-reads
-use Rattle.machine.proofs.operands.wide.Reads as wide-reads
+use Rattle.reader.proofs.fields.field_at.Reads as field-at-reads
+use Rattle.reader.proofs.fields.index_of.Reads as index-of-reads
 use Rattle.machine.proofs.terms.run_after.Reads as run-after-reads
 use Rattle.machine.proofs.terms.run_plain.Reads as run-plain-reads
-use Rattle.reader.proofs.wraps.Reads as wraps-reads
+use Rattle.reader.proofs.kinds.wraps.Reads as wraps-reads
 use Rattle.machine.proofs.terms.+run_block+run_inmost+run_term.{statement}
 use Rattle.machine.proofs.terms.+run_block+run_inmost+run_term.Tie.{close}
 
@@ -68,29 +68,29 @@ abbrev run-block-μ-loop : run-block-lts.MeasureT-loop
 run-block-μ-loop rows block levels readings store₀ opened₀ count taken left₀ at₀ store opened left at = left
 
 abbrev run-block-claims : ℕ → run-block-lts.Claims
-run-block-claims t = (operand-reads.Asked, operand-reads.Learnt, wide-reads.Asked, wide-reads.Learnt, entered-reads.Asked, entered-reads.Learnt, drop-any-reads.Asked, drop-any-reads.Learnt, without-value-reads.Asked, without-value-reads.Learnt, run-term-below t, run-term.Post)
+run-block-claims t = (field-at-reads.Asked, field-at-reads.Learnt, index-of-reads.Asked, index-of-reads.Learnt, entered-reads.Asked, entered-reads.Learnt, drop-any-reads.Asked, drop-any-reads.Learnt, without-value-reads.Asked, without-value-reads.Learnt, run-term-below t, run-term.Post)
 
 abbrev run-inmost-claims : ℕ → run-inmost-lts.Claims
-run-inmost-claims t = (operand-reads.Asked, operand-reads.Learnt, run-block-below t, run-block.Post, close-block-reads.Asked, close-block-reads.Learnt, run-plain-reads.Asked, run-plain-reads.Learnt)
+run-inmost-claims t = (field-at-reads.Asked, field-at-reads.Learnt, run-block-below t, run-block.Post, close-block-reads.Asked, close-block-reads.Learnt, run-plain-reads.Asked, run-plain-reads.Learnt)
 
 abbrev run-term-claims : ℕ → run-term-lts.Claims
-run-term-claims t = (operand-reads.Asked, operand-reads.Learnt, wraps-reads.Asked, wraps-reads.Learnt, run-inmost-below t, run-inmost.Post, run-after-reads.Asked, run-after-reads.Learnt)
+run-term-claims t = (field-at-reads.Asked, field-at-reads.Learnt, wraps-reads.Asked, wraps-reads.Learnt, run-inmost-below t, run-inmost.Post, run-after-reads.Asked, run-after-reads.Learnt)
 
-run-block-operand-requires : (t : ℕ) → run-block-lts.Need-operand-requires (run-block-claims t) (run-block-at t) run-block.Post run-block-Inv-loop run-block-μ-loop
-run-block-operand-requires t c κs = (omega (arith, c .before .before .before .pre .1 .room, c .before .before .before .pre .1 .ready .long), omega arith)
+run-block-field-at-requires : (t : ℕ) → run-block-lts.Need-field-at-requires (run-block-claims t) (run-block-at t) run-block.Post run-block-Inv-loop run-block-μ-loop
+run-block-field-at-requires t c κs = (omega (arith, c .before .before .before .pre .1 .room, c .before .before .before .pre .1 .ready .long), omega arith)
 
-run-block-wide-requires : (t : ℕ) → run-block-lts.Need-wide-requires (run-block-claims t) (run-block-at t) run-block.Post run-block-Inv-loop run-block-μ-loop
-run-block-wide-requires t c κs = search needs
+run-block-index-of-requires : (t : ℕ) → run-block-lts.Need-index-of-requires (run-block-claims t) (run-block-at t) run-block.Post run-block-Inv-loop run-block-μ-loop
+run-block-index-of-requires t c κs = search needs
 
 run-block-entered-requires : (t : ℕ) → run-block-lts.Need-entered-requires (run-block-claims t) (run-block-at t) run-block.Post run-block-Inv-loop run-block-μ-loop
 run-block-entered-requires t c κs = c .before .before .before .before .before .pre .1 .room
 
 run-block-loop-holds : (t : ℕ) → run-block-lts.Need-loop-holds (run-block-claims t) (run-block-at t) run-block.Post run-block-Inv-loop run-block-μ-loop
 run-block-loop-holds t c =
-    let at-wide = c .before in
-    let at-operand = at-wide .before in
-    let start = at-operand .before .before .before .before in
-    going-enters _ _ _ _ _ _ _ _ (start .pre .1) _ (at-wide .wide .ensures ∙ at-operand .operand .ensures) _ (c .entered .ensures)
+    let at-index-of = c .before in
+    let at-field-at = at-index-of .before in
+    let start = at-field-at .before .before .before .before in
+    going-enters _ _ _ _ _ _ _ _ (start .pre .1) _ (at-index-of .index-of .ensures ∙ at-field-at .field-at .ensures) _ (c .entered .ensures)
 
 run-block-drop-any-requires : (t : ℕ) → run-block-lts.Need-drop-any-requires (run-block-claims t) (run-block-at t) run-block.Post run-block-Inv-loop run-block-μ-loop
 run-block-drop-any-requires t c κs = (c .before .before .loop .inv .ready .tidy, c .before .before .loop .inv .sound)
@@ -179,8 +179,8 @@ run-block-same-length-6 t c =
 run-block-returns-3 : (t : ℕ) → run-block-lts.Need-returns-3 (run-block-claims t) (run-block-at t) run-block.Post run-block-Inv-loop run-block-μ-loop
 run-block-returns-3 t c = going-ends _ _ _ _ _ _ _ _ _ _ _ _ (c .before .loop .inv) (c .loop-test .left)
 
-run-inmost-operand-requires : (t : ℕ) → run-inmost-lts.Need-operand-requires (run-inmost-claims t) (run-inmost-at t) run-inmost.Post
-run-inmost-operand-requires t c κs = (has-room _ _ _ _ (c .before .before .before .pre .1 .0 .is), omega arith)
+run-inmost-field-at-requires : (t : ℕ) → run-inmost-lts.Need-field-at-requires (run-inmost-claims t) (run-inmost-at t) run-inmost.Post
+run-inmost-field-at-requires t c κs = (has-room _ _ _ _ (c .before .before .before .pre .1 .0 .is), omega arith)
 
 run-inmost-sub-run-block : (t : ℕ) → run-inmost-lts.Need-sub-run-block (run-inmost-claims t) (run-inmost-at t) run-inmost.Post
 run-inmost-sub-run-block t c = omega (arith, has-level _ _ _ _ (c .before .before .before .before .before .pre .1 .0 .is))
@@ -188,17 +188,17 @@ run-inmost-sub-run-block t c = omega (arith, has-level _ _ _ _ (c .before .befor
 run-inmost-run-block-requires : (t : ℕ) → run-inmost-lts.Need-run-block-requires (run-inmost-claims t) (run-inmost-at t) run-inmost.Post
 run-inmost-run-block-requires t c κs =
     let at-if1 = c .before .before in
-    let at-operand = at-if1 .before in
-    let start = at-operand .before .before .before .before in
-    (omega (arith, start .pre .0, has-level _ _ _ _ (start .pre .1 .0 .is)), block-ready _ _ _ _ _ _ _ _ (start .pre .1 .0) (sym (at-operand .operand .ensures) ∙ at-if1 .if1 .taken))
+    let at-field-at = at-if1 .before in
+    let start = at-field-at .before .before .before .before in
+    (omega (arith, start .pre .0, has-level _ _ _ _ (start .pre .1 .0 .is)), block-ready _ _ _ _ _ _ _ _ (start .pre .1 .0) (sym (at-field-at .field-at .ensures) ∙ at-if1 .if1 .taken))
 
 run-inmost-close-block-requires : (t : ℕ) → run-inmost-lts.Need-close-block-requires (run-inmost-claims t) (run-inmost-at t) run-inmost.Post
 run-inmost-close-block-requires t c κs =
     let at-run-block = c .before .before .before .before .before .before in
     let at-if1 = at-run-block .before .before .before in
-    let at-operand = at-if1 .before in
-    let start = at-operand .before .before .before .before in
-    block-ending _ _ _ _ _ _ _ _ (start .pre .1 .0) (sym (at-operand .operand .ensures) ∙ at-if1 .if1 .taken) _ _ _ (at-run-block .run-block .ensures) (at-run-block .run-block .kept .1 .1 .1 .1 .1 .0 ∙ start .pre .1 .0 .ready .many)
+    let at-field-at = at-if1 .before in
+    let start = at-field-at .before .before .before .before in
+    block-ending _ _ _ _ _ _ _ _ (start .pre .1 .0) (sym (at-field-at .field-at .ensures) ∙ at-if1 .if1 .taken) _ _ _ (at-run-block .run-block .ensures) (at-run-block .run-block .kept .1 .1 .1 .1 .1 .0 ∙ start .pre .1 .0 .ready .many)
 
 run-inmost-same-length : (t : ℕ) → run-inmost-lts.Need-same-length (run-inmost-claims t) (run-inmost-at t) run-inmost.Post
 run-inmost-same-length t c =
@@ -214,16 +214,16 @@ run-inmost-returns t c =
     let at-close-block = c .before .before in
     let at-run-block = at-close-block .before .before .before .before .before .before .before in
     let at-if1 = at-run-block .before .before .before in
-    let at-operand = at-if1 .before in
-    let start = at-operand .before .before .before .before in
-    block-returns _ _ _ _ _ _ _ _ (start .pre .1 .0) (sym (at-operand .operand .ensures) ∙ at-if1 .if1 .taken) _ _ _ (at-run-block .run-block .ensures) _ _ (at-close-block .close-block .ensures)
+    let at-field-at = at-if1 .before in
+    let start = at-field-at .before .before .before .before in
+    block-returns _ _ _ _ _ _ _ _ (start .pre .1 .0) (sym (at-field-at .field-at .ensures) ∙ at-if1 .if1 .taken) _ _ _ (at-run-block .run-block .ensures) _ _ (at-close-block .close-block .ensures)
 
 run-inmost-run-plain-requires : (t : ℕ) → run-inmost-lts.Need-run-plain-requires (run-inmost-claims t) (run-inmost-at t) run-inmost.Post
 run-inmost-run-plain-requires t c κs =
     let at-if1 = c .before in
-    let at-operand = at-if1 .before in
-    let start = at-operand .before .before .before .before in
-    (inmost-ready _ _ _ _ _ _ _ _ (start .pre .1 .0) (start .pre .1 .1) _ (at-operand .operand .ensures) (at-if1 .if1 .left), omega (arith, has-room _ _ _ _ (start .pre .1 .0 .is), start .pre .1 .0 .ready .long))
+    let at-field-at = at-if1 .before in
+    let start = at-field-at .before .before .before .before in
+    (inmost-ready _ _ _ _ _ _ _ _ (start .pre .1 .0) (start .pre .1 .1) _ (at-field-at .field-at .ensures) (at-if1 .if1 .left), omega (arith, has-room _ _ _ _ (start .pre .1 .0 .is), start .pre .1 .0 .ready .long))
 
 run-inmost-same-length-3 : (t : ℕ) → run-inmost-lts.Need-same-length-3 (run-inmost-claims t) (run-inmost-at t) run-inmost.Post
 run-inmost-same-length-3 t c =
@@ -235,9 +235,9 @@ run-inmost-returns-2 : (t : ℕ) → run-inmost-lts.Need-returns-2 (run-inmost-c
 run-inmost-returns-2 t c =
     let at-run-plain = c .before .before in
     let at-if1 = at-run-plain .before .before in
-    let at-operand = at-if1 .before in
-    let start = at-operand .before .before .before .before in
-    inmost-returns _ _ _ _ _ _ _ _ (start .pre .1 .0) (start .pre .1 .1) _ (at-operand .operand .ensures) (at-if1 .if1 .left) _ _ (at-run-plain .run-plain .ensures)
+    let at-field-at = at-if1 .before in
+    let start = at-field-at .before .before .before .before in
+    inmost-returns _ _ _ _ _ _ _ _ (start .pre .1 .0) (start .pre .1 .1) _ (at-field-at .field-at .ensures) (at-if1 .if1 .left) _ _ (at-run-plain .run-plain .ensures)
 
 abbrev run-term-Inv-loop : run-term-lts.InvT-loop
 run-term-Inv-loop rows i levels readings store opened count taken around₀ around = Inwards rows i levels readings store opened count taken around
@@ -254,11 +254,11 @@ run-term-μ-loop2 rows i levels readings store₀ opened₀ count taken around�
 run-term-loop-holds : (t : ℕ) → run-term-lts.Need-loop-holds (run-term-claims t) (run-term-at t) run-term.Post run-term-Inv-loop run-term-μ-loop run-term-Inv-loop2 run-term-μ-loop2
 run-term-loop-holds t c = inwards-starts _ _ _ _ _ _ _ _ (c .before .before .before .pre .1)
 
-run-term-add-operand : (t : ℕ) → run-term-lts.Need-add-operand (run-term-claims t) (run-term-at t) run-term.Post run-term-Inv-loop run-term-μ-loop run-term-Inv-loop2 run-term-μ-loop2
-run-term-add-operand t c = omega (arith, inwards-room _ _ _ _ _ _ _ _ _ (c .loop .inv))
+run-term-add-field-at : (t : ℕ) → run-term-lts.Need-add-field-at (run-term-claims t) (run-term-at t) run-term.Post run-term-Inv-loop run-term-μ-loop run-term-Inv-loop2 run-term-μ-loop2
+run-term-add-field-at t c = omega (arith, inwards-room _ _ _ _ _ _ _ _ _ (c .loop .inv))
 
-run-term-operand-requires : (t : ℕ) → run-term-lts.Need-operand-requires (run-term-claims t) (run-term-at t) run-term.Post run-term-Inv-loop run-term-μ-loop run-term-Inv-loop2 run-term-μ-loop2
-run-term-operand-requires t c κs = (has-room _ _ _ _ (inwards-here _ _ _ _ _ _ _ _ _ (c .loop .inv) .is), omega arith)
+run-term-field-at-requires : (t : ℕ) → run-term-lts.Need-field-at-requires (run-term-claims t) (run-term-at t) run-term.Post run-term-Inv-loop run-term-μ-loop run-term-Inv-loop2 run-term-μ-loop2
+run-term-field-at-requires t c κs = (has-room _ _ _ _ (inwards-here _ _ _ _ _ _ _ _ _ (c .loop .inv) .is), omega arith)
 
 run-term-wraps-requires : (t : ℕ) → run-term-lts.Need-wraps-requires (run-term-claims t) (run-term-at t) run-term.Post run-term-Inv-loop run-term-μ-loop run-term-Inv-loop2 run-term-μ-loop2
 run-term-wraps-requires t c κs = search needs
@@ -270,7 +270,7 @@ run-term-loop-less : (t : ℕ) → run-term-lts.Need-loop-less (run-term-claims 
 run-term-loop-less t c = omega (arith, inwards-level _ _ _ _ _ _ _ _ _ (c .before .before .before .loop .inv))
 
 run-term-loop-again : (t : ℕ) → run-term-lts.Need-loop-again (run-term-claims t) (run-term-at t) run-term.Post run-term-Inv-loop run-term-μ-loop run-term-Inv-loop2 run-term-μ-loop2
-run-term-loop-again t c = inwards-goes _ _ _ _ _ _ _ _ _ (c .before .before .before .loop .inv) (ap wrapsOf (sym (c .before .before .operand .ensures)) ∙ sym (c .before .wraps .ensures) ∙ c .if1 .taken)
+run-term-loop-again t c = inwards-goes _ _ _ _ _ _ _ _ _ (c .before .before .before .loop .inv) (ap wrapsOf (sym (c .before .before .field-at .ensures)) ∙ sym (c .before .wraps .ensures) ∙ c .if1 .taken)
 
 run-term-add-inmost : (t : ℕ) → run-term-lts.Need-add-inmost (run-term-claims t) (run-term-at t) run-term.Post run-term-Inv-loop run-term-μ-loop run-term-Inv-loop2 run-term-μ-loop2
 run-term-add-inmost t c = omega (arith, inwards-room _ _ _ _ _ _ _ _ _ (c .before .before .before .loop .inv))
@@ -282,10 +282,10 @@ run-term-run-inmost-requires : (t : ℕ) → run-term-lts.Need-run-inmost-requir
 run-term-run-inmost-requires t c κs =
     let at-if1 = c .before .before in
     let at-wraps = at-if1 .before in
-    let at-operand = at-wraps .before in
-    let at-loop = at-operand .before in
+    let at-field-at = at-wraps .before in
+    let at-loop = at-field-at .before in
     let start = at-loop .before .before .before .before in
-    (omega (arith, start .pre .0), (inwards-here _ _ _ _ _ _ _ _ _ (at-loop .loop .inv), ap wrapsOf (sym (at-operand .operand .ensures)) ∙ sym (at-wraps .wraps .ensures) ∙ at-if1 .if1 .left))
+    (omega (arith, start .pre .0), (inwards-here _ _ _ _ _ _ _ _ _ (at-loop .loop .inv), ap wrapsOf (sym (at-field-at .field-at .ensures)) ∙ sym (at-wraps .wraps .ensures) ∙ at-if1 .if1 .left))
 
 run-term-loop2-holds : (t : ℕ) → run-term-lts.Need-loop2-holds (run-term-claims t) (run-term-at t) run-term.Post run-term-Inv-loop run-term-μ-loop run-term-Inv-loop2 run-term-μ-loop2
 run-term-loop2-holds t c =
@@ -347,8 +347,8 @@ pub +run-block+run-inmost+run-term-spec : {M : Type 1} → statement M
     run-block.Post
     run-block-Inv-loop
     run-block-μ-loop
-    (run-block-operand-requires t)
-    (run-block-wide-requires t)
+    (run-block-field-at-requires t)
+    (run-block-index-of-requires t)
     (run-block-entered-requires t)
     (run-block-loop-holds t)
     (run-block-drop-any-requires t)
@@ -368,7 +368,7 @@ pub +run-block+run-inmost+run-term-spec : {M : Type 1} → statement M
     (run-block-returns-3 t))
     (λ t. run-inmost-lts.spec (run-inmost-claims t) (run-inmost-at t)
     run-inmost.Post
-    (run-inmost-operand-requires t)
+    (run-inmost-field-at-requires t)
     (run-inmost-sub-run-block t)
     (run-inmost-run-block-requires t)
     (run-inmost-close-block-requires t)
@@ -385,8 +385,8 @@ pub +run-block+run-inmost+run-term-spec : {M : Type 1} → statement M
     run-term-Inv-loop2
     run-term-μ-loop2
     (run-term-loop-holds t)
-    (run-term-add-operand t)
-    (run-term-operand-requires t)
+    (run-term-add-field-at t)
+    (run-term-field-at-requires t)
     (run-term-wraps-requires t)
     (run-term-add-around t)
     (run-term-loop-less t)

@@ -33,9 +33,9 @@ use Rattle.ownership.proofs.judge.+judge_block+judge_inmost+judge_term.
 use Rattle.ownership.proofs.judge.judge_after.Reads as judge-after-reads
 use Rattle.ownership.proofs.judge.judge_before.Reads as judge-before-reads
 use Rattle.ownership.proofs.judge.judge_leaf.Reads as judge-leaf-reads
-use Rattle.reader.proofs.wraps.Reads as wraps-reads
-use Rattle.ownership.proofs.row.index_at.Reads as index-at-reads
-use Rattle.ownership.proofs.row.number_at.Reads as number-at-reads
+use Rattle.reader.proofs.kinds.wraps.Reads as wraps-reads
+use Rattle.reader.proofs.fields.index_at.Reads as index-at-reads
+use Rattle.reader.proofs.fields.field_at.Reads as field-at-reads
 use Rattle.ownership.proofs.row.place_at.Reads as place-at-reads
 use Rattle.rules.proofs.judge_block_end.Reads as judge-block-end-reads
 use Rattle.ownership.proofs.judge.+judge_block+judge_inmost+judge_term.{statement}
@@ -97,10 +97,10 @@ abbrev judge-block-claims : ℕ → judge-block-lts.Claims
 judge-block-claims t = (judge-term-below t, judge-term.Post)
 
 abbrev judge-inmost-claims : ℕ → judge-inmost-lts.Claims
-judge-inmost-claims t = (number-at-reads.Asked, number-at-reads.Learnt, index-at-reads.Asked, index-at-reads.Learnt, judge-block-below t, judge-block.Post, judge-block-end-reads.Asked, judge-block-end-reads.Learnt, place-at-reads.Asked, place-at-reads.Learnt, judge-leaf-reads.Asked, judge-leaf-reads.Learnt)
+judge-inmost-claims t = (field-at-reads.Asked, field-at-reads.Learnt, index-at-reads.Asked, index-at-reads.Learnt, judge-block-below t, judge-block.Post, judge-block-end-reads.Asked, judge-block-end-reads.Learnt, place-at-reads.Asked, place-at-reads.Learnt, judge-leaf-reads.Asked, judge-leaf-reads.Learnt)
 
 abbrev judge-term-claims : ℕ → judge-term-lts.Claims
-judge-term-claims t = (number-at-reads.Asked, number-at-reads.Learnt, wraps-reads.Asked, wraps-reads.Learnt, judge-before-reads.Asked, judge-before-reads.Learnt, judge-inmost-below t, judge-inmost.Post, judge-after-reads.Asked, judge-after-reads.Learnt)
+judge-term-claims t = (field-at-reads.Asked, field-at-reads.Learnt, wraps-reads.Asked, wraps-reads.Learnt, judge-before-reads.Asked, judge-before-reads.Learnt, judge-inmost-below t, judge-inmost.Post, judge-after-reads.Asked, judge-after-reads.Learnt)
 
 judge-block-loop-holds : (t : ℕ) → judge-block-lts.Need-loop-holds (judge-block-claims t) (judge-block-at t) judge-block.Post judge-block-Inv-loop judge-block-μ-loop
 judge-block-loop-holds t c = (c .before .before .pre .1 .0, refl, c .before .before .pre .1 .1, value.None, refl, refl)
@@ -152,8 +152,8 @@ judge-block-returns-2 t c =
 judge-inmost-add-next : (t : ℕ) → judge-inmost-lts.Need-add-next (judge-inmost-claims t) (judge-inmost-at t) judge-inmost.Post
 judge-inmost-add-next t c = omega (arith, has-room _ _ _ _ (c .before .before .pre .1 .0))
 
-judge-inmost-number-at-requires : (t : ℕ) → judge-inmost-lts.Need-number-at-requires (judge-inmost-claims t) (judge-inmost-at t) judge-inmost.Post
-judge-inmost-number-at-requires t c κs = (has-room _ _ _ _ (c .before .before .pre .1 .0), omega arith)
+judge-inmost-field-at-requires : (t : ℕ) → judge-inmost-lts.Need-field-at-requires (judge-inmost-claims t) (judge-inmost-at t) judge-inmost.Post
+judge-inmost-field-at-requires t c κs = (has-room _ _ _ _ (c .before .before .pre .1 .0), omega arith)
 
 judge-inmost-index-at-requires : (t : ℕ) → judge-inmost-lts.Need-index-at-requires (judge-inmost-claims t) (judge-inmost-at t) judge-inmost.Post
 judge-inmost-index-at-requires t c κs = (has-room _ _ _ _ (c .before .before .before .before .pre .1 .0), omega arith)
@@ -167,7 +167,7 @@ judge-inmost-add-judge-block t c = omega (arith, c .before .before .before .befo
 judge-inmost-judge-block-requires : (t : ℕ) → judge-inmost-lts.Need-judge-block-requires (judge-inmost-claims t) (judge-inmost-at t) judge-inmost.Post
 judge-inmost-judge-block-requires t c κs =
     let p = c .before .before .before .before .before .before .pre in
-    let k = sym (c .before .before .before .number-at .ensures) ∙ c .before .before .if1 .taken in
+    let k = sym (c .before .before .before .field-at .ensures) ∙ c .before .before .if1 .taken in
     (omega (arith, p .0, has-level _ _ _ _ (p .1 .0)), (block-rest _ _ _ _ (p .1 .0) k _ (c .before .index-at .ensures), p .1 .2, omega (arith, p .1 .3, has-level _ _ _ _ (p .1 .0))))
 
 judge-inmost-enum-known-verdict : (t : ℕ) → judge-inmost-lts.Need-enum-known-verdict (judge-inmost-claims t) (judge-inmost-at t) judge-inmost.Post
@@ -184,9 +184,9 @@ judge-inmost-returns t c =
     let at-judge-block = c .before .before .before .before in
     let at-index-at = at-judge-block .before .before in
     let at-if1 = at-index-at .before in
-    let at-number-at = at-if1 .before in
-    let start = at-number-at .before .before .before in
-    let k = sym (at-number-at .number-at .ensures) ∙ at-if1 .if1 .taken in
+    let at-field-at = at-if1 .before in
+    let start = at-field-at .before .before .before in
+    let k = sym (at-field-at .field-at .ensures) ∙ at-if1 .if1 .taken in
     (block-refused _ _ _ _ (start .pre .1 .0) _ _ k _ (at-index-at .index-at .ensures) _ _ _ (at-judge-block .judge-block .ensures .0) _ _ (c .enum-told .given .1), at-judge-block .judge-block .ensures .1)
 
 judge-inmost-judge-block-end-requires : (t : ℕ) → judge-inmost-lts.Need-judge-block-end-requires (judge-inmost-claims t) (judge-inmost-at t) judge-inmost.Post
@@ -202,9 +202,9 @@ judge-inmost-returns-2 t c =
     let at-judge-block = at-verdict .before .before .before .before in
     let at-index-at = at-judge-block .before .before in
     let at-if1 = at-index-at .before in
-    let at-number-at = at-if1 .before in
-    let start = at-number-at .before .before .before in
-    let k = sym (at-number-at .number-at .ensures) ∙ at-if1 .if1 .taken in
+    let at-field-at = at-if1 .before in
+    let start = at-field-at .before .before .before in
+    let k = sym (at-field-at .field-at .ensures) ∙ at-if1 .if1 .taken in
     (block-fine _ _ _ _ (start .pre .1 .0) _ _ k _ (at-index-at .index-at .ensures) _ _ _ (at-judge-block .judge-block .ensures .0) _ (at-verdict .verdict .given .1) _ _ (at-judge-block-end .judge-block-end .ensures .0), at-judge-block-end .judge-block-end .ensures .1)
 
 judge-inmost-place-at-requires : (t : ℕ) → judge-inmost-lts.Need-place-at-requires (judge-inmost-claims t) (judge-inmost-at t) judge-inmost.Post
@@ -225,19 +225,19 @@ judge-inmost-returns-3 t c =
     let at-place-at2 = at-judge-leaf .before .before in
     let at-place-at = at-place-at2 .before in
     let at-if1 = at-place-at .before in
-    let at-number-at = at-if1 .before in
-    let p = at-number-at .before .before .before .pre .1 in
-    let k = at-number-at .number-at .ensures in
+    let at-field-at = at-if1 .before in
+    let p = at-field-at .before .before .before .pre .1 in
+    let k = at-field-at .field-at .ensures in
     (leaf-judged _ _ _ _ (p .0) _ _ _ k (not-wrapping k (p .1)) (at-if1 .if1 .left) _ _ (at-place-at .place-at .ensures) (at-place-at2 .place-at2 .ensures) _ _ (at-judge-leaf .judge-leaf .ensures .0), at-judge-leaf .judge-leaf .ensures .1)
 
 judge-term-loop-holds : (t : ℕ) → judge-term-lts.Need-loop-holds (judge-term-claims t) (judge-term-at t) judge-term.Post judge-term-Inv-loop judge-term-μ-loop judge-term-Inv-loop2 judge-term-μ-loop2
 judge-term-loop-holds t c = (refl, c .before .before .pre .1 .1, inwards-start _ _ _ _ _ _ (c .before .before .pre .1 .0))
 
-judge-term-add-number-at : (t : ℕ) → judge-term-lts.Need-add-number-at (judge-term-claims t) (judge-term-at t) judge-term.Post judge-term-Inv-loop judge-term-μ-loop judge-term-Inv-loop2 judge-term-μ-loop2
-judge-term-add-number-at t c = omega (arith, has-room _ _ _ _ (c .loop .inv .2 .inner))
+judge-term-add-field-at : (t : ℕ) → judge-term-lts.Need-add-field-at (judge-term-claims t) (judge-term-at t) judge-term.Post judge-term-Inv-loop judge-term-μ-loop judge-term-Inv-loop2 judge-term-μ-loop2
+judge-term-add-field-at t c = omega (arith, has-room _ _ _ _ (c .loop .inv .2 .inner))
 
-judge-term-number-at-requires : (t : ℕ) → judge-term-lts.Need-number-at-requires (judge-term-claims t) (judge-term-at t) judge-term.Post judge-term-Inv-loop judge-term-μ-loop judge-term-Inv-loop2 judge-term-μ-loop2
-judge-term-number-at-requires t c κs = (has-room _ _ _ _ (c .loop .inv .2 .inner), omega arith)
+judge-term-field-at-requires : (t : ℕ) → judge-term-lts.Need-field-at-requires (judge-term-claims t) (judge-term-at t) judge-term.Post judge-term-Inv-loop judge-term-μ-loop judge-term-Inv-loop2 judge-term-μ-loop2
+judge-term-field-at-requires t c κs = (has-room _ _ _ _ (c .loop .inv .2 .inner), omega arith)
 
 judge-term-wraps-requires : (t : ℕ) → judge-term-lts.Need-wraps-requires (judge-term-claims t) (judge-term-at t) judge-term.Post judge-term-Inv-loop judge-term-μ-loop judge-term-Inv-loop2 judge-term-μ-loop2
 judge-term-wraps-requires t c κs = search needs
@@ -249,7 +249,7 @@ judge-term-judge-before-requires : (t : ℕ) → judge-term-lts.Need-judge-befor
 judge-term-judge-before-requires t c κs =
     let at-wraps = c .before .before in
     let at-loop = at-wraps .before .before in
-    let w = sym (at-wraps .wraps .ensures ∙ ap wrapsOf (at-wraps .before .number-at .ensures)) ∙ c .before .if1 .taken in
+    let w = sym (at-wraps .wraps .ensures ∙ ap wrapsOf (at-wraps .before .field-at .ensures)) ∙ c .before .if1 .taken in
     (wrapped _ _ _ _ (at-loop .loop .inv .2 .inner) w, at-loop .loop .inv .1)
 
 judge-term-enum-known-begun : (t : ℕ) → judge-term-lts.Need-enum-known-begun (judge-term-claims t) (judge-term-at t) judge-term.Post judge-term-Inv-loop judge-term-μ-loop judge-term-Inv-loop2 judge-term-μ-loop2
@@ -266,7 +266,7 @@ judge-term-returns t c =
     let at-if1 = at-judge-before .before .before in
     let at-wraps = at-if1 .before in
     let at-loop = at-wraps .before .before in
-    let w = sym (at-wraps .wraps .ensures ∙ ap wrapsOf (at-wraps .before .number-at .ensures)) ∙ at-if1 .if1 .taken in
+    let w = sym (at-wraps .wraps .ensures ∙ ap wrapsOf (at-wraps .before .field-at .ensures)) ∙ at-if1 .if1 .taken in
     (inwards-refused _ _ _ _ _ _ _ _ (at-loop .loop .inv .2) w _ (refused-begun _ (at-begun .begun .given .1) (at-judge-before .judge-before .ensures .0)), at-judge-before .judge-before .ensures .1)
 
 judge-term-enum-told : (t : ℕ) → judge-term-lts.Need-enum-told (judge-term-claims t) (judge-term-at t) judge-term.Post judge-term-Inv-loop judge-term-μ-loop judge-term-Inv-loop2 judge-term-μ-loop2
@@ -284,7 +284,7 @@ judge-term-loop-again t c =
     let at-if1 = at-judge-before .before .before in
     let at-wraps = at-if1 .before in
     let at-loop = at-wraps .before .before in
-    let w = sym (at-wraps .wraps .ensures ∙ ap wrapsOf (at-wraps .before .number-at .ensures)) ∙ at-if1 .if1 .taken in
+    let w = sym (at-wraps .wraps .ensures ∙ ap wrapsOf (at-wraps .before .field-at .ensures)) ∙ at-if1 .if1 .taken in
     (at-judge-before .judge-before .kept .1 .1 .0 ∙ at-loop .loop .inv .0, at-judge-before .judge-before .ensures .1, inwards-more _ _ _ _ _ _ _ _ (at-loop .loop .inv .2) w _ (met-begun _ (c .enum-told .given .1) (at-judge-before .judge-before .ensures .0)))
 
 judge-term-add-judge-inmost : (t : ℕ) → judge-term-lts.Need-add-judge-inmost (judge-term-claims t) (judge-term-at t) judge-term.Post judge-term-Inv-loop judge-term-μ-loop judge-term-Inv-loop2 judge-term-μ-loop2
@@ -298,7 +298,7 @@ judge-term-judge-inmost-requires t c κs =
     let at-wraps = c .before .before in
     let at-loop = at-wraps .before .before in
     let p = at-loop .before .before .before .pre in
-    let w = sym (at-wraps .wraps .ensures ∙ ap wrapsOf (at-wraps .before .number-at .ensures)) ∙ c .before .if1 .left in
+    let w = sym (at-wraps .wraps .ensures ∙ ap wrapsOf (at-wraps .before .field-at .ensures)) ∙ c .before .if1 .left in
     (omega (arith, p .0), (at-loop .loop .inv .2 .inner, w, at-loop .loop .inv .1, omega (arith, p .1 .2)))
 
 judge-term-loop2-holds : (t : ℕ) → judge-term-lts.Need-loop2-holds (judge-term-claims t) (judge-term-at t) judge-term.Post judge-term-Inv-loop judge-term-μ-loop judge-term-Inv-loop2 judge-term-μ-loop2
@@ -354,7 +354,7 @@ pub +judge-block+judge-inmost+judge-term-spec : {M : Type 1} → statement M
     (λ t. judge-inmost-lts.spec (judge-inmost-claims t) (judge-inmost-at t)
     judge-inmost.Post
     (judge-inmost-add-next t)
-    (judge-inmost-number-at-requires t)
+    (judge-inmost-field-at-requires t)
     (judge-inmost-index-at-requires t)
     (judge-inmost-sub-judge-block t)
     (judge-inmost-add-judge-block t)
@@ -378,8 +378,8 @@ pub +judge-block+judge-inmost+judge-term-spec : {M : Type 1} → statement M
     judge-term-Inv-loop2
     judge-term-μ-loop2
     (judge-term-loop-holds t)
-    (judge-term-add-number-at t)
-    (judge-term-number-at-requires t)
+    (judge-term-add-field-at t)
+    (judge-term-field-at-requires t)
     (judge-term-wraps-requires t)
     (judge-term-add-judge-before t)
     (judge-term-judge-before-requires t)

@@ -15,8 +15,8 @@ enum-told c = search needs
 returns : tie.Need-returns
 returns c = (after-refused _ _ _ _ _ _ _ _ (c .enum-told .given .1), c .before .before .before .before .pre .1)
 
-number-at-requires : tie.Need-number-at-requires
-number-at-requires c κs = (c .before .before .before .before .before .pre .0 .room, omega arith)
+field-at-requires : tie.Need-field-at-requires
+field-at-requires c κs = (c .before .before .before .before .before .pre .0 .room, omega arith)
 
 judge-box-requires : tie.Need-judge-box-requires
 judge-box-requires c κs = search needs
@@ -26,9 +26,9 @@ index-at-requires c κs = (c .before .before .before .before .before .before .be
 
 judge-let-requires : tie.Need-judge-let-requires
 judge-let-requires c κs =
-    let at-number-at = c .before .before .before in
-    let start = at-number-at .before .before .before .before .before .before in
-    (start .pre .1, omega (arith, c .before .index-at .ensures, start .pre .0 .number (sym (at-number-at .number-at .ensures) ∙ c .before .before .match2 .keys2)))
+    let at-field-at = c .before .before .before in
+    let start = at-field-at .before .before .before .before .before .before in
+    (start .pre .1, omega (arith, c .before .index-at .ensures, start .pre .0 .number (sym (at-field-at .field-at .ensures) ∙ c .before .before .match2 .keys2)))
 
 place-at-requires : tie.Need-place-at-requires
 place-at-requires c κs = (c .before .before .before .before .before .before .before .pre .0 .room, omega arith)
@@ -38,10 +38,10 @@ judge-assign-requires c κs = search needs
 
 returns-2 : tie.Need-returns-2
 returns-2 c =
-    let at-number-at = c .before .before in
-    let at-verdict = at-number-at .before .before in
+    let at-field-at = c .before .before in
+    let at-verdict = at-field-at .before .before in
     let start = at-verdict .before .before .before .before in
-    (after-box _ _ _ _ _ _ _ (at-verdict .verdict .given .1) _ _ (sym (at-number-at .number-at .ensures) ∙ c .before .match2 .keys1) (c .judge-box .ensures _ _), start .pre .1)
+    (after-box _ _ _ _ _ _ _ (at-verdict .verdict .given .1) _ _ (sym (at-field-at .field-at .ensures) ∙ c .before .match2 .keys1) (c .judge-box .ensures _ _), start .pre .1)
 
 same-length : tie.Need-same-length
 same-length c = search needs
@@ -51,9 +51,9 @@ returns-3 c =
     let at-judge-let = c .before .before in
     let at-index-at = at-judge-let .before .before in
     let at-match2 = at-index-at .before in
-    let at-number-at = at-match2 .before in
-    let at-verdict = at-number-at .before .before in
-    (after-let _ _ _ _ _ _ _ (at-verdict .verdict .given .1) _ _ (sym (at-number-at .number-at .ensures) ∙ at-match2 .match2 .keys2) _ (at-index-at .index-at .ensures) (at-judge-let .judge-let .ensures .0), at-judge-let .judge-let .ensures .1)
+    let at-field-at = at-match2 .before in
+    let at-verdict = at-field-at .before .before in
+    (after-let _ _ _ _ _ _ _ (at-verdict .verdict .given .1) _ _ (sym (at-field-at .field-at .ensures) ∙ at-match2 .match2 .keys2) _ (at-index-at .index-at .ensures) (at-judge-let .judge-let .ensures .0), at-judge-let .judge-let .ensures .1)
 
 same-length-2 : tie.Need-same-length-2
 same-length-2 c = search needs
@@ -63,11 +63,11 @@ returns-4 c =
     let at-judge-assign = c .before .before in
     let at-place-at = at-judge-assign .before .before in
     let at-match2 = at-place-at .before in
-    let at-number-at = at-match2 .before in
-    let at-verdict = at-number-at .before .before in
+    let at-field-at = at-match2 .before in
+    let at-verdict = at-field-at .before .before in
     let start = at-verdict .before .before .before .before in
     let rest = at-match2 .match2 .rest in
-    let k = at-number-at .number-at .ensures in
+    let k = at-field-at .field-at .ensures in
     (after-assign _ _ _ _ _ _ _ (at-verdict .verdict .given .1) _ _ (start .pre .0) (λ e. rest .0 .1 (k ∙ e)) (λ e. rest .1 (k ∙ e)) _ (at-place-at .place-at .ensures) (at-judge-assign .judge-assign .ensures .0), at-judge-assign .judge-assign .ensures .1)
 
 pub judge-after-spec : {M : Type 1} → statement M
@@ -77,7 +77,7 @@ judge-after-spec =
     enum-known-verdict
     enum-told
     returns
-    number-at-requires
+    field-at-requires
     judge-box-requires
     index-at-requires
     judge-let-requires

@@ -3,17 +3,17 @@ use borrow.Author.Needs.{needs}
 use Rattle.ownership.proofs.row.place_at.Statement.{statement}
 use Rattle.ownership.proofs.row.place_at.Tie as tie
 
-number-at-requires : tie.Need-number-at-requires
-number-at-requires c κs = search needs
+field-at-requires : tie.Need-field-at-requires
+field-at-requires c κs = search needs
 
-add-number-at : tie.Need-add-number-at
-add-number-at c = search needs
+add-field-at : tie.Need-add-field-at
+add-field-at c = search needs
 
-number-at-requires-2 : tie.Need-number-at-requires-2
-number-at-requires-2 c κs = search needs
+field-at-requires-2 : tie.Need-field-at-requires-2
+field-at-requires-2 c κs = search needs
 
 returns : tie.Need-returns
-returns c = rw (c .before .number-at .ensures, c .number-at2 .ensures)
+returns c = rw (c .before .field-at .ensures, c .field-at2 .ensures)
 
 pub place-at-spec : {M : Type 1} → statement M
-place-at-spec = tie.close (tie.spec number-at-requires add-number-at number-at-requires-2 returns)
+place-at-spec = tie.close (tie.spec field-at-requires add-field-at field-at-requires-2 returns)

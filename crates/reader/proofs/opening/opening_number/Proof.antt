@@ -1,5 +1,6 @@
 -- `reader::opening::opening_number` meets its contract: each test of the code is the test of `openingNumber` in the same place.
 -- Assumes nothing.
+use native.Mathlib.Omega.{arith}
 use mathlib.Core.Path.{_≡_}
 use mathlib.Core.Bool.{false, not, _&&_}
 use mathlib.Core.Logic.{⊎-elim}
@@ -23,6 +24,9 @@ returns c = rw (eq-eqb _ _ (c .if1 .taken))
 
 shared-slice-read-kind : tie.Need-shared-slice-read-kind
 shared-slice-read-kind c = search needs
+
+cast-kind : tie.Need-cast-kind
+cast-kind c = omega (arith, c .shared-slice-known .given 0)
 
 returns-2 : tie.Need-returns-2
 unfolding openingNumber
@@ -62,6 +66,7 @@ opening-number-spec =
     (tie.spec
     returns
     shared-slice-read-kind
+    cast-kind
     returns-2
     returns-3
     returns-4

@@ -26,9 +26,6 @@ read-two-places-requires c κs = search needs
 read-one-requires-3 : tie.Need-read-one-requires-3
 read-one-requires-3 c κs = search needs
 
-wide-requires : tie.Need-wide-requires
-wide-requires c κs = search needs
-
 read-place-requires : tie.Need-read-place-requires
 read-place-requires c κs = search needs
 
@@ -42,20 +39,20 @@ same-length-2 : tie.Need-same-length-2
 same-length-2 c = search needs
 
 returns-2 : tie.Need-returns-2
-returns-2 c = rw (c .before .before .before .before .match .keys2, fields-reading) (c .before .before .read-one .ensures)
+returns-2 c = rw (c .before .before .before .before .match .keys2, fields-reading) (rw (c .before .before .before .before .match .keys2) at (c .before .before .read-one .ensures))
 
 same-length-3 : tie.Need-same-length-3
 same-length-3 c = search needs
 
 returns-3 : tie.Need-returns-3
 unfolding judgedFields valuesAt zeros
-returns-3 c = rw (c .before .before .before .before .match .keys3, fields-box) (refl, c .before .before .put-row .ensures)
+returns-3 c = rw (c .before .before .before .before .match .keys3, fields-box) (refl, rw (c .before .before .before .before .match .keys3) at (c .before .before .put-row .ensures))
 
 same-length-4 : tie.Need-same-length-4
 same-length-4 c = search needs
 
 returns-4 : tie.Need-returns-4
-returns-4 c = rw (c .before .before .before .before .match .keys4, fields-let) (c .before .before .read-one2 .ensures)
+returns-4 c = rw (c .before .before .before .before .match .keys4, fields-let) (rw (c .before .before .before .before .match .keys4) at (c .before .before .read-one2 .ensures))
 
 same-length-5 : tie.Need-same-length-5
 same-length-5 c = search needs
@@ -67,15 +64,15 @@ same-length-6 : tie.Need-same-length-6
 same-length-6 c = search needs
 
 returns-6 : tie.Need-returns-6
-returns-6 c = rw (c .before .before .before .before .match .keys6, fields-block) (c .before .before .read-one3 .ensures)
+returns-6 c = rw (c .before .before .before .before .match .keys6, fields-block) (rw (c .before .before .before .before .match .keys6) at (c .before .before .read-one3 .ensures))
 
 same-length-7 : tie.Need-same-length-7
 same-length-7 c = search needs
 
 returns-7 : tie.Need-returns-7
 returns-7 c =
-    let r = c .before .before .before .before .before .match .rest in
-    rw (fields-place _ (r .0 .0 .0 .0 .0 .1) (r .0 .0 .0 .0 .1) (r .0 .0 .0 .1) (r .0 .0 .1) (r .0 .1) (r .1) (c .before .before .before .before .before .before .before .before .pre .2), ← c .before .before .before .before .wide .ensures .0) (c .before .before .read-place .ensures)
+    let r = c .before .before .before .before .match .rest in
+    rw (fields-place _ (r .0 .0 .0 .0 .0 .1) (r .0 .0 .0 .0 .1) (r .0 .0 .0 .1) (r .0 .0 .1) (r .0 .1) (r .1) (c .before .before .before .before .before .before .before .pre .2)) (c .before .before .read-place .ensures)
 
 pub read-operands-spec : {M : Type 1} → statement M
 read-operands-spec =
@@ -87,7 +84,6 @@ read-operands-spec =
     read-one-requires-2
     read-two-places-requires
     read-one-requires-3
-    wide-requires
     read-place-requires
     same-length
     returns

@@ -13,8 +13,8 @@ returns : tie.Need-returns
 unfolding judgedFields
 returns c = (rw (lt-ltb _ _ (c .if1 .taken)), tt)
 
-word-requires : tie.Need-word-requires
-word-requires c κs = search needs
+word-at-requires : tie.Need-word-at-requires
+word-at-requires c κs = search needs
 
 put-row-requires : tie.Need-put-row-requires
 put-row-requires c κs = search needs
@@ -24,8 +24,8 @@ same-length c = search needs
 
 returns-2 : tie.Need-returns-2
 unfolding judgedFields valuesAt zeros
-returns-2 c = (rw (le-ltb _ _ (c .before .before .before .before .before .if1 .left)), rw (← c .before .before .before .before .word .ensures) (c .before .before .put-row .ensures))
+returns-2 c = (rw (le-ltb _ _ (c .before .before .before .before .before .if1 .left)), rw (← c .before .before .before .before .word-at .ensures) (c .before .before .put-row .ensures))
 
 pub read-word-spec : {M : Type 1} → statement M
 read-word-spec =
-    tie.close (tie.spec add-t9 returns word-requires put-row-requires same-length returns-2)
+    tie.close (tie.spec add-t9 returns word-at-requires put-row-requires same-length returns-2)

@@ -19,8 +19,8 @@ use Rattle.reader.proofs.rows.judge_term.Kinds as judge-term-kinds
 use Rattle.reader.proofs.rows.+judge_block+judge_term.Lts-judge_term as judge-term-lts
 use Rattle.reader.proofs.packed.counted.Reads as counted-reads
 use Rattle.reader.proofs.packed.refused.Reads as refused-reads
-use Rattle.reader.proofs.rows.boxes_with.Reads as boxes-with-reads
-use Rattle.reader.proofs.rows.field_at.Reads as field-at-reads
+use Rattle.reader.proofs.kinds.boxes_with.Reads as boxes-with-reads
+use Rattle.reader.proofs.fields.field_at.Reads as field-at-reads
 use Rattle.reader.proofs.rows.row_number.Reads as row-number-reads
 use Rattle.reader.proofs.rows.+judge_block+judge_term.{statement}
 use Rattle.reader.proofs.rows.+judge_block+judge_term.Tie.{close}
@@ -119,7 +119,7 @@ judge-term-returns t c =
 judge-term-field-at-requires : (t : ℕ) → judge-term-lts.Need-field-at-requires (judge-term-claims t) (judge-term-at t) judge-term.Post judge-term-Inv-loop judge-term-μ-loop
 judge-term-field-at-requires t c κs =
     let l = c .before .before .loop in
-    (l .inv .0 .full, entered _ _ _ _ _ (l .inv .0) _ (c .before .row-number .ensures) (c .if1 .left) .room, omega arith)
+    (omega (arith, l .inv .0 .full, entered _ _ _ _ _ (l .inv .0) _ (c .before .row-number .ensures) (c .if1 .left) .room), omega arith)
 
 judge-term-add-next : (t : ℕ) → judge-term-lts.Need-add-next (judge-term-claims t) (judge-term-at t) judge-term.Post judge-term-Inv-loop judge-term-μ-loop
 judge-term-add-next t c =
@@ -160,7 +160,7 @@ judge-term-sub-left t c =
 judge-term-field-at-requires-2 : (t : ℕ) → judge-term-lts.Need-field-at-requires-2 (judge-term-claims t) (judge-term-at t) judge-term.Post judge-term-Inv-loop judge-term-μ-loop
 judge-term-field-at-requires-2 t c κs =
     let l = c .before .before .before .before .before .before .loop in
-    (l .inv .0 .full, entered _ _ _ _ _ (l .inv .0) _ (c .before .before .before .before .before .row-number .ensures) (c .before .before .before .before .if1 .left) .room, omega arith)
+    (omega (arith, l .inv .0 .full, entered _ _ _ _ _ (l .inv .0) _ (c .before .before .before .before .before .row-number .ensures) (c .before .before .before .before .if1 .left) .room), omega arith)
 
 judge-term-cast-count : (t : ℕ) → judge-term-lts.Need-cast-count (judge-term-claims t) (judge-term-at t) judge-term.Post judge-term-Inv-loop judge-term-μ-loop
 judge-term-cast-count t c = search needs

@@ -23,7 +23,7 @@ use Rattle.reader.proofs.opening.opening_number.Reads as opening-number
 use Rattle.reader.proofs.operands.read_operands.Reads as read-operands-reads
 use Rattle.reader.proofs.packed.fine.Reads as fine-reads
 use Rattle.reader.proofs.packed.refused.Reads as refused-reads
-use Rattle.reader.proofs.terms.boxes_with.Reads as boxes-with-reads
+use Rattle.reader.proofs.kinds.boxes_with.Reads as boxes-with-reads
 use Rattle.reader.proofs.terms.+read_block+read_term.{statement}
 use Rattle.reader.proofs.terms.+read_block+read_term.Tie.{close}
 
@@ -124,6 +124,9 @@ read-term-returns t c =
 
 read-term-shared-slice-read-kind : (t : ℕ) → read-term-lts.Need-shared-slice-read-kind (read-term-claims t) (read-term-at t) read-term.Post
 read-term-shared-slice-read-kind t c = opening-clear _ _ _ (c .before .before .before .before .before .args .at) _ _ (c .before .before .before .before .before .pre .1 .few) (sym (c .before .before .opening-number .ensures) ∙ c .before .if1 .left) .bytes
+
+read-term-cast-kind : (t : ℕ) → read-term-lts.Need-cast-kind (read-term-claims t) (read-term-at t) read-term.Post
+read-term-cast-kind t c = omega (arith, c .shared-slice-known2 .given 0)
 
 read-term-read-operands-requires : (t : ℕ) → read-term-lts.Need-read-operands-requires (read-term-claims t) (read-term-at t) read-term.Post
 read-term-read-operands-requires t c κs =
@@ -281,6 +284,7 @@ pub +read-block+read-term-spec : {M : Type 1} → statement M
     (read-term-refused-requires t)
     (read-term-returns t)
     (read-term-shared-slice-read-kind t)
+    (read-term-cast-kind t)
     (read-term-read-operands-requires t)
     (read-term-enum-known-fields t)
     (read-term-refused-requires-2 t)

@@ -1,12 +1,4 @@
-// 01's sizes, the numbers in the store's rows, and 01's refusals and faults.
-
-pub const ROW_NUMBERS: usize = 2560;
-
-pub const STORE_NUMBERS: usize = 384;
-
-pub const READINGS: usize = 8;
-
-pub const LEVELS: usize = 16;
+// The numbers in the store's rows, and the faults.
 
 // "Rows 0 to 63 are variables, 64 to 127 are cells."
 pub const FIRST_CELL: usize = 64;
@@ -26,13 +18,6 @@ pub const NUMBER: u32 = 1;
 pub const OWNER: u32 = 2;
 
 pub const REFERENCE: u32 = 3;
-
-// By the caller.
-pub const ROWS_LENGTH: u32 = 2;
-
-pub const STORE_LENGTH: u32 = 3;
-
-pub const READINGS_LENGTH: u32 = 4;
 
 // By running what the check has not accepted.
 pub const NO_FAULT: u32 = 0;

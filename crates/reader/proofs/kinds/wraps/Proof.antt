@@ -1,8 +1,8 @@
--- `reader::rows::wraps` meets its contract. Assumes nothing.
+-- `reader::kinds::wraps` meets its contract. Assumes nothing.
 use borrow.Author.Tests.{eq-eqb, ne-eqb}
 use Rattle.reader.specs.Kinds.{byteOf, wrapsOf}
-use Rattle.reader.proofs.rows.wraps.Statement.{statement}
-use Rattle.reader.proofs.rows.wraps.Tie as tie
+use Rattle.reader.proofs.kinds.wraps.Statement.{statement}
+use Rattle.reader.proofs.kinds.wraps.Tie as tie
 
 returns : tie.Need-returns
 unfolding wrapsOf byteOf

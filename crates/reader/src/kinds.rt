@@ -1,0 +1,48 @@
+// The kinds of terms, as they stand in kind bytes and in term rows, and what the layers above ask of a kind too.
+ghost use mathlib.Core.Path.{_≡_};
+ghost use Prim.Native.Nat.{_≤_};
+ghost use Rattle.reader.specs.Kinds.{wrapsOf};
+ghost use Rattle.reader.specs.Parts.{boxesWith};
+
+pub const NUMBER: u32 = 1;
+
+pub const READING: u32 = 2;
+
+pub const COPY: u32 = 3;
+
+pub const MOVE: u32 = 4;
+
+pub const SHARED: u32 = 5;
+
+pub const EXCLUSIVE: u32 = 6;
+
+pub const BOX: u32 = 7;
+
+pub const LET: u32 = 8;
+
+pub const ASSIGN: u32 = 9;
+
+pub const BELOW: u32 = 10;
+
+pub const BLOCK: u32 = 11;
+
+// Box, let and assign stand around one inner term, which is in the next row.
+pub fn wraps(kind: u32) -> bool
+    ensures { λ r. ⌜ r ≡ wrapsOf kind ⌝ }
+{
+    if kind == BOX {
+        return true;
+    }
+    if kind == LET {
+        return true;
+    }
+    kind == ASSIGN
+}
+
+// The box terms so far, with a term of this kind.
+pub fn boxes_with(kind: u32, boxes: usize) -> usize
+    requires { ⌜ boxes ≤ 64 ⌝ }
+    ensures { λ r. ⌜ r ≡ boxesWith kind boxes ⌝ }
+{
+    if kind == BOX { boxes + 1 } else { boxes }
+}
