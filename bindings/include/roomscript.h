@@ -13,6 +13,17 @@
  * NULL and is aligned for its elements, for length 0 too; all of the length
  * can be read and, without const, written. A buffer taken without const
  * overlaps no other.
+ *
+ * For an empty buffer pass length 0 and the address of any object of the
+ * element's type, as an array of one element; nothing is read or written
+ * there. NULL will not do, nor malloc(0), which may be NULL. A script without
+ * bytes:
+ *
+ *     uint8_t none[1] = {0};
+ *     uint32_t rows[ROOMSCRIPT_ROWS_LEN];
+ *     roomscript_read(none, 0, rows, ROOMSCRIPT_ROWS_LEN);
+ *
+ * answers refusal 12 at place 0.
  */
 #ifndef ROOMSCRIPT_H
 #define ROOMSCRIPT_H

@@ -1,4 +1,4 @@
-/* Every function from C, on the first example and on some refusals and faults. */
+/* Every function from C, on the first example, on some refusals and faults, and on empty buffers. */
 #include <roomscript.h>
 
 #include <stdio.h>
@@ -127,9 +127,36 @@ static void call(void) {
     note("after E1", rows[0] == 11 && rows[1] == 4 && all(store, 0, STORE, 0));
 }
 
+/* An empty buffer is the address of one element, and length 0. */
+static void empty(void) {
+    static uint8_t bytes[1] = {9};
+    static uint32_t numbers[1] = {9};
+    static const int32_t none[1] = {9};
+    junk();
+    expect("read no bytes", roomscript_read(bytes, 0, rows, ROWS), 1, 12, 0);
+    note("rows after no bytes", all(rows, 0, ROWS, 0));
+    expect("read into no rows", roomscript_read(E1, 25, numbers, 0), 1, 2, 0);
+    expect("judge no rows", roomscript_judge_rows(numbers, 0), 1, 2, 0);
+    expect("write no rows", roomscript_write(numbers, 0, bytes, 0), 1, 2, 0);
+    expect("check no rows", roomscript_check(numbers, 0), 1, 2, 0);
+    expect("read E1", roomscript_read(E1, 25, rows, ROWS), 0, 0, 8);
+    expect("write to no output", roomscript_write(rows, ROWS, bytes, 0), 1, 5, 0);
+    expect_ran("run on no store",
+               roomscript_run(rows, ROWS, GIVEN, READINGS, numbers, 0), 1, 3, 0, 0);
+    expect_ran("run with no readings",
+               roomscript_run(rows, ROWS, none, 0, store, STORE), 1, 4, 0, 0);
+    expect_not_called("call of no bytes",
+                      roomscript_call(bytes, 0, GIVEN, READINGS, rows, ROWS, store, STORE), 12, 0);
+    expect_not_called("call with nothing",
+                      roomscript_call(bytes, 0, none, 0, numbers, 0, store, 0), 2, 0);
+    note("the element of an empty buffer",
+         bytes[0] == 9 && numbers[0] == 9 && all(store, 0, STORE, 9));
+}
+
 int main(void) {
     form();
     check_and_run();
     call();
+    empty();
     return failed;
 }
