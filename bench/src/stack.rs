@@ -19,7 +19,7 @@ fn build() -> Result<PathBuf> {
         .args(["-std=c99", "-O2", "-pthread", "-I"])
         .arg(root.join("bindings").join("include"))
         .arg(package.join("stack.c"))
-        .arg(root.join("target").join("staticlib").join("libroomscript.a"))
+        .arg(root.join("target/staticlib/libroomscript.a"))
         .arg("-o")
         .arg(&program)
         .status()?;

@@ -16,7 +16,7 @@ fn a_c_program_calls_every_function() {
         .args(["-std=c99", "-Wall", "-Wextra", "-Werror", "-pedantic", "-I"])
         .arg(package.join("include"))
         .arg(package.join("tests").join("header.c"))
-        .arg(root.join("target").join("staticlib").join("libroomscript.a"))
+        .arg(root.join("target/staticlib/libroomscript.a"))
         .arg("-o")
         .arg(&program)
         .status()

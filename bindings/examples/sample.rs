@@ -1,0 +1,22 @@
+//! Calls the first example's script from Rust, and prints the line that the
+//! program prints for it.
+
+use roomscript::{call, Called, Refusal, ROWS_LEN, STORE_LEN};
+
+const SCRIPT: [u8; 25] = [
+    0x52, 0x43, 0x53, 0x00, 0x01, 0x0B, 0x04, 0x08, 0x00, 0x02, 0x00, 0x08, 0x01, 0x02, 0x01, 0x08,
+    0x02, 0x05, 0x00, 0x00, 0x0A, 0x02, 0x01, 0x01, 0x00,
+];
+
+fn main() {
+    let readings = [185, 200, 0, 0, 0, 0, 0, 0];
+    let (mut rows, mut store) = ([0; ROWS_LEN], [0; STORE_LEN]);
+    match call(&SCRIPT, &readings, &mut rows, &mut store) {
+        Ok(Called {
+            terms,
+            answer,
+            cells,
+        }) => println!("accepted {terms} call {answer} cells {cells}"),
+        Err(Refusal { number, place }) => println!("refused {number} at {place}"),
+    }
+}

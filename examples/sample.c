@@ -1,0 +1,21 @@
+/* Calls the first example's script from C, and prints the line that the program prints for it. */
+#include <roomscript.h>
+#include <stdio.h>
+
+int main(void) {
+    static const uint8_t script[] = {0x52, 0x43, 0x53, 0x00, 0x01, 0x0B, 0x04, 0x08, 0x00,
+                                     0x02, 0x00, 0x08, 0x01, 0x02, 0x01, 0x08, 0x02, 0x05,
+                                     0x00, 0x00, 0x0A, 0x02, 0x01, 0x01, 0x00};
+    static const int32_t readings[ROOMSCRIPT_READINGS_LEN] = {185, 200};
+    static uint32_t rows[ROOMSCRIPT_ROWS_LEN], store[ROOMSCRIPT_STORE_LEN];
+    roomscript_called called =
+        roomscript_call(script, sizeof script, readings, ROOMSCRIPT_READINGS_LEN, rows,
+                        ROOMSCRIPT_ROWS_LEN, store, ROOMSCRIPT_STORE_LEN);
+    if (called.refused) {
+        printf("refused %lu at %lu\n", (unsigned long)called.number, (unsigned long)called.place);
+    } else {
+        printf("accepted %lu call %ld cells %lu\n", (unsigned long)called.terms,
+               (long)called.answer, (unsigned long)called.cells);
+    }
+    return 0;
+}
