@@ -105,8 +105,35 @@ pub fn edges() -> Vec<Example> {
     edges
 }
 
+/// Answers below 0 and at both ends of their range, from a reading, from a
+/// number of the script and from a reading in a box.
+pub fn answers() -> Vec<Example> {
+    let boxed_last = [let_(0, boxed(reading(7))), copy((0, 1))];
+    let mut answers = vec![
+        example(
+            "negative",
+            &script_of(&[reading(0)]),
+            "accepted 2 call -10 cells 0",
+        ),
+        example(
+            "smallest",
+            &script_of(&[number(i32::MIN)]),
+            "accepted 2 call -2147483648 cells 0",
+        ),
+        example(
+            "largest",
+            &script_of(&boxed_last),
+            "accepted 5 call 2147483647 cells 1",
+        ),
+    ];
+    answers[0].input[..4].copy_from_slice(&(-10i32).to_be_bytes());
+    answers[2].input[28..32].copy_from_slice(&i32::MAX.to_be_bytes());
+    answers
+}
+
 pub fn all() -> Vec<Example> {
     let mut all = listed();
     all.extend(edges());
+    all.extend(answers());
     all
 }

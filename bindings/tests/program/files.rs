@@ -1,7 +1,7 @@
 //! The files in `examples/`: an input, and beside it the line that the program
 //! prints for it.
 //!
-//! `ROOMSCRIPT_WRITE_EXAMPLES=1 cargo test --offline --test program files`
+//! `ROOMSCRIPT_WRITE_EXAMPLES=1 cargo test --offline --test program files_are`
 //! writes them anew from the table in `common/inputs.rs`.
 
 use crate::common::inputs;

@@ -70,7 +70,7 @@ fn very_long_inputs() {
 #[test]
 fn an_input_that_comes_in_pieces() {
     let pause = Duration::from_millis(2);
-    for example in inputs::listed().iter().chain(&inputs::edges()) {
+    for example in inputs::all() {
         let sizes = match example.input.len() {
             0..=200 => [1, 7, 32],
             _ => [500, 1000, 4096],
