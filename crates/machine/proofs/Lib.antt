@@ -10,6 +10,7 @@ pub mod DropLaws
 pub mod Kept
 pub mod RunOrder
 pub mod Counting
+pub mod FaultLaws
 -- The code: the lent numbers as a store, term rows as trees, and each part of the code against the rule that it is for.
 pub mod WordLaws
 pub mod LocateLaws

@@ -6,6 +6,7 @@ pub mod Locate
 pub mod Drop
 pub mod Run
 pub mod Boxes
+pub mod Faults
 -- What `run` answers; and what only the contracts of the code's parts are said with.
 pub mod Answers
 pub mod Words

@@ -67,12 +67,15 @@ fitCalled (err e) rows store made = (refused (e .0) (e .1), (rows, store))
 unfoldable pub callOf : Limits → List ℕ → List ℤ → List ℕ → List ℕ → CallMade
 callOf l script readings rows store = fitCalled (callFits l script readings rows store) rows store (parsedCalled l readings store (parse l script))
 
--- Demand 3, from the bytes on: the run of a script that is read and accepted is safe, whatever the store was before, and where the call
--- answers, the store is all 0 but for the cells taken, which are 2, 0, 0.
-pub record SafeCall (l : Limits) (script : List ℕ) (readings : List ℤ) (r : Called) (before after : List ℕ) : Type 0 where
+-- The safety of accepted scripts, from the bytes on: the run of a script that is read and accepted is safe, whatever the store was before.
+-- Where the call answers, it tells that script's terms and what its run comes to, and the store is all 0 but for the cells taken, which
+-- are 2, 0, 0. Where it refuses, the store is as it was.
+pub record SafeCall (l : Limits) (script : List ℕ) (readings : List ℤ) (r : CallAnswer) (before after : List ℕ) : Type 0 where
   pub safe : (t : Term) → parse l script ≡ ok t → judgeScript (l .variables) t ≡ ok tt → (earlier : Store) → Safe l t (bitsOf readings) earlier
-  pub tidy : (n : ℕ) (a : ℤ) (c : ℕ) → toldCall r ≡ called n a c → after ≡ closedRows (l .variables) ++ (givenRows c ++ closedRows (l .boxes - c))
-  pub untouched : (n p : ℕ) → toldCall r ≡ refused n p → after ≡ before
+  pub answers : (n : ℕ) (a : ℤ) (c : ℕ) → r ≡ called n a c
+      → (t : Term) × (parse l script ≡ ok t) × (n ≡ size t) × (s : Safe l t (bitsOf readings) (λ x. closed)) × (a ≡ toZ w32 (s .answer)) × (c ≡ s .final .taken)
+  pub tidy : (n : ℕ) (a : ℤ) (c : ℕ) → r ≡ called n a c → after ≡ closedRows (l .variables) ++ (givenRows c ++ closedRows (l .boxes - c))
+  pub untouched : (n p : ℕ) → r ≡ refused n p → after ≡ before
 
 -- "eight readings of 4 bytes, high byte first": the one in the bytes from `at` on, 0 where there are not four.
 unfoldable pub readingAt : List ℕ → ℕ → ℤ

@@ -61,7 +61,7 @@ fn run_checked(terms: usize, rows: &[u32], readings: &[i32], store: &mut [u32]) 
 // ownership rules (30 to 43) leave the rows of the script. In all of these the store is unchanged.
 pub fn call(script: &[u8], readings: &[i32], rows: &mut [u32], store: &mut [u32]) -> Called
     ensures answered { λ r. ⌜ (toldCall r, (now (rows .exit), now (store .exit))) ≡ callOf base (now (script .entry)) (now (readings .entry)) (now (rows .entry)) (now (store .entry)) ⌝ }
-    ensures safe { λ r. ⌜ SafeCall base (now (script .entry)) (now (readings .entry)) r (now (store .entry)) (now (store .exit)) ⌝ }
+    ensures safe { λ r. ⌜ SafeCall base (now (script .entry)) (now (readings .entry)) (toldCall r) (now (store .entry)) (now (store .exit)) ⌝ }
 {
     let number = fit_number(script.len(), rows.len(), store.len(), readings.len());
     if number != 0 {

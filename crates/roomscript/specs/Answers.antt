@@ -1,7 +1,10 @@
--- Answers in C's form, field by field: 01's numbers and values, and 0 in every field that a case does not use.
+-- Answers in C's form, field by field: the numbers and values of the library's answers, and 0 in every field that a case does not use.
 use Prim.Native.Nat.{ℕ}
-use lib.IntN.{pos}
+use mathlib.Core.Path.{_≡_}
+use mathlib.Core.List.{List}
+use lib.IntN.{ℤ, pos}
 use Rattle.reader.specs.Result.{Result, ok, err, Refusal}
+use Rattle.reader.specs.Limits.{Limits}
 use Rattle.machine.specs.Answers as run
 use Rattle.room.specs.Calling as call
 use Rattle.roomscript.specs.declared.Answer.{Answer}
@@ -24,3 +27,7 @@ calledIn (call.refused n p) = record { refused = 1; number = n; answer = pos 0; 
 -- The answer so, with the lent memory afterwards as it is.
 abbrev pub inC : {A B M : Type 0} → (A → B) → A × M → B × M
 inC form r = (form (r .0), r .1)
+
+-- The answer is that of a safe call (LANGUAGE 7.4).
+abbrev pub SafeInC : Limits → List ℕ → List ℤ → Call → List ℕ → List ℕ → Type 0
+SafeInC l script readings r before after = (m : call.CallAnswer) × (r ≡ calledIn m) × call.SafeCall l script readings m before after

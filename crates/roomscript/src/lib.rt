@@ -5,14 +5,14 @@ ghost use Rattle.reader.specs.Answers.{told, readOf, judgedOf, writtenOf};
 ghost use Rattle.ownership.specs.Answers.{toldChecked, checkOf};
 ghost use Rattle.machine.specs.Answers.{toldRun, runOf};
 ghost use Rattle.room.specs.Calling.{toldCall, callOf};
-ghost use Rattle.roomscript.specs.Answers.{answerIn, ranIn, calledIn, inC};
+ghost use Rattle.roomscript.specs.Answers.{answerIn, ranIn, calledIn, inC, SafeInC};
 use machine::RunOutcome;
 use ownership::Checked;
 use reader::Outcome;
 use room::Called;
 
 // refused is 0 or 1. Where it is 0, value is the count (terms, or bytes written) and number is 0;
-// else number is 01's number and value the place.
+// else number is the refusal's number (LANGUAGE 5.1) and value its place.
 #[repr(C)]
 pub struct Answer {
     pub refused: u32,
@@ -165,7 +165,8 @@ pub extern "C" fn roomscript_call(
     rows: &mut [u32],
     store: &mut [u32],
 ) -> Call
-    ensures { λ r. ⌜ (r, (now (rows .exit), now (store .exit))) ≡ inC calledIn (callOf base (now (script .entry)) (now (readings .entry)) (now (rows .entry)) (now (store .entry))) ⌝ }
+    ensures answered { λ r. ⌜ (r, (now (rows .exit), now (store .exit))) ≡ inC calledIn (callOf base (now (script .entry)) (now (readings .entry)) (now (rows .entry)) (now (store .entry))) ⌝ }
+    ensures safe { λ r. ⌜ SafeInC base (now (script .entry)) (now (readings .entry)) r (now (store .entry)) (now (store .exit)) ⌝ }
 {
     c_called(room::call(script, readings, rows, store))
 }

@@ -20,6 +20,7 @@ use Rattle.machine.specs.Run.{Outcome, runBlockEnd, begun, run, runs, runScript
 use Rattle.machine.specs.Boxes.{boxesRun}
 use Rattle.safety.specs.Safety.{Safe, Demand3}
 use Rattle.machine.proofs.Apart.{err≢ok}
+use Rattle.machine.proofs.FaultLaws.{met-faults}
 use Rattle.machine.proofs.Results.{then, needed}
 use Rattle.safety.proofs.EndNumbers.{end-numbers}
 use Rattle.machine.proofs.CellCounts.{count-given}
@@ -59,7 +60,7 @@ module _ (l : Limits) (i : ℕ) (ts : Terms) (within : Within l (block i ts)) (r
     final = s;
     answer = n;
     ends = run;
-    faultless = λ f q. err≢ok (sym q ∙ run);
+    faultless = λ f m. err≢ok (sym (met-faults readings m) ∙ run);
     variables = variable-closed J op nil;
     untaken = J .mem .untaken;
     given = cell-given J op nil;

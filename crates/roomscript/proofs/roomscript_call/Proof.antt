@@ -18,7 +18,9 @@ same-length-2 : tie.Need-same-length-2
 same-length-2 c = search needs
 
 returns : tie.Need-returns
-returns c = rw (c .c-called .ensures) (ap (inC calledIn) (c .before .before .before .before .before .call .ensures .0))
+returns c =
+    let called = c .before .before .before .before .before .call .ensures in
+    (rw (c .c-called .ensures) (ap (inC calledIn) (called .0)), (_, c .c-called .ensures, called .1))
 
 pub roomscript-call-spec : {M : Type 1} → statement M
 roomscript-call-spec =
