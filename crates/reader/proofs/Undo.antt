@@ -1,7 +1,7 @@
--- "Reading and writing a script undo each other both ways", as facts about what `read` and `write` answer and leave.
+-- Reading and writing undo each other: the proofs of the statements in specs/Undo.
 use Prim.Native.Nat.{ℕ, _≤_}
 use native.Mathlib.Omega.{arith}
-use mathlib.Core.Path.{_≡_, refl, sym, ap, _∙_, subst}
+use mathlib.Core.Path.{_≡_, refl, sym, ap, ap₂, _∙_, subst}
 use mathlib.Core.List.{List, _++_}
 use lib.ListN.{length, take, drop}
 use lib.Seq.{take-at}
@@ -14,7 +14,9 @@ use Rattle.reader.specs.Layout.{bytesOf, rowsOf}
 use Rattle.reader.specs.Reader.{parse}
 use Rattle.reader.specs.Measures.{size, byteLength}
 use Rattle.reader.specs.Within.{Under, Within}
-use Rattle.reader.specs.Answers.{Answered, lengthsFit, parsedInto, onFit, readOf, rowsTree, writable, writtenInto, writtenOf}
+use Rattle.reader.specs.Answers.{Answered, lengthsFit, parsedInto, onFit, readOf, rowsTree, judgedOf, writable, writtenInto, writtenOf}
+use Rattle.reader.specs.Undo.{ReadAfterWrite, WriteAfterRead, JudgedAreRead}
+use Rattle.reader.proofs.Promise.{tree-decoded}
 use Rattle.reader.proofs.Answers.{err-ok, then, needed}
 use Rattle.reader.proofs.RoundTrip.{parsed, parses, decoded, decodes, byte-length, byte-bound, rows-length}
 
@@ -69,22 +71,33 @@ writes-tree : (t : Term) (output : List ℕ) → Within base t → length (bytes
 unfolding writtenOf writtenInto writable rowsTree need _>>=_
 writes-tree t output i l = rw (eq-eqb (length (rowsOf base t)) (rowNumbers base) (rows-length base t i), decodes base t i, le-leb (length (bytesOf t)) (length output) l)
 
+-- A tree's rows are judged as its number of terms.
+judges-tree : (t : Term) → Within base t → judgedOf base (rowsOf base t) ≡ ok (size t)
+unfolding judgedOf rowsTree need _>>=_
+judges-tree t i = rw (eq-eqb (length (rowsOf base t)) (rowNumbers base) (rows-length base t i), decodes base t i)
+
 -- ---- both ways
 
--- What `write` wrote is read, and gives the rows back. `Under` is what the type of a slice of u32 says.
-pub read-after-write : (rows output : List ℕ) (n : ℕ) (output′ others : List ℕ) → Under 4294967296 rows → length others ≡ rowNumbers base → writtenOf base rows output ≡ (ok n, output′)
-    → (m : ℕ) × (readOf base (take n output′) others ≡ (ok m, rows))
+pub read-after-write : ReadAfterWrite base
 read-after-write rows output n output′ others u l h =
     let w = written-says rows output n output′ u h in
     let t = w .0 in
     let b : take n output′ ≡ bytesOf t = ap (take n) (w .4) ∙ take-at (bytesOf t) (drop (length (bytesOf t)) output) n (sym (w .3)) in
-    (size t, ap (λ (x : List ℕ). readOf base x others) b ∙ reads-tree t others (w .1) l ∙ ap (λ (x : List ℕ). (ok (size t), x)) (sym (w .2)))
+    (size t, ap (judgedOf base) (w .2) ∙ judges-tree t (w .1), ap (λ (x : List ℕ). readOf base x others) b ∙ reads-tree t others (w .1) l ∙ ap (λ (x : List ℕ). (ok (size t), x)) (sym (w .2)))
 
--- The rows that `read` read are written, and restore every byte, wherever the output has room for them.
-pub write-after-read : (script rows : List ℕ) (n : ℕ) (rows′ output : List ℕ) → Under 256 script → readOf base script rows ≡ (ok n, rows′) → length script ≤ length output
-    → writtenOf base rows′ output ≡ (ok (length script), script ++ drop (length script) output)
+pub write-after-read : WriteAfterRead base
 write-after-read script rows n rows′ output u h l =
     let r = read-says script rows n rows′ u h in
     let t = r .0 in
     let room : length (bytesOf t) ≤ length output = subst (λ (x : List ℕ). length x ≤ length output) (r .2) l in
-    ap (λ (x : List ℕ). writtenOf base x output) (r .4) ∙ writes-tree t output (r .1) room ∙ ap (λ (x : List ℕ). (ok (length x), x ++ drop (length x) output)) (sym (r .2))
+    (ap (judgedOf base) (r .4) ∙ judges-tree t (r .1) ∙ ap ok (sym (r .3)), ap (λ (x : List ℕ). writtenOf base x output) (r .4) ∙ writes-tree t output (r .1) room ∙ ap (λ (x : List ℕ). (ok (length x), x ++ drop (length x) output)) (sym (r .2)))
+
+pub judged-are-read : JudgedAreRead base
+unfolding judgedOf
+judged-are-read rows n others u l h =
+    let a = then (rowsTree base rows) (λ t. ok (size t)) n h in
+    let t = a .0 in
+    let c = tree-decoded base rows t (a .1) in
+    let d = decoded base rows t u (c .0) (c .1) in
+    let e : size t ≡ n = cc (a .2) in
+    (bytesOf t, reads-tree t others (d .1) l ∙ ap₂ (λ (k : ℕ) (x : List ℕ). (ok k, x)) e (sym (d .0)))

@@ -8,6 +8,7 @@ pub mod Reader
 pub mod Measures
 pub mod Within
 pub mod Answers
+pub mod Undo
 pub mod Parts
 pub mod ByteParts
 pub mod Lent

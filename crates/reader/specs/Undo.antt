@@ -1,0 +1,29 @@
+-- Reading and writing undo each other (LANGUAGE 7.3), said of what `read`, `judge_rows` and `write` answer and leave. `Under` says what the
+-- type of a lent slice says of its numbers.
+use Prim.Native.Nat.{ℕ, _≤_}
+use mathlib.Core.Path.{_≡_}
+use mathlib.Core.List.{List, _++_}
+use lib.ListN.{length, take, drop}
+use Rattle.reader.specs.Result.{ok}
+use Rattle.reader.specs.Limits.{Limits, rowNumbers}
+use Rattle.reader.specs.Within.{Under}
+use Rattle.reader.specs.Answers.{readOf, judgedOf, writtenOf}
+
+-- What `write` wrote is read as the rows that it was given, and as the number of terms that these rows have.
+abbrev pub ReadAfterWrite : Limits → Type 0
+ReadAfterWrite l =
+    (rows output : List ℕ) (n : ℕ) (output′ others : List ℕ) → Under 4294967296 rows → length others ≡ rowNumbers l → writtenOf l rows output ≡ (ok n, output′)
+    → (m : ℕ) × (judgedOf l rows ≡ ok m) × (readOf l (take n output′) others ≡ (ok m, rows))
+
+-- The rows that `read` left have the number of terms that it told, and are written as the script that it was given, wherever the output
+-- has room for it.
+abbrev pub WriteAfterRead : Limits → Type 0
+WriteAfterRead l =
+    (script rows : List ℕ) (n : ℕ) (rows′ output : List ℕ) → Under 256 script → readOf l script rows ≡ (ok n, rows′) → length script ≤ length output
+    → (judgedOf l rows′ ≡ ok n) × (writtenOf l rows′ output ≡ (ok (length script), script ++ drop (length script) output))
+
+-- Rows that `judge_rows` accepts are those that `read` leaves for some script.
+abbrev pub JudgedAreRead : Limits → Type 0
+JudgedAreRead l =
+    (rows : List ℕ) (n : ℕ) (others : List ℕ) → Under 4294967296 rows → length others ≡ rowNumbers l → judgedOf l rows ≡ ok n
+    → (script : List ℕ) × (readOf l script others ≡ (ok n, rows))
