@@ -1,6 +1,6 @@
 // Dropping a value, and closing variables.
 ghost use Prim.Native.Nat.{_<_, _≤_};
-ghost use lib.ListN.{length};
+ghost use lib.ListN.{length, getD};
 ghost use Rattle.machine.specs.Words.{Tidy, Sound};
 ghost use Rattle.machine.specs.Parts.{Dropped, ClosedOne, ClosedAll, Listed};
 use crate::numbers;
@@ -36,11 +36,12 @@ pub fn drop_any(store: &mut [u32], kind: u32, payload: u32) -> u32
     drop_value(store, kind, payload)
 }
 
-// "the row is set to 0, then the value dropped".
-pub fn close_variable(store: &mut [u32], x: usize) -> u32
-    requires { ⌜ Tidy (now store) × (x < 64) ⌝ }
-    ensures { λ r. ⌜ ClosedOne (now (store .entry)) x (now (store .exit)) r ⌝ }
+// Closes the variable that was opened as number k: its row is set to 0, then its value dropped.
+pub fn close_opened(store: &mut [u32], opened: &[u8], k: usize) -> u32
+    requires { ⌜ Tidy (now store) × (k < length (now opened)) × (getD (now opened) k 0 < 64) ⌝ }
+    ensures { λ r. ⌜ ClosedOne (now (store .entry)) (getD (now (opened .entry)) k 0) (now (store .exit)) r ⌝ }
 {
+    let x = opened[k] as usize;
     let value = load(store, x);
     put_row(store, x, numbers::CLOSED, numbers::EMPTY, 0);
     drop_any(store, value.kind, value.payload)
@@ -54,8 +55,7 @@ pub fn close_variables(store: &mut [u32], opened: &[u8], begin: usize, end: usiz
     let mut left = end;
     while begin < left {
         left -= 1;
-        let x = opened[left] as usize;
-        let fault = close_variable(store, x);
+        let fault = close_opened(store, opened, left);
         if fault != numbers::NO_FAULT {
             return fault;
         }

@@ -19,26 +19,20 @@ loop-holds c = closing-starts _ _ _ _ (c .before .before .pre .0) (c .before .be
 sub-left : tie.Need-sub-left Inv-loop μ-loop
 sub-left c = omega arith
 
-shared-slice-read-x : tie.Need-shared-slice-read-x Inv-loop μ-loop
-shared-slice-read-x c = search needs
-
-cast-x : tie.Need-cast-x Inv-loop μ-loop
-cast-x c = omega (arith, c .shared-slice-known2 .given (c .before .before .loop .left - 1))
-
-close-variable-requires : tie.Need-close-variable-requires Inv-loop μ-loop
-close-variable-requires c κs = (c .before .before .before .loop .inv .tidy, c .before .before .before .before .before .before .pre .3 (c .before .before .before .loop .left - 1) (omega (arith, c .before .before .before .loop .inv .few)))
+close-opened-requires : tie.Need-close-opened-requires Inv-loop μ-loop
+close-opened-requires c κs = (c .before .before .loop .inv .tidy, omega arith, c .before .before .before .before .before .pre .3 _ (omega (arith, c .before .before .loop .inv .few)))
 
 same-length : tie.Need-same-length Inv-loop μ-loop
-same-length c = c .before .before .before .close-variable .ensures .tidy .long ∙ sym (c .before .before .before .before .before .before .before .before .before .before .pre .0 .long)
+same-length c = c .before .before .before .close-opened .ensures .tidy .long ∙ sym (c .before .before .before .before .before .before .before .before .before .pre .0 .long)
 
 returns : tie.Need-returns Inv-loop μ-loop
-returns c = closing-stops _ _ _ _ _ _ (c .before .before .before .before .before .before .before .loop .inv) (c .before .before .before .before .before .before .loop-test .taken) _ refl _ _ (c .before .before .before .close-variable .ensures) (c .if1 .taken)
+returns c = closing-stops _ _ _ _ _ _ (c .before .before .before .before .before .before .loop .inv) (c .before .before .before .before .before .loop-test .taken) _ refl _ _ (c .before .before .before .close-opened .ensures) (c .if1 .taken)
 
 loop-less : tie.Need-loop-less Inv-loop μ-loop
 loop-less c = omega arith
 
 loop-again : tie.Need-loop-again Inv-loop μ-loop
-loop-again c = closing-goes _ _ _ _ _ _ (c .before .before .before .before .before .before .before .loop .inv) (c .before .before .before .before .before .before .loop-test .taken) _ refl _ _ (c .before .before .before .close-variable .ensures) (c .if1 .left)
+loop-again c = closing-goes _ _ _ _ _ _ (c .before .before .before .before .before .before .loop .inv) (c .before .before .before .before .before .loop-test .taken) _ refl _ _ (c .before .before .before .close-opened .ensures) (c .if1 .left)
 
 same-length-2 : tie.Need-same-length-2 Inv-loop μ-loop
 same-length-2 c = c .before .loop .inv .tidy .long ∙ sym (c .before .before .before .before .pre .0 .long)
@@ -54,9 +48,7 @@ close-variables-spec =
     μ-loop
     loop-holds
     sub-left
-    shared-slice-read-x
-    cast-x
-    close-variable-requires
+    close-opened-requires
     same-length
     returns
     loop-less

@@ -1,0 +1,34 @@
+-- The order of refusals at a kind byte (LANGUAGE 5.10): under limits so small that several are due at once, the definition gives the first.
+use Prim.Native.Nat.{ℕ}
+use mathlib.Core.Path.{_≡_, refl}
+use mathlib.Core.List.{List, [], _∷_}
+use Rattle.reader.specs.Result
+use Rattle.reader.specs.Result.{Result, err, Refusal, need}
+use Rattle.reader.specs.Limits.{Limits}
+use Rattle.reader.specs.Script.{Term}
+use Rattle.reader.specs.Kinds
+use Rattle.reader.specs.Reader
+use Rattle.reader.specs.Reader.{parse}
+
+-- No box, one variable, and so many terms and levels.
+abbrev few : ℕ → ℕ → Limits
+few terms levels = record { terms = terms; variables = 1; boxes = 0; levels = levels }
+
+-- Mark, version, and a block of one term, of which these bytes are there.
+abbrev blockOf : List ℕ → List ℕ
+blockOf bytes = 0x52 ∷ 0x43 ∷ 0x53 ∷ 0 ∷ 1 ∷ 0x0B ∷ 1 ∷ bytes
+
+-- No byte, an unknown kind, a box as the outermost term, and a box inside where a term, a level and a box are too many, each without
+-- the one before.
+pub order :
+    (parse (few 1 1) (blockOf []) ≡ err (12, 7))
+    × (parse (few 1 1) (blockOf (0x0C ∷ [])) ≡ err (13, 7))
+    × (parse (few 0 0) (0x52 ∷ 0x43 ∷ 0x53 ∷ 0 ∷ 1 ∷ 0x07 ∷ []) ≡ err (18, 5))
+    × (parse (few 1 1) (blockOf (0x07 ∷ [])) ≡ err (16, 7))
+    × (parse (few 2 1) (blockOf (0x07 ∷ [])) ≡ err (15, 7))
+    × (parse (few 2 2) (blockOf (0x07 ∷ [])) ≡ err (17, 7))
+unfolding
+    need Result._>>=_
+    Kinds.byteOf Kinds.kinds Kinds.among Kinds.kindOf Kinds.fields Kinds.placeOperands
+    Reader._>>=_ Reader.done Reader.placeIn Reader.expect Reader.first Reader.peek Reader.skip Reader.next Reader.ranged Reader.field Reader.operands Reader.restOfRow Reader.is Reader.boxesOf Reader.ended Reader.known Reader.kind Reader.opening Reader.counted Reader.several Reader.built Reader.term Reader.nothingLeft Reader.over Reader.script Reader.mark Reader.version Reader.leading Reader.answer Reader.parse
+order = (refl, refl, refl, refl, refl, refl)
