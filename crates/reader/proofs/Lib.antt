@@ -1,5 +1,4 @@
 -- The theorems on reading and writing scripts. They are about the definitions of specs/ alone, so every proof of a function can cite them.
-pub mod KindOrder
 pub mod Answers
 pub mod KindBytes
 pub mod TermSteps

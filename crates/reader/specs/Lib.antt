@@ -9,6 +9,7 @@ pub mod Measures
 pub mod Within
 pub mod Answers
 pub mod Undo
+pub mod KindOrder
 pub mod Parts
 pub mod ByteParts
 pub mod Lent

@@ -42,23 +42,23 @@ returns-4 c = rw (ne-eqb _ _ (c .before .before .before .before .before .if1 .le
 
 returns-5 : tie.Need-returns-5
 unfolding openingNumber
-returns-5 c = rw (ne-eqb _ _ (c .before .before .before .before .before .if1 .left), ne-eqb _ _ (c .before .before .before .if2 .left), le-ltb _ _ (c .before .before .if3 .left), no-18 (c .before), le-leb _ _ (c .if6 .taken))
+returns-5 c = rw (ne-eqb _ _ (c .before .before .before .before .before .if1 .left), ne-eqb _ _ (c .before .before .before .if2 .left), le-ltb _ _ (c .before .before .if3 .left), no-18 (c .before), le-leb 512 (c .before .before .before .before .before .before .args .terms) (c .if6 .taken))
 
 returns-6 : tie.Need-returns-6
 unfolding openingNumber
-returns-6 c = rw (ne-eqb _ _ (c .before .before .before .before .before .before .if1 .left), ne-eqb _ _ (c .before .before .before .before .if2 .left), le-ltb _ _ (c .before .before .before .if3 .left), no-18 (c .before .before), lt-leb _ _ (c .before .if6 .left), eq-eqb _ _ (c .if7 .taken))
+returns-6 c = rw (ne-eqb _ _ (c .before .before .before .before .before .before .if1 .left), ne-eqb _ _ (c .before .before .before .before .if2 .left), le-ltb _ _ (c .before .before .before .if3 .left), no-18 (c .before .before), lt-leb 512 (c .before .before .before .before .before .before .before .args .terms) (c .before .if6 .left), eq-eqb (c .before .before .before .before .before .before .before .args .levels) 0 (c .if7 .taken))
 
 returns-7 : tie.Need-returns-7
 unfolding openingNumber
-returns-7 c = rw (ne-eqb _ _ (c .before .before .before .before .before .before .before .before .if1 .left), ne-eqb _ _ (c .before .before .before .before .before .before .if2 .left), le-ltb _ _ (c .before .before .before .before .before .if3 .left), no-18 (c .before .before .before .before), lt-leb _ _ (c .before .before .before .if6 .left), ne-eqb _ _ (c .before .before .if7 .left), eq-eqb _ _ (c .before .if8 .taken), le-leb _ _ (c .if9 .taken))
+returns-7 c = rw (ne-eqb _ _ (c .before .before .before .before .before .before .before .before .if1 .left), ne-eqb _ _ (c .before .before .before .before .before .before .if2 .left), le-ltb _ _ (c .before .before .before .before .before .if3 .left), no-18 (c .before .before .before .before), lt-leb 512 (c .before .before .before .before .before .before .before .before .before .args .terms) (c .before .before .before .if6 .left), ne-eqb (c .before .before .before .before .before .before .before .before .before .args .levels) 0 (c .before .before .if7 .left), eq-eqb _ _ (c .before .if8 .taken), le-leb _ _ (c .if9 .taken))
 
 returns-8 : tie.Need-returns-8
 unfolding openingNumber
-returns-8 c = rw (ne-eqb _ _ (c .before .before .before .before .before .before .before .before .if1 .left), ne-eqb _ _ (c .before .before .before .before .before .before .if2 .left), le-ltb _ _ (c .before .before .before .before .before .if3 .left), no-18 (c .before .before .before .before), lt-leb _ _ (c .before .before .before .if6 .left), ne-eqb _ _ (c .before .before .if7 .left), eq-eqb _ _ (c .before .if8 .taken), lt-leb _ _ (c .if9 .left))
+returns-8 c = rw (ne-eqb _ _ (c .before .before .before .before .before .before .before .before .if1 .left), ne-eqb _ _ (c .before .before .before .before .before .before .if2 .left), le-ltb _ _ (c .before .before .before .before .before .if3 .left), no-18 (c .before .before .before .before), lt-leb 512 (c .before .before .before .before .before .before .before .before .before .args .terms) (c .before .before .before .if6 .left), ne-eqb (c .before .before .before .before .before .before .before .before .before .args .levels) 0 (c .before .before .if7 .left), eq-eqb _ _ (c .before .if8 .taken), lt-leb _ _ (c .if9 .left))
 
 returns-9 : tie.Need-returns-9
 unfolding openingNumber
-returns-9 c = rw (ne-eqb _ _ (c .before .before .before .before .before .before .before .if1 .left), ne-eqb _ _ (c .before .before .before .before .before .if2 .left), le-ltb _ _ (c .before .before .before .before .if3 .left), no-18 (c .before .before .before), lt-leb _ _ (c .before .before .if6 .left), ne-eqb _ _ (c .before .if7 .left), ne-eqb _ _ (c .if8 .left))
+returns-9 c = rw (ne-eqb _ _ (c .before .before .before .before .before .before .before .if1 .left), ne-eqb _ _ (c .before .before .before .before .before .if2 .left), le-ltb _ _ (c .before .before .before .before .if3 .left), no-18 (c .before .before .before), lt-leb 512 (c .before .before .before .before .before .before .before .before .args .terms) (c .before .before .if6 .left), ne-eqb (c .before .before .before .before .before .before .before .before .args .levels) 0 (c .before .if7 .left), ne-eqb _ _ (c .if8 .left))
 
 pub opening-number-spec : {M : Type 1} → statement M
 opening-number-spec =

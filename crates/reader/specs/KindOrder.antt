@@ -1,4 +1,4 @@
--- The order of refusals at a kind byte (LANGUAGE 5.10): under limits so small that several are due at once, the definition gives the first.
+-- The definition tried on the order of refusals at a kind byte (LANGUAGE 5.10): under limits so small that several are due at once, the definition gives the first.
 use Prim.Native.Nat.{ℕ}
 use mathlib.Core.Path.{_≡_, refl}
 use mathlib.Core.List.{List, [], _∷_}
@@ -29,6 +29,6 @@ pub order :
     × (parse (few 2 2) (blockOf (0x07 ∷ [])) ≡ err (17, 7))
 unfolding
     need Result._>>=_
-    Kinds.byteOf Kinds.kinds Kinds.among Kinds.kindOf Kinds.fields Kinds.placeOperands
+    Kinds.byteOf Kinds.kinds Kinds.among Kinds.kindOf Kinds.fields
     Reader._>>=_ Reader.done Reader.placeIn Reader.expect Reader.first Reader.peek Reader.skip Reader.next Reader.ranged Reader.field Reader.operands Reader.restOfRow Reader.is Reader.boxesOf Reader.ended Reader.known Reader.kind Reader.opening Reader.counted Reader.several Reader.built Reader.term Reader.nothingLeft Reader.over Reader.script Reader.mark Reader.version Reader.leading Reader.answer Reader.parse
 order = (refl, refl, refl, refl, refl, refl)
