@@ -1,5 +1,5 @@
--- Scripts that two of 01's named errors would misjudge: an assign's place judged before its right side, and lifetimes compared with
--- the variable named, not the one finally written.
+-- Scripts that two likely errors would misjudge (LANGUAGE 3.25, 3.26): an assign's place judged before its right side, and lifetimes compared
+-- with the variable named, not the one finally written.
 use Prim.Native.Nat.{ℕ}
 use mathlib.Core.Path.{_≡_, refl}
 use Rattle.reader.specs.Result.{err, need, _>>=_}

@@ -102,7 +102,7 @@ module _ (Γ : Environment) (r : ℕ) where
       go (yes e) rest = rw (update-same Γ x n s e, holders-past n x s (omega arith), e) (omega arith)
       go (no e) rest = let b = rest (omega arith) in rw (update-other Γ x n s e) (omega arith)
 
-  -- "Writing it is barred while some variable holds any such borrow."
+  -- Writing barred (LANGUAGE 3.12).
   pub held-any : (n : ℕ) → held borrowsAny n Γ r ≡ ltb 0 (holders n Γ r)
   unfolding held holders
   held-any zero = refl
@@ -131,7 +131,7 @@ module _ (Γ : Environment) (r : ℕ) where
       go true e rest h = let a = weight-exclusive (Γ n) r e in omega arith
       go false e rest h = let b = rest h in omega arith
 
-  -- "Reading a root is barred while some variable holds an exclusive borrow of a place with that root."
+  -- Reading barred (LANGUAGE 3.11).
   pub held-exclusive : (n : ℕ) → n ≤ 128 → held borrowsExclusive n Γ r ≡ leb 65536 (holders n Γ r)
   held-exclusive n h = go (held borrowsExclusive n Γ r) refl
     where

@@ -1,4 +1,4 @@
--- Who holds a borrow, and what that bars.
+-- Who holds a borrow (LANGUAGE 3.10), and what that bars (3.11, 3.12).
 use Prim.Native.Nat.{ℕ, zero, suc}
 use mathlib.Core.Bool.{Bool, true, false}
 use lib.Dec.{ltb, eqb}
@@ -6,21 +6,23 @@ use Rattle.reader.specs.Result.{pick}
 use Rattle.rules.specs.Links.{leadingBoxes}
 use Rattle.rules.specs.Environment.{Borrow, noBorrow, sharedOf, exclusiveOf, Variable, Slot, free, used, live, Environment}
 
--- A borrow of a place with the root, of either kind.
+-- A borrow of a place with the root, of either kind; its follows do not count (LANGUAGE 3.12).
 unfoldable pub borrowsAny : Borrow → ℕ → Bool
 borrowsAny noBorrow x = false
 borrowsAny (sharedOf p) x = eqb (p .root) x
 borrowsAny (exclusiveOf p) x = eqb (p .root) x
 
+-- The same, exclusive borrows only (LANGUAGE 3.11).
 unfoldable pub borrowsExclusive : Borrow → ℕ → Bool
 borrowsExclusive noBorrow x = false
 borrowsExclusive (sharedOf p) x = false
 borrowsExclusive (exclusiveOf p) x = eqb (p .root) x
 
--- "A variable holds that place while the link is not moved away."
+-- Holding (LANGUAGE 3.10): the first borrow link is not moved away.
 unfoldable pub holding : Variable → Bool
 holding v = ltb (leadingBoxes (v .chain)) (v .movedFrom)
 
+-- Variables in scope hold, nothing else does (LANGUAGE 3.10).
 unfoldable pub heldBy : (Borrow → ℕ → Bool) → Slot → ℕ → Bool
 heldBy h free x = false
 heldBy h used x = false
@@ -31,10 +33,10 @@ unfoldable pub held : (Borrow → ℕ → Bool) → ℕ → Environment → ℕ 
 held h zero Γ x = false
 held h (suc n) Γ x = pick (heldBy h (Γ n) x) true (held h n Γ x)
 
--- "Reading a root is barred while some variable holds an exclusive borrow of a place with that root."
+-- Reading barred (LANGUAGE 3.11): some variable holds an exclusive borrow of the root.
 abbrev pub readBarred : ℕ → Environment → ℕ → Bool
 readBarred nv Γ x = held borrowsExclusive nv Γ x
 
--- "Writing it is barred while some variable holds any such borrow."
+-- Writing barred (LANGUAGE 3.12): some variable holds a borrow of the root, of either kind.
 abbrev pub writeBarred : ℕ → Environment → ℕ → Bool
 writeBarred nv Γ x = held borrowsAny nv Γ x

@@ -1,4 +1,5 @@
--- A chain of links in one number: base 3 with the digits 1 box, 2 shared, 3 exclusive, the first link lowest. Each number is exactly one chain.
+-- A chain of links (LANGUAGE 3.2) in one number: base 3 with the digits 1 box, 2 shared, 3 exclusive, the first link lowest. Each number is
+-- exactly one chain. No rule of the language is stated here.
 use Prim.Native.Nat.{ℕ, zero, suc, _/_, _%_}
 use mathlib.Core.Bool.{Bool}
 use mathlib.Core.List.{List, [], _∷_}
@@ -33,6 +34,6 @@ unfoldable pub asRest : Rest → Option (List Link)
 asRest (rest.Links n) = some (chainOf n)
 asRest rest.TooShort = none
 
--- One more link makes at most 8.
+-- One more link makes at most 8 (LANGUAGE 3.2).
 abbrev pub oneMoreFits : ℕ → Bool
 oneMoreFits n = leb (suc (length (chainOf n))) maxLinks

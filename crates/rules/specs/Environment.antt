@@ -1,4 +1,4 @@
--- What is known of each variable number, and of a value.
+-- What is known of each variable number (LANGUAGE 3.6 to 3.9), and of a value (3.2, 3.3).
 use Prim.Native.Nat.{ℕ, suc}
 use mathlib.Core.Bool.{Bool, true, false}
 use mathlib.Core.List.{List}
@@ -7,20 +7,20 @@ use Rattle.reader.specs.Result.{pick}
 use Rattle.reader.specs.Script.{Place}
 use Rattle.rules.specs.Links.{Link, leadingBoxes}
 
--- The borrow end: "for the first borrow link, if it has one, which place is borrowed".
+-- The borrow end (LANGUAGE 3.3): the place that the first borrow link borrows, if there is such a link.
 pub data Borrow : Type 0 where
   noBorrow : Borrow
   sharedOf exclusiveOf : Place → Borrow
 
--- A variable in scope. Its links before `movedFrom` are whole, those from there on moved away; where nothing is
--- moved away, `movedFrom` is one past its boxes and its borrow link. `level` is that of "the innermost block around its let".
+-- A variable in scope (LANGUAGE 3.8). Its links before `movedFrom` are whole, those from there on moved away; where nothing is
+-- moved away, `movedFrom` is one past its own positions (3.9). `level` is that of the block that it lives in (3.7).
 pub record Variable : Type 0 where
   pub chain : List Link
   pub movedFrom : ℕ
   pub borrow : Borrow
   pub level : ℕ
 
--- A number: not taken; taken, its let not finished or its block left; or in scope.
+-- A number (LANGUAGE 3.6): free; taken, its let not finished or its block left; or in scope.
 pub data Slot : Type 0 where
   free used : Slot
   live : Variable → Slot
@@ -28,7 +28,7 @@ pub data Slot : Type 0 where
 abbrev pub Environment : Type 0
 Environment = ℕ → Slot
 
--- The links of a value, and its borrow end.
+-- The value of a term (LANGUAGE 3.3): its links, and its borrow end.
 pub record Ty : Type 0 where
   pub links : List Link
   pub borrow : Borrow
@@ -36,11 +36,11 @@ pub record Ty : Type 0 where
 unfoldable pub update : Environment → ℕ → Slot → Environment
 update Γ x s = λ y. pick (eqb x y) s (Γ y)
 
--- A variable with nothing moved away.
+-- A variable with nothing moved away, as its let leaves it (LANGUAGE 3.24).
 abbrev pub fresh : List Link → Borrow → ℕ → Variable
 fresh ks b l = record { chain = ks; movedFrom = suc (leadingBoxes ks); borrow = b; level = l }
 
--- "moved away from that link on".
+-- The mark of a move (LANGUAGE 3.20): moved away from position d on.
 abbrev pub movedAway : Variable → ℕ → Variable
 movedAway v d = record { chain = v .chain; movedFrom = d; borrow = v .borrow; level = v .level }
 
@@ -50,34 +50,37 @@ movedAwayAt free d = free
 movedAwayAt used d = used
 movedAwayAt (live v) d = live (movedAway v d)
 
--- A variable that a value is written to: whole again, with the new value's borrow end.
+-- A variable that a value is written to (LANGUAGE 3.25): whole again, with the new value's borrow end.
 abbrev pub refilled : Slot → Borrow → Slot
 refilled free b = free
 refilled used b = used
 refilled (live v) b = live (fresh (v .chain) b (v .level))
 
+-- Not taken (30; LANGUAGE 3.6).
 unfoldable pub isFree : Slot → Bool
 isFree free = true
 isFree used = false
 isFree (live v) = false
 
+-- The level of the block that the variable lives in (LANGUAGE 3.7).
 unfoldable pub levelOf : Slot → ℕ
 levelOf free = 0
 levelOf used = 0
 levelOf (live v) = v .level
 
+-- The borrow end of a variable in scope (LANGUAGE 3.8).
 unfoldable pub borrowOf : Slot → Borrow
 borrowOf free = noBorrow
 borrowOf used = noBorrow
 borrowOf (live v) = v .borrow
 
--- The borrowed root, if any, lives at the level or around it.
+-- The borrowed root, if any, lives at the level or around it (40; LANGUAGE 3.25, 3.28).
 unfoldable pub livesAt : Environment → Borrow → ℕ → Bool
 livesAt Γ noBorrow l = true
 livesAt Γ (sharedOf p) l = leb (levelOf (Γ (p .root))) l
 livesAt Γ (exclusiveOf p) l = leb (levelOf (Γ (p .root))) l
 
--- "its variables leave scope": those deeper than the level.
+-- The end of a block (LANGUAGE 3.28): the variables deeper than the level leave scope.
 unfoldable pub leaveSlot : ℕ → Slot → Slot
 leaveSlot l free = free
 leaveSlot l used = used

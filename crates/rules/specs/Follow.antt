@@ -1,4 +1,5 @@
--- Following a place: to one of a variable's own links, through its boxes, and beyond its borrow link through the borrowed place.
+-- Where a place leads (LANGUAGE 3.13): to one of a variable's own links, through its boxes, and beyond its borrow link through the borrowed
+-- place; what is moved away on its path (3.14), and whether a value is whole (3.15). Own link k stands for own position k (3.9).
 use Prim.Native.Nat.{ℕ, zero, suc, _+_, _-_}
 use mathlib.Core.Bool.{Bool, false}
 use mathlib.Core.Option.{Option, none, some}
@@ -13,12 +14,13 @@ use Rattle.rules.specs.Environment.{Borrow, noBorrow, sharedOf, exclusiv
 abbrev pub Follows : Type 0
 Follows = ℕ → ℕ → Option Place
 
--- "beyond that link, the borrowed place's own state counts".
+-- Beyond the first borrow link the place goes on from the borrowed place, whose own state counts (LANGUAGE 3.9, 3.13).
 unfoldable pub through : Borrow → ℕ → Follows → Option Place
 through noBorrow r go = none
 through (sharedOf p) r go = go (p .root) (p .follows + r)
 through (exclusiveOf p) r go = go (p .root) (p .follows + r)
 
+-- One variable of the path: an own link with no mark before it, or past its borrow link, which no mark may be before (LANGUAGE 3.13, 3.14).
 unfoldable pub followAt : Slot → ℕ → ℕ → Follows → Option Place
 followAt free x r go = none
 followAt used x r go = none
@@ -27,13 +29,13 @@ followAt (live v) x r go =
     (pick (leb r (v .movedFrom)) (some (record { root = x; follows = r })) none)
     (pick (ltb (leadingBoxes (v .chain)) (v .movedFrom)) (through (v .borrow) (r - suc (leadingBoxes (v .chain))) go) none)
 
--- Where r follows from variable x lead: a variable and one of its own links; none if something on the path is moved away.
--- The first argument bounds the variables passed. With the number of variables it never runs out in a state that judging reaches.
+-- Where r follows from variable x lead (LANGUAGE 3.13): a variable and one of its own links; none if something on the path is moved away
+-- (3.14). The first argument bounds the variables passed: with their number it never runs out in a state that judging reaches (7.5).
 unfoldable pub follow : ℕ → Environment → Follows
 follow zero Γ x r = none
 follow (suc n) Γ x r = followAt (Γ x) x r (λ y s. follow n Γ y s)
 
--- The variable's own link is not moved away.
+-- The variable's own link is not moved away (LANGUAGE 3.9).
 unfoldable pub wholeAt : Slot → ℕ → Bool
 wholeAt free d = false
 wholeAt used d = false
@@ -43,10 +45,10 @@ unfoldable pub wholeThere : Environment → Option Place → Bool
 wholeThere Γ none = false
 wholeThere Γ (some q) = wholeAt (Γ (q .root)) (q .follows)
 
--- Nothing is moved away of what the links of variable x lead to, to their end.
+-- Nothing is moved away of what the links of variable x lead to, to their end (LANGUAGE 3.15).
 abbrev pub wholeTo : ℕ → Environment → ℕ → List Link → Bool
 wholeTo nv Γ x ks = wholeThere Γ (follow nv Γ x (length ks))
 
--- Nothing of the value of variable x is moved away, to the end of its chain.
+-- Whole (LANGUAGE 3.15): nothing of the value of variable x is moved away, to the end of its chain.
 unfoldable pub valueWhole : ℕ → Environment → ℕ → Variable → Bool
 valueWhole nv Γ x v = wholeTo nv Γ x (v .chain)

@@ -1,4 +1,4 @@
--- The judge on trees: a term, a block's terms, and the whole script.
+-- The judge on trees (LANGUAGE 3.1): a term, a block's terms, and the whole script. An inner term's refusal is that of the script (3.17).
 use Prim.Native.Nat.{ℕ, suc}
 use mathlib.Core.Bool.{Bool, false}
 use mathlib.Core.Option.{Option, none, some}
@@ -9,7 +9,8 @@ use Rattle.rules.specs.Environment.{Environment, free, used, Ty, update,
 use Rattle.rules.specs.Rules.{Judged, Out, numberTy, judgeCopy, judgeMove, judgeShared, judgeExclusive, judgeBox, judgeLet, judgeAssign, judgeBelow, judgeBlockEnd}
 
 module _ (nv : ℕ) where
-  -- level is that of the innermost block around the term; a block's own is one more.
+  -- level is that of the innermost block around the term, in which a let's variable lives (LANGUAGE 3.7); a block's own is one more.
+  -- A number and a reading are never refused (3.18); each other case is the rule of its kind (3.19 to 3.28).
   unfoldable mutual
     pub judge : Term → ℕ → Environment → Judged Out
     judge (number i n) level Γ = ok (Γ, some numberTy)
@@ -19,28 +20,30 @@ module _ (nv : ℕ) where
     judge (borrowShared i p) level Γ = judgeShared nv Γ i p
     judge (borrowExclusive i p) level Γ = judgeExclusive nv Γ i p
     judge (box i t) level Γ = judge t level Γ >>= λ o. judgeBox nv (o .0) i (o .1)
-    -- "number not taken (30), taken from here on but in scope only afterwards".
+    -- Let (LANGUAGE 3.24): the number is free (30), and taken, but not in scope, while the inner term is judged.
     judge (declare i x t) level Γ =
         need (isFree (Γ x)) (30, i) >>= λ _.
         judge t level (update Γ x used) >>= λ o.
         judgeLet nv level (o .0) i x (o .1)
-    -- "right side first".
+    -- Assign (LANGUAGE 3.25): the right side first.
     judge (assign i p t) level Γ = judge t level Γ >>= λ o. judgeAssign nv (o .0) i p (o .1)
     judge (below i p q) level Γ = judgeBelow nv Γ i p q
     judge (block i ts) level Γ = judges ts (suc level) Γ >>= λ o. judgeBlockEnd nv level (o .0) i (o .1)
 
-    -- "its terms in order"; "a block has its last term's" value.
+    -- A block's terms in order (LANGUAGE 3.28), and the last one's value for the block's (3.4).
     pub judges : Terms → ℕ → Environment → Judged Out
     judges (last t) level Γ = judge t level Γ
     judges (more t ts) level Γ = judge t level Γ >>= λ o. judges ts level (o .0)
 
+  -- A value that is a number (LANGUAGE 3.29).
   abbrev pub isAnswer : Option Ty → Bool
   isAnswer none = false
   isAnswer (some t) = isNumber (t .links)
 
+  -- At first no number is taken (LANGUAGE 3.1).
   abbrev pub nothingTaken : Environment
   nothingTaken = λ x. free
 
-  -- "the whole script: the answer is a number (43, term 0)".
+  -- The script (LANGUAGE 3.29): after the outermost block the answer is a number (43 at 0).
   unfoldable pub judgeScript : Term → Judged (Unit {0})
   judgeScript t = judge t 0 nothingTaken >>= λ o. need (isAnswer (o .1)) (43, 0)

@@ -1,4 +1,5 @@
--- The ownership rules: types, variables, following places, bars, one definition per rule, the judge; then what the code's table and answers say in these terms.
+-- The ownership rules (LANGUAGE 3): types, variables, following places, bars, one definition per rule, the judge; then what the code's table
+-- and answers say in these terms.
 pub mod Links
 pub mod Environment
 pub mod Follow

@@ -1,4 +1,4 @@
--- One definition per ownership rule, its refusals in 01's order. nv is the number of variables, i the term.
+-- One definition per ownership rule (LANGUAGE 3.16 to 3.28), its tests in the rule's order (3.17). nv is the number of variables, i the term.
 use Prim.Native.Nat.{ℕ}
 use mathlib.Core.Bool.{not}
 use mathlib.Core.Option.{Option, none, some}
@@ -15,36 +15,37 @@ use Rattle.rules.specs.Bars.{readBarred, writeBarred}
 abbrev pub Judged : Type 0 → Type 0
 Judged A = Result Refusal A
 
--- The environment afterwards, and the value's type, if the term has a value.
+-- The environment afterwards, and the term's value, if it has one (LANGUAGE 3.3, 3.4).
 abbrev pub Out : Type 0
 Out = Environment × Option Ty
 
+-- The value of a number, a reading and a below (LANGUAGE 3.18, 3.27).
 abbrev pub numberTy : Ty
 numberTy = record { links = []; borrow = noBorrow }
 
--- 31.
+-- The root is in scope (31; LANGUAGE 3.16).
 unfoldable pub inScope : Slot → Refusal → Judged Variable
 inScope free e = err e
 inScope used e = err e
 inScope (live v) e = ok v
 
--- 33.
+-- Nothing is moved away on the path (33; LANGUAGE 3.14, 3.16).
 unfoldable pub reached : Option Place → Refusal → Judged Place
 reached none e = err e
 reached (some q) e = ok q
 
--- 41.
+-- The inner term has a value (41; LANGUAGE 3.23 to 3.25).
 unfoldable pub valued : Option Ty → Refusal → Judged Ty
 valued none e = err e
 valued (some t) e = ok t
 
--- The root's variable, and the own link of a variable that the place leads to.
+-- The root's variable, and the own link of a variable that the place leads to (LANGUAGE 3.13).
 pub record Located : Type 0 where
   pub root : Variable
   pub to : Place
 
 module _ (nv : ℕ) where
-  -- "Judging a place, in order: root in scope (31), long enough chain (32), nothing moved away on the path (33)."
+  -- Judging a place (LANGUAGE 3.16): the root is in scope (31), the chain is long enough (32), the path is not moved away (33).
   unfoldable pub judgePlace : Environment → ℕ → Place → Judged Located
   judgePlace Γ i p =
       inScope (Γ (p .root)) (31, i) >>= λ v.
@@ -52,7 +53,7 @@ module _ (nv : ℕ) where
       reached (follow nv Γ (p .root) (p .follows)) (33, i) >>= λ q.
       ok (record { root = v; to = q })
 
-  -- The place of copy, shared borrow and below: "place; value whole (33); reading not barred (34)".
+  -- The place of a copy, a shared borrow and a below (LANGUAGE 3.19, 3.21, 3.27): judged, its value whole (33), reading not barred (34).
   unfoldable pub judgeReadable : Environment → ℕ → Place → Judged Located
   judgeReadable Γ i p =
       judgePlace Γ i p >>= λ l.
@@ -60,7 +61,7 @@ module _ (nv : ℕ) where
       need (not (readBarred nv Γ (p .root))) (34, i) >>= λ _.
       ok l
 
-  -- "a number or a first link shared (37)".
+  -- Copy (LANGUAGE 3.19): the place is readable, then a number or a shared link (37). The copy borrows what the copied link borrows.
   unfoldable pub judgeCopy : Environment → ℕ → Place → Judged Out
   judgeCopy Γ i p =
       judgeReadable Γ i p >>= λ l.
@@ -68,7 +69,7 @@ module _ (nv : ℕ) where
       need (copies ks) (37, i) >>= λ _.
       ok (Γ, some (record { links = ks; borrow = pick (isNumber ks) noBorrow (borrowOf (Γ (l .to .root))) }))
 
-  -- "31, 32; no borrow link passed (38); path and value whole (33); writing not barred (35)".
+  -- Move (LANGUAGE 3.20): 31 and 32 of the place, no borrow link passed (38), the value whole (33), writing not barred (35); then the mark.
   unfoldable pub judgeMove : Environment → ℕ → Place → Judged Out
   judgeMove Γ i p =
       inScope (Γ (p .root)) (31, i) >>= λ v.
@@ -78,7 +79,7 @@ module _ (nv : ℕ) where
       need (not (writeBarred nv Γ (p .root))) (35, i) >>= λ _.
       ok (update Γ (p .root) (live (movedAway v (p .follows))), some (record { links = drop (p .follows) (v .chain); borrow = v .borrow }))
 
-  -- "result at most 8 links (42)".
+  -- Shared borrow (LANGUAGE 3.21): the place is readable, then a shared link more makes at most 8 (42).
   unfoldable pub judgeShared : Environment → ℕ → Place → Judged Out
   judgeShared Γ i p =
       judgeReadable Γ i p >>= λ l.
@@ -86,7 +87,7 @@ module _ (nv : ℕ) where
       need (leb (length ks) maxLinks) (42, i) >>= λ _.
       ok (Γ, some (record { links = ks; borrow = sharedOf p }))
 
-  -- "place; whole (33); only box and exclusive links passed (36); 35; 42".
+  -- Exclusive borrow (LANGUAGE 3.22): the place, its value whole (33), no shared link passed (36), writing not barred (35), at most 8 links (42).
   unfoldable pub judgeExclusive : Environment → ℕ → Place → Judged Out
   judgeExclusive Γ i p =
       judgePlace Γ i p >>= λ l.
@@ -97,7 +98,7 @@ module _ (nv : ℕ) where
       need (leb (length ks) maxLinks) (42, i) >>= λ _.
       ok (Γ, some (record { links = ks; borrow = exclusiveOf p }))
 
-  -- "inner term; it has a value (41); 42". o is the inner term's value.
+  -- Box (LANGUAGE 3.23), after the inner term, whose value is o: there is one (41), and a box link more makes at most 8 (42).
   unfoldable pub judgeBox : Environment → ℕ → Option Ty → Judged Out
   judgeBox Γ i o =
       valued o (41, i) >>= λ t.
@@ -105,14 +106,14 @@ module _ (nv : ℕ) where
       need (leb (length ks) maxLinks) (42, i) >>= λ _.
       ok (Γ, some (record { links = ks; borrow = t .borrow }))
 
-  -- After the inner term of a let: "41". The variable is in scope from here on, at the level of the block around it.
+  -- Let (LANGUAGE 3.24), after the inner term: it has a value (41), and the variable is in scope, at the level of the block around it.
   unfoldable pub judgeLet : ℕ → Environment → ℕ → ℕ → Option Ty → Judged Out
   judgeLet level Γ i x o =
       valued o (41, i) >>= λ t.
       ok (update Γ x (live (fresh (t .links) (t .borrow) level)), none)
 
-  -- After the right side: "41; 31, 32, 33 of the path only; 36; equal link kinds (39); the new value's borrowed root, if any, lives in
-  -- the block of the variable finally written or in one around it (40); with the new value in place, writing the named root not barred (35)".
+  -- Assign (LANGUAGE 3.25), after the right side: it has a value (41), the path of the place (31, 32, 33), no shared link passed (36), the same
+  -- links (39), the borrowed root lives long enough for the variable finally written (40). In the new state writing the root is not barred (35).
   unfoldable pub judgeAssign : Environment → ℕ → Place → Option Ty → Judged Out
   judgeAssign Γ i p o =
       valued o (41, i) >>= λ t.
@@ -124,23 +125,26 @@ module _ (nv : ℕ) where
       need (not (writeBarred nv Γ′ (p .root))) (35, i) >>= λ _.
       ok (Γ′, none)
 
-  -- A place of below: "judged as copy up to 34, then a number (39)".
+  -- A place of a below (LANGUAGE 3.27): readable, then a number (39).
   unfoldable pub judgeNumber : Environment → ℕ → Place → Judged (Unit {0})
   judgeNumber Γ i p =
       judgeReadable Γ i p >>= λ l.
       need (isNumber (drop (p .follows) (l .root .chain))) (39, i)
 
+  -- Below (LANGUAGE 3.27): the first place, then the second.
   unfoldable pub judgeBelow : Environment → ℕ → Place → Place → Judged Out
   judgeBelow Γ i p q =
       judgeNumber Γ i p >>= λ _.
       judgeNumber Γ i q >>= λ _.
       ok (Γ, some numberTy)
 
+  -- The borrowed place of a value, if there is one (LANGUAGE 3.3).
   abbrev pub borrowIn : Option Ty → Borrow
   borrowIn none = noBorrow
   borrowIn (some t) = t .borrow
 
-  -- "At its end the value borrows no root living in it (40), and its variables leave scope." level is that of the block around.
+  -- The end of a block (LANGUAGE 3.28): its value borrows no root that lives in it (40), then its variables leave scope. level is that of the
+  -- block around it.
   unfoldable pub judgeBlockEnd : ℕ → Environment → ℕ → Option Ty → Judged Out
   judgeBlockEnd level Γ i o =
       need (livesAt Γ (borrowIn o) level) (40, i) >>= λ _.

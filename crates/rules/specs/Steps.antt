@@ -1,4 +1,4 @@
--- Following a place, one variable at a time.
+-- Where a place leads (LANGUAGE 3.13), one variable at a time, as the code goes. No rule of the language is stated here.
 use Prim.Native.Nat.{ℕ, suc, _-_}
 use mathlib.Core.Option.{Option, none, some}
 use lib.Dec.{leb, ltb}

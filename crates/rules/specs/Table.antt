@@ -1,5 +1,5 @@
 -- The table of the variables, 8 words to each, and what it says in the rules' terms. Seven words are a variable's entry: every seven
--- words say something. The eighth is a note, which must be right.
+-- words say something. The eighth is a note, which must be right. No rule of the language is stated here.
 use Prim.Native.Nat.{ℕ, zero, suc, _+_, _*_, _<_, _≤_}
 use mathlib.Core.Path.{_≡_}
 use mathlib.Core.Bool.{Bool, true, false}

@@ -1,4 +1,4 @@
--- What the rules' functions answer, in the rules' terms: 01's number and values for each case.
+-- What the rules' functions answer, in the rules' terms: the refusal or the values of each case (LANGUAGE 3.17).
 use Prim.Native.Nat.{ℕ}
 use mathlib.Core.Path.{_≡_}
 use mathlib.Core.Option.{Option, none, some}
@@ -35,7 +35,7 @@ unfoldable pub asRequirement : Requirement → Judged (Unit {0})
 asRequirement requirement.Met = ok tt
 asRequirement (requirement.Refused n at) = err (n, at)
 
--- "number not taken (30), taken from here on": the environment in which the inner term is judged.
+-- The beginning of a let (LANGUAGE 3.24): the number is free (30), and taken in the environment in which the inner term is judged.
 abbrev pub beginLet : Environment → ℕ → ℕ → Judged Environment
 beginLet Γ i x = need (isFree (Γ x)) (30, i) >>= λ _. ok (update Γ x used)
 
@@ -43,7 +43,7 @@ unfoldable pub begun : Environment → Requirement → Judged Environment
 begun Γ requirement.Met = ok Γ
 begun Γ (requirement.Refused n at) = err (n, at)
 
--- "the answer is a number (43, term 0)".
+-- The answer is a number (43 at 0; LANGUAGE 3.29).
 abbrev pub judgeAnswer : ℕ → Option Ty → Judged (Unit {0})
 judgeAnswer nv o = need (isAnswer nv o) (43, 0)
 
@@ -66,9 +66,10 @@ Answers r judged = (Γ : Environment) → answered Γ r ≡ judged Γ
 abbrev pub valueOf : Ty → Environment → Judged Out
 valueOf t Γ = ok (Γ, some t)
 
--- "at most 8 links (42)".
+-- A value of at most 8 links (42; LANGUAGE 3.21 to 3.23).
 abbrev pub atMost8 : ℕ → Ty → Environment → Judged Out
 atMost8 i t Γ = need (leb (length (t .links)) maxLinks) (42, i) >>= λ _. valueOf t Γ
 
+-- The verdict of a box (LANGUAGE 3.23).
 abbrev pub Boxes : ℕ → Value → Verdict → Type 0
 Boxes i inner r = (nv : ℕ) → Answers r (λ Γ. judgeBox nv Γ i (asValue inner))

@@ -1,4 +1,4 @@
-// What the borrows that are held bar: the note of the root tells.
+// What the borrows that are held bar (LANGUAGE 3.10 to 3.12): the note of the root tells.
 ghost use mathlib.Core.Path.{_≡_};
 ghost use Prim.Native.Nat.{_<_};
 ghost use Rattle.rules.specs.Bars.{readBarred, writeBarred};
@@ -8,6 +8,7 @@ use crate::table::NOTE;
 use crate::table::wide;
 use crate::table::word_at;
 
+// Reading barred (LANGUAGE 3.11): someone holds an exclusive borrow of the root.
 pub fn read_barred(env: &[u32], variables: usize, root: u32) -> bool
     requires { ⌜ TableFor (now env) variables × (root < variables) ⌝ }
     ensures { λ r. ⌜ r ≡ readBarred variables (environmentOf (now (env .entry))) root ⌝ }
@@ -15,6 +16,7 @@ pub fn read_barred(env: &[u32], variables: usize, root: u32) -> bool
     EXCLUSIVE_HOLDER <= word_at(env, wide(root), NOTE)
 }
 
+// Writing barred (LANGUAGE 3.12): someone holds a borrow of the root, of either kind.
 pub fn write_barred(env: &[u32], variables: usize, root: u32) -> bool
     requires { ⌜ TableFor (now env) variables × (root < variables) ⌝ }
     ensures { λ r. ⌜ r ≡ writeBarred variables (environmentOf (now (env .entry))) root ⌝ }

@@ -1,5 +1,5 @@
-// A chain of links in one number: base 3 with the digits 1, 2 and 3, the first link lowest. Each number is exactly
-// one chain, so equal chains are equal numbers, no length is kept, and every number in the table is a chain.
+// A chain of links (LANGUAGE 3.2) in one number: base 3 with the digits 1, 2 and 3, the first link lowest. Each number
+// is exactly one chain, so equal chains are equal numbers, no length is kept, and every number in the table is a chain.
 ghost use mathlib.Core.Path.{_≡_};
 ghost use mathlib.Core.Bool.{true};
 ghost use mathlib.Core.List.{_∷_};
@@ -8,23 +8,24 @@ ghost use lib.ListN.{length, take, drop};
 ghost use Rattle.rules.specs.Links.{leadingBoxes, noShared, isNumber, copies};
 ghost use Rattle.rules.specs.Chains.{linkOf, chainOf, asRest, restOf, oneMoreFits};
 
-// The digits.
+// The digits: the kinds of links (LANGUAGE 3.2).
 pub const BOX: u32 = 1;
 
 pub const SHARED: u32 = 2;
 
 pub const EXCLUSIVE: u32 = 3;
 
-// The chains of at most 7 links are the numbers below this.
+// The chains of at most 7 links are the numbers below this (8 links are the most, LANGUAGE 3.2).
 const FULL: u32 = 3280;
 
+// The type of plain numbers (LANGUAGE 3.2).
 pub fn is_number(links: u32) -> bool
     ensures { λ r. ⌜ r ≡ isNumber (chainOf links) ⌝ }
 {
     links == 0
 }
 
-// A number, or a first link shared.
+// What may be copied (37; LANGUAGE 3.19): a number, or a first link shared.
 pub fn is_copied(links: u32) -> bool
     ensures { λ r. ⌜ r ≡ copies (chainOf links) ⌝ }
 {
@@ -34,6 +35,7 @@ pub fn is_copied(links: u32) -> bool
     links % 3 == SHARED
 }
 
+// How many links the chain has (32; LANGUAGE 3.16).
 pub fn chain_length(links: u32) -> usize
     ensures { λ r. ⌜ (r ≡ length (chainOf links)) × (r ≤ links) ⌝ }
 {
@@ -46,7 +48,7 @@ pub fn chain_length(links: u32) -> usize
     count
 }
 
-// The boxes before the first borrow link.
+// The boxes before the first borrow link: the last own position (LANGUAGE 3.9).
 pub fn leading_boxes(links: u32) -> usize
     ensures { λ r. ⌜ (r ≡ leadingBoxes (chainOf links)) × (r * 2 ≤ links + 1) ⌝ }
 {
@@ -59,6 +61,7 @@ pub fn leading_boxes(links: u32) -> usize
     count
 }
 
+// The chain after its first link, one position further (LANGUAGE 3.5).
 fn without_first(links: u32) -> u32
     ensures { λ r. ⌜ chainOf r ≡ drop 1 (chainOf links) ⌝ }
 {
@@ -71,7 +74,7 @@ pub enum Rest {
     TooShort,
 }
 
-// The chain from link k on, where k links come before.
+// The chain at position k (LANGUAGE 3.5), where k links come before; otherwise it is too short (32).
 pub fn links_from(links: u32, k: usize) -> Rest
     ensures { λ r. ⌜ asRest r ≡ restOf k (chainOf links) ⌝ }
 {
@@ -87,7 +90,7 @@ pub fn links_from(links: u32, k: usize) -> Rest
     Rest::Links(rest)
 }
 
-// Only boxes and exclusive links before link k.
+// Only boxes and exclusive links before link k (36; LANGUAGE 3.22, 3.25).
 pub fn no_shared(links: u32, k: usize) -> bool
     ensures { λ r. ⌜ r ≡ noShared (take k (chainOf links)) ⌝ }
 {
@@ -106,14 +109,14 @@ pub fn no_shared(links: u32, k: usize) -> bool
     true
 }
 
-// One more link makes at most 8.
+// One more link makes at most 8 (42; LANGUAGE 3.21 to 3.23).
 pub fn one_more_fits(links: u32) -> bool
     ensures { λ r. ⌜ r ≡ oneMoreFits links ⌝ }
 {
     links < FULL
 }
 
-// The chain with one more link in front, given as its digit.
+// The chain with one more link in front, given as its digit (LANGUAGE 3.21 to 3.23).
 pub fn with_first(link: u32, links: u32) -> u32
     requires { ⌜ (oneMoreFits links ≡ true) × (0 < link) × (link ≤ 3) ⌝ }
     ensures { λ r. ⌜ chainOf r ≡ linkOf (link - 1) ∷ chainOf links ⌝ }

@@ -1,4 +1,4 @@
-// What the rules ask of a variable number, and what they do to it.
+// What the rules ask of a variable number (LANGUAGE 3.6 to 3.8), and what they do to it.
 ghost use mathlib.Core.Path.{_≡_};
 ghost use Prim.Native.Nat.{_≤_, _+_, _*_};
 ghost use lib.ListN.{length};
@@ -18,6 +18,7 @@ use crate::table::load;
 use crate::table::wide;
 use crate::table::word_at;
 
+// The number is free (30; LANGUAGE 3.6).
 pub fn is_free(env: &[u32], variables: usize, x: usize) -> bool
     requires { ⌜ TableFor (now env) variables ⌝ }
     ensures { λ r. ⌜ r ≡ isFree (environmentOf (now (env .entry)) x) ⌝ }
@@ -30,7 +31,7 @@ pub fn is_free(env: &[u32], variables: usize, x: usize) -> bool
     }
 }
 
-// The level of the block in which x lives.
+// The level of the block in which x lives (LANGUAGE 3.7).
 pub fn level_at(env: &[u32], variables: usize, x: usize) -> u32
     requires { ⌜ TableFor (now env) variables ⌝ }
     ensures { λ r. ⌜ r ≡ levelOf (environmentOf (now (env .entry)) x) ⌝ }
@@ -43,6 +44,7 @@ pub fn level_at(env: &[u32], variables: usize, x: usize) -> u32
     }
 }
 
+// The borrowed place of x, if it has one (LANGUAGE 3.8).
 pub fn borrow_end_at(env: &[u32], variables: usize, x: usize) -> BorrowEnd
     requires { ⌜ TableFor (now env) variables ⌝ }
     ensures { λ r. ⌜ asBorrow r ≡ borrowOf (environmentOf (now (env .entry)) x) ⌝ }
@@ -55,7 +57,7 @@ pub fn borrow_end_at(env: &[u32], variables: usize, x: usize) -> BorrowEnd
     }
 }
 
-// The borrowed root, if any, lives in the block of that level or in one around it.
+// The borrowed root, if any, lives in the block of that level or in one around it (40; LANGUAGE 3.25, 3.28).
 pub fn lives_at(env: &[u32], variables: usize, end: BorrowEnd, level: u32) -> bool
     requires { ⌜ TableFor (now env) variables ⌝ }
     ensures { λ r. ⌜ r ≡ livesAt (environmentOf (now (env .entry))) (asBorrow end) level ⌝ }
@@ -67,7 +69,7 @@ pub fn lives_at(env: &[u32], variables: usize, end: BorrowEnd, level: u32) -> bo
     }
 }
 
-// A variable with nothing moved away.
+// A variable with nothing moved away, as its let leaves it (LANGUAGE 3.24).
 pub fn fresh_state(links: u32, end: BorrowEnd, level: u32) -> VariableState
     ensures { λ r. ⌜ asVariable r ≡ fresh (chainOf links) (asBorrow end) level ⌝ }
 {
@@ -80,7 +82,7 @@ pub fn fresh_state(links: u32, end: BorrowEnd, level: u32) -> VariableState
     }
 }
 
-// In scope, in a block inside that of the level. Most numbers are in no such block, so that is asked first.
+// In scope, in a block inside that of the level (LANGUAGE 3.28). Most numbers are in none: that is asked first.
 fn is_deeper(env: &[u32], x: usize, level: u32) -> bool
     requires { ⌜ x * 8 + 8 ≤ length (now env) ⌝ }
     ensures { λ r. ⌜ r ≡ isDeeper (now (env .entry)) x level ⌝ }
@@ -91,7 +93,7 @@ fn is_deeper(env: &[u32], x: usize, level: u32) -> bool
     LIVE <= word_at(env, x, STATUS)
 }
 
-// The variables of the blocks inside that of the level leave scope. Most blocks have none.
+// The end of a block (LANGUAGE 3.28): the variables inside leave scope. Most blocks have none.
 pub fn leave_blocks(env: &mut [u32], variables: usize, level: u32)
     requires { ⌜ TableFor (now env) variables ⌝ }
     ensures { λ _. ⌜ (environmentOf (now (env .exit)) ≡ leave level (environmentOf (now (env .entry)))) × TableFor (now (env .exit)) variables ⌝ }

@@ -1,4 +1,5 @@
-// Following a place: to one of a variable's own links, through its boxes, and beyond its borrow link through the borrowed place.
+// Where a place leads (LANGUAGE 3.13): to one of a variable's own links, through its boxes, and beyond its borrow link
+// through the borrowed place. Own link k stands for own position k (3.9).
 ghost use mathlib.Core.Path.{_≡_};
 ghost use mathlib.Core.Option.{some};
 ghost use Prim.Native.Nat.{_≤_, _+_};
@@ -24,12 +25,13 @@ pub enum Step {
     Through(Place, usize),
 }
 
-// A variable and one of its own links.
+// Where a place leads (LANGUAGE 3.13): a variable and one of its own links.
 pub enum Followed {
     At(usize, usize),
     Nowhere,
 }
 
+// A variable in scope on the path (LANGUAGE 3.13): no mark before its own link, or none at all to go beyond (3.14).
 fn step_of(state: VariableState, follows: usize) -> Step
     ensures { λ r. ⌜ r ≡ stepOf state follows ⌝ }
 {
@@ -52,6 +54,7 @@ fn step_of(state: VariableState, follows: usize) -> Step
     }
 }
 
+// One variable of the path (LANGUAGE 3.13); from one that is not in scope there is nothing to follow.
 fn step_at(env: &[u32], variables: usize, x: usize, follows: usize) -> Step
     requires { ⌜ TableFor (now env) variables ⌝ }
     ensures { λ r. ⌜ r ≡ stepAt (entryAt (now (env .entry)) x) follows ⌝ }
@@ -64,7 +67,7 @@ fn step_at(env: &[u32], variables: usize, x: usize, follows: usize) -> Step
     }
 }
 
-// Where the follows lead from variable root. No path passes more variables than there are.
+// Where the follows lead from variable root (LANGUAGE 3.13). No path passes more variables than there are (7.5).
 pub fn follow_place(env: &[u32], variables: usize, root: usize, follows: usize) -> Followed
     requires { ⌜ TableFor (now env) variables × (follows ≤ 4294967296) ⌝ }
     ensures { λ r. ⌜ asFollowed r ≡ follow variables (environmentOf (now (env .entry))) root follows ⌝ }
@@ -91,7 +94,7 @@ pub fn follow_place(env: &[u32], variables: usize, root: usize, follows: usize) 
     Followed::Nowhere
 }
 
-// Nothing of the value of x is moved away, to the end of its links.
+// Whole (LANGUAGE 3.15): nothing of the value of x is moved away, to the end of its links.
 pub fn value_whole(env: &[u32], variables: usize, x: usize, links: u32) -> bool
     requires { ⌜ TableFor (now env) variables ⌝ }
     ensures { λ r. ⌜ r ≡ wholeTo variables (environmentOf (now (env .entry))) x (chainOf links) ⌝ }
@@ -104,7 +107,7 @@ pub fn value_whole(env: &[u32], variables: usize, x: usize, links: u32) -> bool
     link_whole(env, variables, y, link)
 }
 
-// Its own link of y is not moved away.
+// The own link of y is not moved away (LANGUAGE 3.9, 3.15).
 fn link_whole(env: &[u32], variables: usize, y: usize, link: usize) -> bool
     requires { ⌜ TableFor (now env) variables ⌝ }
     ensures { λ r. ⌜ r ≡ wholeAt (environmentOf (now (env .entry)) y) link ⌝ }
@@ -116,8 +119,8 @@ fn link_whole(env: &[u32], variables: usize, y: usize, link: usize) -> bool
     link < wide(end.moved_from)
 }
 
-// The same as `value_whole` of the place's root, where the place is known to lead to that link of y, and `rest` are the
-// links after its follows. Most places name the end of the chain, so there is nothing more to follow.
+// Whole (LANGUAGE 3.15), as `value_whole` of the place's root, where the place is known to lead to that link of y, and
+// `rest` are the links after its follows. Most places name the end of the chain: there is nothing more to follow.
 pub fn whole_at(
     env: &[u32],
     variables: usize,

@@ -1,4 +1,4 @@
-// The ownership rules: one function per rule, over a table of the variables that the caller lends.
+// The ownership rules (LANGUAGE 3): one function per rule, over a table of the variables that the caller lends.
 
 mod chains; // chains.rt: a chain of links in one number
 mod table; // table.rt: the table's words, and the state of a variable that they hold
@@ -6,7 +6,7 @@ mod notes; // notes.rt: what the table notes beside the entries
 mod environment; // environment.rt: what the rules ask of a variable number, and what they do to it
 mod follow; // follow.rt: following a place
 mod bars; // bars.rt: what the borrows that are held bar
-mod refusals; // refusals.rt: 01's refusal numbers
+mod refusals; // refusals.rt: the refusal numbers
 mod verdicts; // verdicts.rt: what judging a term answers
 mod rules; // rules.rt: the rules
 

@@ -25,10 +25,10 @@ use crate::table::put_whole;
 use crate::table::wide;
 use crate::table::word_at;
 
-// In the note of a root each holder of a shared borrow counts 1, each holder of an exclusive one this.
+// In the note of a root each holder of a shared borrow (LANGUAGE 3.10) counts 1, each holder of an exclusive one this.
 pub const EXCLUSIVE_HOLDER: u32 = 65536;
 
-// x holds a borrow of a place with the root; any, or an exclusive one.
+// Holding (LANGUAGE 3.10): x holds a borrow of a place with the root; any, or an exclusive one.
 fn holds(env: &[u32], x: usize, root: u32, any: bool) -> bool
     requires { ⌜ x * 8 + 8 ≤ length (now env) ⌝ }
     ensures { λ r. ⌜ r ≡ heldBy (borrowsBy any) (environmentOf (now (env .entry)) x) root ⌝ }
@@ -51,7 +51,7 @@ fn holds(env: &[u32], x: usize, root: u32, any: bool) -> bool
     false
 }
 
-// What x adds to the note of the root.
+// What x adds to the note of the root, for the bars (LANGUAGE 3.11, 3.12).
 fn weight(env: &[u32], x: usize, root: u32) -> u32
     requires { ⌜ x * 8 + 8 ≤ length (now env) ⌝ }
     ensures { λ r. ⌜ r ≡ weightOf (environmentOf (now (env .entry)) x) root ⌝ }
@@ -65,7 +65,7 @@ fn weight(env: &[u32], x: usize, root: u32) -> u32
     0
 }
 
-// Takes what x adds out of the note of the root that it borrows. Most variables borrow nothing.
+// Takes what x adds out of the note of the root that it borrows: its holding ends (LANGUAGE 3.10). Most hold nothing.
 fn forget_holder(env: &mut [u32], variables: usize, x: usize)
     requires { ⌜ (variables * 8 ≤ length (now env)) × (x < variables) × ((r : ℕ) → r < variables → weightOf (environmentOf (now env) x) r ≤ noteAt (now env) r) ⌝ }
     ensures { λ _. ⌜ (environmentOf (now (env .exit)) ≡ environmentOf (now (env .entry))) × ((r : ℕ) → noteAt (now (env .exit)) r + weightBelow variables (environmentOf (now (env .entry)) x) r ≡ noteAt (now (env .entry)) r) ⌝ }
@@ -80,7 +80,7 @@ fn forget_holder(env: &mut [u32], variables: usize, x: usize)
     }
 }
 
-// Adds what x adds to that note.
+// Adds what x adds to that note: its holding begins (LANGUAGE 3.10).
 fn note_holder(env: &mut [u32], variables: usize, x: usize)
     requires { ⌜ (variables * 8 ≤ length (now env)) × (x < variables) × ((r : ℕ) → r < variables → noteAt (now env) r ≤ 8388608) ⌝ }
     ensures { λ _. ⌜ (environmentOf (now (env .exit)) ≡ environmentOf (now (env .entry))) × ((r : ℕ) → noteAt (now (env .exit)) r ≡ noteAt (now (env .entry)) r + weightBelow variables (environmentOf (now (env .entry)) x) r) ⌝ }
@@ -95,7 +95,7 @@ fn note_holder(env: &mut [u32], variables: usize, x: usize)
     }
 }
 
-// The note of a row is `least` at least.
+// The note of a row is `least` at least, for how deep variables live and which numbers are taken (LANGUAGE 3.6, 3.7).
 fn raise_note(env: &mut [u32], row: usize, least: u32)
     requires { ⌜ row * 8 + 8 ≤ length (now env) ⌝ }
     ensures { λ _. ⌜ (environmentOf (now (env .exit)) ≡ environmentOf (now (env .entry))) × ((r : ℕ) → noteAt (now (env .exit)) r ≡ raisedAt row least (noteAt (now (env .entry))) r) ⌝ }
@@ -105,7 +105,7 @@ fn raise_note(env: &mut [u32], row: usize, least: u32)
     }
 }
 
-// The number x is in scope from here on, with the state.
+// The end of a let (LANGUAGE 3.24): the number x is in scope from here on, with the state.
 pub fn store(env: &mut [u32], variables: usize, x: usize, state: VariableState)
     requires { ⌜ TableFor (now env) variables × (x < variables) ⌝ }
     ensures { λ _. ⌜ (environmentOf (now (env .exit)) ≡ update (environmentOf (now (env .entry))) x (live (asVariable state))) × TableFor (now (env .exit)) variables ⌝ }
@@ -117,7 +117,7 @@ pub fn store(env: &mut [u32], variables: usize, x: usize, state: VariableState)
     raise_note(env, variables + 1, (x + 1) as u32);
 }
 
-// The number x is taken, and not in scope.
+// The number x is taken, and not in scope: a let begins (LANGUAGE 3.24), or its block ends (3.28).
 pub fn take_number(env: &mut [u32], variables: usize, x: usize)
     requires { ⌜ TableFor (now env) variables × (x < variables) ⌝ }
     ensures { λ _. ⌜ (environmentOf (now (env .exit)) ≡ update (environmentOf (now (env .entry))) x used) × TableFor (now (env .exit)) variables ⌝ }
@@ -127,7 +127,7 @@ pub fn take_number(env: &mut [u32], variables: usize, x: usize)
     raise_note(env, variables + 1, (x + 1) as u32);
 }
 
-// The links of x from k on are moved away.
+// The mark of a move (LANGUAGE 3.20): the links of x from k on are moved away.
 pub fn move_away(env: &mut [u32], variables: usize, x: usize, k: u32)
     requires { ⌜ TableFor (now env) variables × (x < variables) ⌝ }
     ensures { λ _. ⌜ (environmentOf (now (env .exit)) ≡ update (environmentOf (now (env .entry))) x (movedAwayAt (environmentOf (now (env .entry)) x) k)) × TableFor (now (env .exit)) variables ⌝ }
@@ -137,7 +137,7 @@ pub fn move_away(env: &mut [u32], variables: usize, x: usize, k: u32)
     note_holder(env, variables, x);
 }
 
-// A value is written to x: whole again, with the new value's borrow end.
+// A value is written to x (LANGUAGE 3.25): whole again, with the new value's borrow end.
 pub fn refill(env: &mut [u32], variables: usize, x: usize, end: BorrowEnd)
     requires { ⌜ TableFor (now env) variables ⌝ }
     ensures { λ _. ⌜ (environmentOf (now (env .exit)) ≡ update (environmentOf (now (env .entry))) x (refilled (environmentOf (now (env .entry)) x) (asBorrow end))) × TableFor (now (env .exit)) variables ⌝ }

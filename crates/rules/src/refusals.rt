@@ -1,4 +1,4 @@
-// 01's refusal numbers of the ownership rules.
+// The refusal numbers of the ownership rules (LANGUAGE 5.5).
 
 pub const NUMBER_TAKEN: u32 = 30;
 

@@ -1,5 +1,5 @@
-// The ownership rules, one function each: its answer is the rule's definition, and the table afterwards is that
-// definition's environment. A rule about a term with an inner term is given the inner term's value.
+// The ownership rules (LANGUAGE 3.16 to 3.29), one function each: its answer is the rule's definition, and the table
+// afterwards is that definition's environment. A rule about a term with an inner term is given the inner term's value.
 ghost use mathlib.Core.Path.{_≡_};
 ghost use Prim.Native.Nat.{ℕ, _<_};
 ghost use Rattle.rules.specs.Rules.{judgePlace, judgeReadable, judgeCopy, judgeMove, judgeShared, judgeExclusive, judgeLet, judgeAssign, judgeNumber, judgeBelow, judgeBlockEnd};
@@ -44,7 +44,7 @@ use crate::verdicts::number_value;
 use crate::verdicts::value_of;
 
 // The links of the place's root, those of them after the follows, and the variable and its own link that the place
-// leads to; or the refusal.
+// leads to (LANGUAGE 3.13); or the refusal.
 pub enum Located {
     At(u32, u32, usize, usize),
     Refused(u32, usize),
@@ -55,7 +55,7 @@ pub enum Requirement {
     Refused(u32, usize),
 }
 
-// "Judging a place, in order: root in scope (31), long enough chain (32), nothing moved away on the path (33)."
+// Judging a place (LANGUAGE 3.16): the root is in scope (31), the chain long enough (32), the path not moved away (33).
 pub fn judge_place(env: &[u32], variables: usize, term: usize, place: Place) -> Located
     requires { ⌜ TableFor (now env) variables ⌝ }
     ensures { λ r. ⌜ asLocated r ≡ foundOf (place .follows) (judgePlace variables (environmentOf (now (env .entry))) term (asPlace place)) ⌝ }
@@ -77,7 +77,8 @@ pub fn judge_place(env: &[u32], variables: usize, term: usize, place: Place) -> 
     Located::At(state.links, rest, variable, link)
 }
 
-// The place of copy, shared borrow and below: "place; value whole (33); reading not barred (34)".
+// The place of a copy, a shared borrow and a below (LANGUAGE 3.19, 3.21, 3.27): judged, its value whole (33), reading
+// not barred (34).
 pub fn judge_readable(env: &[u32], variables: usize, term: usize, place: Place) -> Located
     requires { ⌜ TableFor (now env) variables ⌝ }
     ensures { λ r. ⌜ asLocated r ≡ foundOf (place .follows) (judgeReadable variables (environmentOf (now (env .entry))) term (asPlace place)) ⌝ }
@@ -95,7 +96,7 @@ pub fn judge_readable(env: &[u32], variables: usize, term: usize, place: Place) 
     located
 }
 
-// "a number or a first link shared (37)".
+// Copy (LANGUAGE 3.19): the place is readable, then a number or a shared link (37).
 pub fn judge_copy(env: &[u32], variables: usize, term: usize, place: Place) -> Verdict
     requires { ⌜ TableFor (now env) variables ⌝ }
     ensures { λ r. ⌜ answered (environmentOf (now (env .entry))) r ≡ judgeCopy variables (environmentOf (now (env .entry))) term (asPlace place) ⌝ }
@@ -116,8 +117,8 @@ pub fn judge_copy(env: &[u32], variables: usize, term: usize, place: Place) -> V
     }
 }
 
-// "31, 32; no borrow link passed (38); path and value whole (33); writing not barred (35)". The value "is then moved
-// away from that link on".
+// Move (LANGUAGE 3.20): 31 and 32 of the place, no borrow link passed (38), the value whole (33), writing not barred
+// (35). Then the links from the place on are moved away.
 pub fn judge_move(env: &mut [u32], variables: usize, term: usize, place: Place) -> Verdict
     requires { ⌜ TableFor (now env) variables ⌝ }
     ensures { λ r. ⌜ (answered (environmentOf (now (env .exit))) r ≡ judgeMove variables (environmentOf (now (env .entry))) term (asPlace place)) × TableFor (now (env .exit)) variables ⌝ }
@@ -146,7 +147,7 @@ pub fn judge_move(env: &mut [u32], variables: usize, term: usize, place: Place) 
     value_of(rest, end)
 }
 
-// "place; whole (33); 34; result at most 8 links (42)".
+// Shared borrow (LANGUAGE 3.21): the place is readable, then one link more makes at most 8 (42).
 pub fn judge_shared(env: &[u32], variables: usize, term: usize, place: Place) -> Verdict
     requires { ⌜ TableFor (now env) variables ⌝ }
     ensures { λ r. ⌜ answered (environmentOf (now (env .entry))) r ≡ judgeShared variables (environmentOf (now (env .entry))) term (asPlace place) ⌝ }
@@ -158,7 +159,8 @@ pub fn judge_shared(env: &[u32], variables: usize, term: usize, place: Place) ->
     }
 }
 
-// "place; whole (33); only box and exclusive links passed (36); 35; 42".
+// Exclusive borrow (LANGUAGE 3.22): the place, its value whole (33), no shared link passed (36), writing not barred (35),
+// one link more makes at most 8 (42).
 pub fn judge_exclusive(env: &[u32], variables: usize, term: usize, place: Place) -> Verdict
     requires { ⌜ TableFor (now env) variables ⌝ }
     ensures { λ r. ⌜ answered (environmentOf (now (env .entry))) r ≡ judgeExclusive variables (environmentOf (now (env .entry))) term (asPlace place) ⌝ }
@@ -181,7 +183,7 @@ pub fn judge_exclusive(env: &[u32], variables: usize, term: usize, place: Place)
     }
 }
 
-// "inner term; it has a value (41); 42".
+// Box (LANGUAGE 3.23), after the inner term: it has a value (41), and one link more makes at most 8 (42).
 pub fn judge_box(term: usize, inner: Value) -> Verdict
     ensures { λ r. ⌜ Boxes term inner r ⌝ }
 {
@@ -192,7 +194,7 @@ pub fn judge_box(term: usize, inner: Value) -> Verdict
     longer_value(term, BOX, of.links, end)
 }
 
-// "number not taken (30), taken from here on but in scope only afterwards".
+// The beginning of a let (LANGUAGE 3.24): its number is free (30), and taken from here on, not yet in scope.
 pub fn begin_let(env: &mut [u32], variables: usize, term: usize, x: usize) -> Requirement
     requires { ⌜ TableFor (now env) variables × (x < variables) ⌝ }
     ensures { λ r. ⌜ (begun (environmentOf (now (env .exit))) r ≡ beginLet (environmentOf (now (env .entry))) term x) × TableFor (now (env .exit)) variables ⌝ }
@@ -204,7 +206,7 @@ pub fn begin_let(env: &mut [u32], variables: usize, term: usize, x: usize) -> Re
     Requirement::Met
 }
 
-// After the inner term: "41". Its number x was taken by `begin_let`.
+// Let (LANGUAGE 3.24), after the inner term: it has a value (41), and x, which `begin_let` took, is in scope.
 pub fn judge_let(
     env: &mut [u32],
     variables: usize,
@@ -225,9 +227,9 @@ pub fn judge_let(
     Verdict::Fine(Value::None)
 }
 
-// After the right side: "41; 31, 32, 33 of the path only; 36; equal link kinds (39)"; the new value's borrowed root
-// lives long enough for "the variable finally written" (40); "with the new value in place, writing the named root not
-// barred (35)".
+// Assign (LANGUAGE 3.25), after the right side: it has a value (41), the path of the place (31, 32, 33), no shared link
+// passed (36), the same links (39), the borrowed root lives long enough for the variable finally written (40). With the
+// new value in place, writing the named root is not barred (35).
 pub fn judge_assign(
     env: &mut [u32],
     variables: usize,
@@ -265,7 +267,7 @@ pub fn judge_assign(
     }
 }
 
-// A place of below: "judged as copy up to 34, then a number (39)".
+// A place of a below (LANGUAGE 3.27): readable, then a number (39).
 pub fn judge_number(env: &[u32], variables: usize, term: usize, place: Place) -> Requirement
     requires { ⌜ TableFor (now env) variables ⌝ }
     ensures { λ r. ⌜ asRequirement r ≡ judgeNumber variables (environmentOf (now (env .entry))) term (asPlace place) ⌝ }
@@ -283,7 +285,7 @@ pub fn judge_number(env: &[u32], variables: usize, term: usize, place: Place) ->
     }
 }
 
-// "the second likewise".
+// Below (LANGUAGE 3.27): the first place, then the second.
 pub fn judge_below(
     env: &[u32],
     variables: usize,
@@ -305,8 +307,8 @@ pub fn judge_below(
     number_value()
 }
 
-// "At its end the value borrows no root living in it (40), and its variables leave scope." level is that of the block
-// around.
+// The end of a block (LANGUAGE 3.28): its value borrows no root that lives in it (40), then its variables leave scope.
+// level is that of the block around.
 pub fn judge_block_end(
     env: &mut [u32],
     variables: usize,
@@ -324,7 +326,7 @@ pub fn judge_block_end(
     Verdict::Fine(last)
 }
 
-// "the whole script: the answer is a number (43, term 0)".
+// The script (LANGUAGE 3.29): the answer is a number (43 at 0).
 pub fn judge_answer(answer: Value) -> Requirement
     ensures { λ r. ⌜ ((nv : ℕ) → asRequirement r ≡ judgeAnswer nv (asValue answer)) ⌝ }
 {

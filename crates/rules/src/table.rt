@@ -1,4 +1,4 @@
-// The table of the variables, 8 words to each: the state that seven of them hold. The eighth is a note (notes.rt).
+// The table of the variables, 8 words to each: seven hold the state (LANGUAGE 3.6, 3.8). The eighth is a note (notes.rt).
 ghost use mathlib.Core.Path.{_≡_};
 ghost use Prim.Native.Nat.{ℕ, _<_, _≤_, _+_, _*_};
 ghost use lib.ListN.{length};
@@ -6,19 +6,21 @@ ghost use Rattle.rules.specs.Environment.{used, live, update, movedAwayA
 ghost use Rattle.rules.specs.Table.{TableFor, entryWord, borrowEndAt, entryAt, environmentOf, asBorrow, asVariable, borrowNumber, borrowedRoot, borrowedFollows, noteAt};
 use crate::chains::leading_boxes;
 
+// A place (LANGUAGE 2.5).
 pub struct Place {
     pub root: u32,
     pub follows: u32,
 }
 
-// The borrow end: which place the first borrow link borrows.
+// The borrow end: which place the first borrow link borrows (LANGUAGE 3.3).
 pub enum BorrowEnd {
     None,
     Shared(Place),
     Exclusive(Place),
 }
 
-// The links from moved_from on are moved away; where nothing is, moved_from is one past the boxes and the borrow link.
+// The state of a variable (LANGUAGE 3.8). The links from moved_from on are moved away; where nothing is, moved_from is
+// one past the boxes and the borrow link.
 pub struct VariableState {
     pub links: u32,
     pub moved_from: u32,
@@ -26,6 +28,7 @@ pub struct VariableState {
     pub level: u32,
 }
 
+// A number (LANGUAGE 3.6): free; taken, and not in scope; or in scope.
 pub enum Entry {
     Free,
     Used,
@@ -61,12 +64,14 @@ pub const SHARED: u32 = 1;
 
 pub const EXCLUSIVE: u32 = 2;
 
+// A variable or its follows (LANGUAGE 2.5), as an index.
 pub fn wide(x: u32) -> usize
     ensures { λ r. ⌜ r ≡ x ⌝ }
 {
     x as usize
 }
 
+// Word k of x: the state of a variable (LANGUAGE 3.8) is kept in such words.
 pub fn word_at(env: &[u32], x: usize, k: usize) -> u32
     requires { ⌜ (x * 8 + 8 ≤ length (now env)) × (k < 8) ⌝ }
     ensures { λ r. ⌜ r ≡ entryWord (now (env .entry)) x k ⌝ }
@@ -75,6 +80,7 @@ pub fn word_at(env: &[u32], x: usize, k: usize) -> u32
     env[at]
 }
 
+// The borrow end (LANGUAGE 3.3) that three words stand for.
 fn borrow_end_of(kind: u32, root: u32, follows: u32) -> BorrowEnd
     ensures { λ r. ⌜ r ≡ borrowEndAt kind root follows ⌝ }
 {
@@ -91,7 +97,7 @@ fn borrow_end_of(kind: u32, root: u32, follows: u32) -> BorrowEnd
     BorrowEnd::None
 }
 
-// What is known of number x. A number that the table does not have is free.
+// What is known of number x (LANGUAGE 3.6, 3.8). A number that the table does not have is free.
 pub fn load(env: &[u32], variables: usize, x: usize) -> Entry
     requires { ⌜ TableFor (now env) variables ⌝ }
     ensures { λ r. ⌜ r ≡ entryAt (now (env .entry)) x ⌝ }
@@ -121,6 +127,7 @@ pub fn load(env: &[u32], variables: usize, x: usize) -> Entry
     }
 }
 
+// The kind of a borrow end (LANGUAGE 3.2), as the word BORROW holds it.
 fn borrow_number(end: BorrowEnd) -> u32
     ensures { λ r. ⌜ r ≡ borrowNumber end ⌝ }
 {
@@ -131,6 +138,7 @@ fn borrow_number(end: BorrowEnd) -> u32
     }
 }
 
+// The root of the borrowed place (LANGUAGE 3.3), if there is one.
 fn borrowed_root(end: BorrowEnd) -> u32
     ensures { λ r. ⌜ r ≡ borrowedRoot end ⌝ }
 {
@@ -141,6 +149,7 @@ fn borrowed_root(end: BorrowEnd) -> u32
     }
 }
 
+// The follows of the borrowed place (LANGUAGE 3.3), if there is one.
 fn borrowed_follows(end: BorrowEnd) -> u32
     ensures { λ r. ⌜ r ≡ borrowedFollows end ⌝ }
 {
@@ -151,7 +160,7 @@ fn borrowed_follows(end: BorrowEnd) -> u32
     }
 }
 
-// The words of x say that it is in scope, with the state.
+// The words of x say that it is in scope, with the state (LANGUAGE 3.24).
 pub fn put_live(env: &mut [u32], x: usize, state: VariableState)
     requires { ⌜ x * 8 + 8 ≤ length (now env) ⌝ }
     ensures { λ _. ⌜ (environmentOf (now (env .exit)) ≡ update (environmentOf (now (env .entry))) x (live (asVariable state))) × ((y : ℕ) → noteAt (now (env .exit)) y ≡ noteAt (now (env .entry)) y) ⌝ }
@@ -170,7 +179,7 @@ pub fn put_live(env: &mut [u32], x: usize, state: VariableState)
     env[row + LEVEL] = state.level;
 }
 
-// The words of x say that it is taken, and not in scope.
+// The words of x say that it is taken, and not in scope (LANGUAGE 3.6).
 pub fn put_used(env: &mut [u32], x: usize)
     requires { ⌜ x * 8 + 8 ≤ length (now env) ⌝ }
     ensures { λ _. ⌜ (environmentOf (now (env .exit)) ≡ update (environmentOf (now (env .entry))) x used) × ((y : ℕ) → noteAt (now (env .exit)) y ≡ noteAt (now (env .entry)) y) ⌝ }
@@ -178,7 +187,7 @@ pub fn put_used(env: &mut [u32], x: usize)
     env[x * 8 + STATUS] = USED;
 }
 
-// The words of x say that its links from k on are moved away.
+// The words of x say that its links from k on are moved away (LANGUAGE 3.20).
 pub fn put_moved(env: &mut [u32], x: usize, k: u32)
     requires { ⌜ x * 8 + 8 ≤ length (now env) ⌝ }
     ensures { λ _. ⌜ (environmentOf (now (env .exit)) ≡ update (environmentOf (now (env .entry))) x (movedAwayAt (environmentOf (now (env .entry)) x) k)) × ((y : ℕ) → noteAt (now (env .exit)) y ≡ noteAt (now (env .entry)) y) ⌝ }
@@ -186,7 +195,7 @@ pub fn put_moved(env: &mut [u32], x: usize, k: u32)
     env[x * 8 + MOVED_FROM] = k;
 }
 
-// The words of x say that it is whole, with the borrow end.
+// The words of x say that it is whole, with the borrow end (LANGUAGE 3.25).
 pub fn put_whole(env: &mut [u32], x: usize, end: BorrowEnd)
     requires { ⌜ x * 8 + 8 ≤ length (now env) ⌝ }
     ensures { λ _. ⌜ (environmentOf (now (env .exit)) ≡ update (environmentOf (now (env .entry))) x (refilled (environmentOf (now (env .entry)) x) (asBorrow end))) × ((y : ℕ) → noteAt (now (env .exit)) y ≡ noteAt (now (env .entry)) y) ⌝ }

@@ -1,4 +1,4 @@
-// What judging a term answers: the type of its value, if it has one, or the refusal.
+// What judging a term answers: the type of its value, if it has one (LANGUAGE 3.3, 3.4), or the refusal (3.17).
 ghost use mathlib.Core.Path.{_≡_};
 ghost use mathlib.Core.List.{_∷_};
 ghost use Prim.Native.Nat.{ℕ, _<_, _≤_, _-_};
@@ -16,7 +16,7 @@ pub struct ValueType {
     pub borrow_end: BorrowEnd,
 }
 
-// "Let and assign have no value."
+// A let and an assign have no value (LANGUAGE 3.4).
 pub enum Value {
     None,
     Of(ValueType),
@@ -27,7 +27,7 @@ pub enum Verdict {
     Refused(u32, usize),
 }
 
-// The borrow end of the value, if there is a value.
+// The borrowed place of the value, if there is one (LANGUAGE 3.3).
 pub fn borrow_in(value: Value) -> BorrowEnd
     ensures { λ r. ⌜ ((nv : ℕ) → asBorrow r ≡ borrowIn nv (asValue value)) ⌝ }
 {
@@ -37,6 +37,7 @@ pub fn borrow_in(value: Value) -> BorrowEnd
     }
 }
 
+// The verdict of a term with a value of this type (LANGUAGE 3.3).
 pub fn value_of(links: u32, end: BorrowEnd) -> Verdict
     ensures { λ r. ⌜ Answers r (valueOf (typeOf (chainOf links) (asBorrow end))) ⌝ }
 {
@@ -48,13 +49,14 @@ pub fn value_of(links: u32, end: BorrowEnd) -> Verdict
     Verdict::Fine(value)
 }
 
+// The value of a number, a reading (LANGUAGE 3.18) and a below (3.27).
 pub fn number_value() -> Verdict
     ensures { λ r. ⌜ Answers r (valueOf numberTy) ⌝ }
 {
     value_of(0, BorrowEnd::None)
 }
 
-// A value with one more link in front, "at most 8 links (42)".
+// A value with one more link in front, if that makes at most 8 (42; LANGUAGE 3.21 to 3.23).
 pub fn longer_value(term: usize, link: u32, links: u32, end: BorrowEnd) -> Verdict
     requires { ⌜ (0 < link) × (link ≤ 3) ⌝ }
     ensures { λ r. ⌜ Answers r (atMost8 term (typeOf (linkOf (link - 1) ∷ chainOf links) (asBorrow end))) ⌝ }
