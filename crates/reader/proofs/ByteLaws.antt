@@ -1,4 +1,5 @@
--- The byte reader's code judges a term by indices into what is left, `specs/ByteParts.antt`; 01's reader goes from step to step, `specs/Reader.antt`.
+-- The byte reader's code judges a term by indices into what is left, `specs/ByteParts.antt`; the definition goes from step to step,
+-- `specs/Reader.antt`.
 -- Here the two are joined: the operands, what stands at a kind byte, and so a term up to its inner terms.
 use Prim.Native.Nat.{ℕ, zero, suc, _+_, _-_, _≤_, _<_}
 use native.Mathlib.Omega.{arith}

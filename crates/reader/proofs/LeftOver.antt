@@ -54,7 +54,7 @@ all-unused b k (x ∷ xs) h =
 pub bits-unused : (rows : List ℕ) (i : ℕ) → i ≤ length rows → bitsOf 0 (drop i rows) ≡ 0 → length rows ≡ firstUsed i (drop i rows)
 bits-unused rows i h z = omega (arith, all-unused 0 i (drop i rows) z .1, length-drop i rows)
 
--- "19" is at the row of the first number that is not 0.
+-- 19 (LANGUAGE 5.13) is at the row of the first number that is not 0.
 pub left-judged : (k : ℕ) (xs : List ℕ) → nothingLeft inRows k xs ≡ pick (ltb (firstUsed k xs) (k + length xs)) (err (19, firstUsed k xs / 5)) (ok tt)
 unfolding nothingLeft firstUsed need _>>=_
 left-judged k [] = rw (le-ltb k (k + 0) (omega arith))

@@ -1,4 +1,4 @@
--- The script form: trees, their bytes and rows, reading, and what the public functions answer.
+-- The script form (LANGUAGE 2, 5): trees, their bytes and rows, reading, and what the public functions answer.
 pub mod Result
 pub mod Limits
 pub mod Script

@@ -1,4 +1,4 @@
--- What the code that writes bytes is said with: the bytes of a term row, and of the rows of a script. No rule of 01 is stated here.
+-- What the code that writes bytes is said with: the bytes of a term row, and of the rows of a script. No rule of the language is stated here.
 use Prim.Native.Nat.{ℕ, zero, suc, _+_, _*_, _/_, _%_}
 use mathlib.Core.List.{List, [], _∷_, _++_}
 use lib.ListN.{getD, drop}

@@ -1,4 +1,4 @@
--- What both parts of the code, for bytes and for rows, are said with. No rule of 01 is stated here.
+-- What both parts of the code, for bytes and for rows, are said with. No rule of the language is stated here.
 use Prim.Native.Nat.{ℕ, _+_, _≤_, _<_}
 use mathlib.Core.Option.{Option, none, some}
 use mathlib.Core.List.{List, [], _∷_}

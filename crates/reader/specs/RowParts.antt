@@ -1,4 +1,4 @@
--- What the parts of the row judge's code answer. No rule of 01 is stated here.
+-- What the parts of the row judge's code answer. No rule of the language is stated here.
 use Prim.Native.Nat.{ℕ, suc, _+_, _*_, _-_, _/_, _%_, _≤_, _<_}
 use mathlib.Core.Path.{_≡_}
 use mathlib.Core.Bool.{Bool, true, false, not, _&&_}

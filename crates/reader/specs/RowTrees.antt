@@ -1,6 +1,6 @@
 -- The term that stands from a row on, row by row, as far as code relies on it: room for each row, a known kind, numbers that index
 -- something in their ranges, one term in a block at least, and the levels. `decode` gives it (proofs/RowTrees), so check and machine need
--- look at nothing twice. nv is the number of variables.
+-- look at nothing twice. nv is the number of variables. No rule of the language is stated here.
 use Prim.Native.Nat.{ℕ, zero, suc, _+_, _*_}
 use mathlib.Core.Bool.{Bool, true, false}
 use mathlib.Core.Option.{Option, none, some}

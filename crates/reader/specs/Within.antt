@@ -1,4 +1,4 @@
--- Scripts within the limits.
+-- Scripts within the limits (LANGUAGE 2.8).
 use Prim.Native.Nat.{ℕ, suc, _+_, _≤_, _<_}
 use mathlib.Core.Path.{_≡_}
 use mathlib.Core.List.{List, [], _∷_, _++_}
@@ -8,7 +8,7 @@ use Rattle.reader.specs.Kinds.{kNumber, kReading, kCopy, kMove, kShared,
 use Rattle.reader.specs.Layout.{placeOf, others}
 use Rattle.reader.specs.Measures.{size, boxesIn, depth, kindIn}
 
--- What an operand may be.
+-- What an operand may be (LANGUAGE 2.4).
 abbrev pub InRange : Field → ℕ → Type 0
 InRange word v = v < 4294967296
 InRange (until a b) v = (a ≤ v) × (v < b)
@@ -20,7 +20,7 @@ Ranges (f ∷ fs) [] = ⊥
 Ranges (f ∷ fs) (v ∷ vs) = InRange f v × Ranges fs vs
 
 unfoldable mutual
-  -- Numbered from i on in byte order, every operand in its range.
+  -- Numbered from i on in byte order (LANGUAGE 2.6), every operand in its range (2.4).
   pub Formed : Limits → ℕ → Term → Type 0
   Formed l i (number j n) = (j ≡ i) × Ranges (fields l kNumber) (n ∷ [])
   Formed l i (reading j n) = (j ≡ i) × Ranges (fields l kReading) (n ∷ [])
@@ -38,7 +38,7 @@ unfoldable mutual
   FormedAll l i (last t) = Formed l i t
   FormedAll l i (more t ts) = Formed l i t × FormedAll l (i + size t) ts
 
--- A script that 01 allows. That its bytes are few enough follows: 512 terms take no more than 2,565.
+-- A script whose form is right (LANGUAGE 2). That its bytes are few enough follows: 512 terms take no more than 2,565 (2.8).
 pub record Within (l : Limits) (t : Term) : Type 0 where
   pub levels : depth t ≤ l .levels
   pub terms : size t ≤ l .terms

@@ -1,4 +1,5 @@
-// The kinds of terms, as they stand in kind bytes and in term rows, and what the layers above ask of a kind too.
+// The kinds of terms (LANGUAGE 2.3), as they stand in kind bytes and in term rows, and what the layers above ask of a
+// kind too.
 ghost use mathlib.Core.Path.{_≡_};
 ghost use Prim.Native.Nat.{_≤_};
 ghost use Rattle.reader.specs.Kinds.{wrapsOf};
@@ -26,7 +27,7 @@ pub const BELOW: u32 = 10;
 
 pub const BLOCK: u32 = 11;
 
-// Box, let and assign stand around one inner term, which is in the next row.
+// Box, let and assign have one inner term (LANGUAGE 2.3), which is in the next row.
 pub fn wraps(kind: u32) -> bool
     ensures { λ r. ⌜ r ≡ wrapsOf kind ⌝ }
 {
@@ -39,7 +40,7 @@ pub fn wraps(kind: u32) -> bool
     kind == ASSIGN
 }
 
-// The box terms so far, with a term of this kind.
+// The box terms so far, with a term of this kind (at most 64, LANGUAGE 2.8).
 pub fn boxes_with(kind: u32, boxes: usize) -> usize
     requires { ⌜ boxes ≤ 64 ⌝ }
     ensures { λ r. ⌜ r ≡ boxesWith kind boxes ⌝ }

@@ -1,4 +1,4 @@
-// The script form: reading bytes into term rows, judging term rows, and writing them as bytes again.
+// The script form (LANGUAGE 2): reading bytes into term rows, judging term rows, and writing them as bytes again.
 ghost use mathlib.Core.Path.{_≡_};
 ghost use Rattle.reader.specs.Limits.{base};
 ghost use Rattle.reader.specs.Answers.{told, readOf, judgedOf, writtenOf};
@@ -21,13 +21,14 @@ use crate::rows::no_block;
 use crate::script::clear_from;
 use crate::script::read_script;
 
-// A count (the terms of a script, or the bytes written), or 01's number and place.
+// A count (the terms of a script, or the bytes written), or the refusal's number and place (LANGUAGE 5.2).
 pub enum Outcome {
     Count(usize),
     Refused(u32, usize),
 }
 
-// Reads a script into term rows: the number of terms. Every refusal but the caller's 1 and 2 leaves all rows 0.
+// Read (LANGUAGE 6.2): a script into term rows, and the number of terms. Every refusal but the caller's 1 and 2 leaves
+// all rows 0.
 pub fn read(script: &[u8], rows: &mut [u32]) -> Outcome
     ensures { λ r. ⌜ (told r, now (rows .exit)) ≡ readOf base (now (script .entry)) (now (rows .entry)) ⌝ }
 {
@@ -47,7 +48,7 @@ pub fn read(script: &[u8], rows: &mut [u32]) -> Outcome
     Outcome::Count(terms)
 }
 
-// Judges term rows that the caller made: the number of terms.
+// Judge rows (LANGUAGE 6.3) that the caller made: the number of terms, or 2, 12 to 19.
 pub fn judge_rows(rows: &[u32]) -> Outcome
     ensures { λ r. ⌜ told r ≡ judgedOf base (now (rows .entry)) ⌝ }
 {
@@ -70,7 +71,8 @@ pub fn judge_rows(rows: &[u32]) -> Outcome
     Outcome::Count(terms)
 }
 
-// The script of judged rows at the front of the output, and its length; or the refusal, with the output unchanged.
+// Write (LANGUAGE 6.4): the script of judged rows at the front of the output, and its length; or the refusal, with the
+// output unchanged. 5 comes after the rows (5.8).
 pub fn write(rows: &[u32], output: &mut [u8]) -> Outcome
     ensures { λ r. ⌜ (told r, now (output .exit)) ≡ writtenOf base (now (rows .entry)) (now (output .entry)) ⌝ }
 {

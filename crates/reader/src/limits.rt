@@ -1,4 +1,5 @@
-// The limits of scripts, the lengths of lent memory, and the refusal numbers that more than one layer gives.
+// The limits of scripts (LANGUAGE 2.4, 2.8), the lengths of lent memory (2.9, 4.1), and the refusal numbers of the
+// caller (5.3) and the carrier (5.4).
 
 pub const BYTES: usize = 4096;
 
@@ -21,7 +22,7 @@ pub const ROW_NUMBERS: usize = 2560;
 
 pub const STORE_NUMBERS: usize = 384;
 
-// By the caller.
+// By the caller (LANGUAGE 5.3).
 pub const SCRIPT_TOO_LONG: u32 = 1;
 
 pub const ROWS_LENGTH: u32 = 2;
@@ -32,7 +33,7 @@ pub const READINGS_LENGTH: u32 = 4;
 
 pub const OUTPUT_SHORT: u32 = 5;
 
-// By the carrier of the bytes.
+// By the carrier of the bytes or rows (LANGUAGE 5.4).
 pub const MARK: u32 = 10;
 
 pub const VERSION: u32 = 11;

@@ -1,10 +1,10 @@
-// What stands at a kind byte.
+// What stands at a kind byte (LANGUAGE 5.10).
 ghost use mathlib.Core.Path.{_≡_};
 ghost use Rattle.reader.specs.ByteParts.{openingNumber};
 use crate::kinds;
 use crate::limits;
 
-// The number of the refusal at a kind byte, in 01's order 12, 13, 18, 16, 15, 17; 0 where there is none.
+// The number of the refusal at a kind byte, in the order 12, 13, 18, 16, 15, 17 (LANGUAGE 5.10); 0 where there is none.
 // `outer` says that the term must be a block.
 pub fn opening_number(tail: &[u8], levels: usize, outer: bool, terms: usize, boxes: usize) -> u32
     ensures { λ r. ⌜ r ≡ openingNumber levels outer (now (tail .entry)) terms boxes ⌝ }

@@ -1,4 +1,4 @@
-// The operands after a kind byte, judged byte by byte, and the row that they fill.
+// The operands after a kind byte, judged byte by byte (LANGUAGE 5.11), and the row that they fill (2.9).
 ghost use mathlib.Core.Path.{_≡_};
 ghost use mathlib.Core.List.{_∷_, []};
 ghost use Prim.Native.Nat.{_+_, _*_, _<_, _≤_};
@@ -18,7 +18,7 @@ pub enum Fields {
     Refused(u32, usize),
 }
 
-// The row of term n.
+// The row of term n (LANGUAGE 2.9).
 pub fn put_row(rows: &mut [u32], n: usize, kind: u32, a: u32, b: u32, c: u32, d: u32)
     requires { ⌜ n * 5 + 5 ≤ length (now rows) ⌝ }
     ensures { λ _. ⌜ now (rows .exit) ≡ sets (now (rows .entry)) (n * 5) (kind ∷ a ∷ b ∷ c ∷ d ∷ []) ⌝ }
@@ -35,7 +35,7 @@ pub fn put_row(rows: &mut [u32], n: usize, kind: u32, a: u32, b: u32, c: u32, d:
     rows[at4] = d;
 }
 
-// 0 where the byte at j is from low to below high; else 12 where there is none, or 14.
+// One operand byte (LANGUAGE 5.11): 0 where the byte at j is from low to below high; else 12 if there is none, or 14.
 pub fn field_number(tail: &[u8], j: usize, low: u32, high: u32) -> u32
     ensures { λ r. ⌜ r ≡ fieldNumber (now (tail .entry)) j low high ⌝ }
 {
@@ -52,7 +52,7 @@ pub fn field_number(tail: &[u8], j: usize, low: u32, high: u32) -> u32
     0
 }
 
-// A place: the bytes at j and j + 1.
+// A place (LANGUAGE 2.5): the bytes at j and j + 1.
 pub fn judge_place(tail: &[u8], at: usize, j: usize) -> Fields
     requires { ⌜ (at + length (now tail) ≤ 4096) × (j ≤ 3) ⌝ }
     ensures { λ r. ⌜ r ≡ judgedFields placeFields (now (tail .entry)) at j ⌝ }
@@ -69,7 +69,7 @@ pub fn judge_place(tail: &[u8], at: usize, j: usize) -> Fields
     Fields::Fine(j1 + 1)
 }
 
-// Four bytes after the kind byte.
+// The operand of a number (LANGUAGE 2.3): four bytes after the kind byte, any (2.4).
 pub fn read_word(tail: &[u8], at: usize, n: usize, rows: &mut [u32]) -> Fields
     requires { ⌜ (at + length (now tail) ≤ 4096) × (n * 5 + 5 ≤ length (now rows)) ⌝ }
     ensures { λ r. ⌜ Filled wordField 1 (now (tail .entry)) at n (now (rows .entry)) (now (rows .exit)) r ⌝ }
@@ -82,7 +82,7 @@ pub fn read_word(tail: &[u8], at: usize, n: usize, rows: &mut [u32]) -> Fields
     Fields::Fine(5)
 }
 
-// One byte from low to below high.
+// The operand of a reading, a let and a block (LANGUAGE 2.3): one byte from low to below high (2.4).
 pub fn read_one(
     tail: &[u8],
     at: usize,
@@ -103,6 +103,7 @@ pub fn read_one(
     Fields::Fine(2)
 }
 
+// The operands of a copy, a move, a borrow and an assign (LANGUAGE 2.3): one place.
 pub fn read_place(tail: &[u8], at: usize, kind: u32, n: usize, rows: &mut [u32]) -> Fields
     requires { ⌜ (at + length (now tail) ≤ 4096) × (n * 5 + 5 ≤ length (now rows)) ⌝ }
     ensures { λ r. ⌜ Filled placeFields kind (now (tail .entry)) at n (now (rows .entry)) (now (rows .exit)) r ⌝ }
@@ -115,6 +116,7 @@ pub fn read_place(tail: &[u8], at: usize, kind: u32, n: usize, rows: &mut [u32])
     place
 }
 
+// The operands of a below (LANGUAGE 2.3): two places.
 pub fn read_two_places(tail: &[u8], at: usize, n: usize, rows: &mut [u32]) -> Fields
     requires { ⌜ (at + length (now tail) ≤ 4096) × (n * 5 + 5 ≤ length (now rows)) ⌝ }
     ensures { λ r. ⌜ Filled twoPlaceFields 10 (now (tail .entry)) at n (now (rows .entry)) (now (rows .exit)) r ⌝ }
@@ -139,7 +141,7 @@ pub fn read_two_places(tail: &[u8], at: usize, n: usize, rows: &mut [u32]) -> Fi
     second
 }
 
-// The operands of a known kind, and its row.
+// The operands of a known kind (LANGUAGE 2.3), and its row (2.9).
 pub fn read_operands(tail: &[u8], at: usize, kind: u32, n: usize, rows: &mut [u32]) -> Fields
     requires { ⌜ (at + length (now tail) ≤ 4096) × (n * 5 + 5 ≤ length (now rows)) × IsKind kind ⌝ }
     ensures { λ r. ⌜ Filled (fieldsOf kind) kind (now (tail .entry)) at n (now (rows .entry)) (now (rows .exit)) r ⌝ }

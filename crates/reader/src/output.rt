@@ -1,6 +1,6 @@
-// The bytes of a script that is given as term rows. Bytes and rows list the terms in one order, so each row
-// gives its own bytes, straight after those of the row before it. The rows come judged: a kind that 01 does
-// not have is taken as one with a place, so that nothing here can refuse.
+// The bytes of a script that is given as term rows (LANGUAGE 6.4). Bytes and rows list the terms in one order (2.9), so
+// each row gives its own bytes, straight after those of the row before it. The rows come judged: a kind that is none is
+// taken as one with a place, so that nothing here can refuse.
 ghost use mathlib.Core.Path.{_≡_};
 ghost use mathlib.Core.List.{_∷_, []};
 ghost use Prim.Native.Nat.{ℕ, _+_, _*_, _%_, _≤_};
@@ -9,7 +9,7 @@ ghost use lib.Seq.{sets};
 ghost use Rattle.reader.specs.OutputParts.{rowBytes, bytesAt, scriptFrom};
 use crate::kinds;
 
-// The bytes that a row of this kind gives, whatever its fields hold.
+// The bytes that a row of this kind gives (LANGUAGE 2.3), whatever its fields hold.
 fn row_length(kind: u32) -> usize
     ensures { λ r. ⌜ ((a b c d : ℕ) → length (rowBytes kind a b c d) ≡ r) × (r ≤ 5) ⌝ }
 {
@@ -21,7 +21,7 @@ fn row_length(kind: u32) -> usize
     }
 }
 
-// The bytes of the whole script, mark and version included.
+// The bytes of the whole script, mark and version included (LANGUAGE 2.1).
 pub fn script_bytes(rows: &[u32], terms: usize) -> usize
     requires { ⌜ terms * 5 ≤ length (now rows) ⌝ }
     ensures { λ r. ⌜ r ≡ length (scriptFrom terms (now (rows .entry))) ⌝ }
@@ -35,8 +35,10 @@ pub fn script_bytes(rows: &[u32], terms: usize) -> usize
     bytes
 }
 
-// The next four write the lowest 8 bits of each number from offset `at` on, and answer the offset after them.
+// The next four write the lowest 8 bits of each number from offset `at` on, and answer the offset after them. They are
+// for terms of so many bytes (LANGUAGE 2.3).
 
+// A box (LANGUAGE 2.3).
 fn put_one(output: &mut [u8], at: usize, a: u32) -> usize
     requires { ⌜ at + 1 ≤ length (now output) ⌝ }
     ensures { λ r. ⌜ (r ≡ at + 1) × (now (output .exit) ≡ sets (now (output .entry)) at (a % 256 ∷ [])) ⌝ }
@@ -45,6 +47,7 @@ fn put_one(output: &mut [u8], at: usize, a: u32) -> usize
     at + 1
 }
 
+// A reading, a let, a block (LANGUAGE 2.3).
 fn put_two(output: &mut [u8], at: usize, a: u32, b: u32) -> usize
     requires { ⌜ at + 2 ≤ length (now output) ⌝ }
     ensures { λ r. ⌜ (r ≡ at + 2) × (now (output .exit) ≡ sets (now (output .entry)) at (a % 256 ∷ b % 256 ∷ [])) ⌝ }
@@ -54,6 +57,7 @@ fn put_two(output: &mut [u8], at: usize, a: u32, b: u32) -> usize
     at + 2
 }
 
+// A kind with one place (LANGUAGE 2.3).
 fn put_three(output: &mut [u8], at: usize, a: u32, b: u32, c: u32) -> usize
     requires { ⌜ at + 3 ≤ length (now output) ⌝ }
     ensures { λ r. ⌜ (r ≡ at + 3) × (now (output .exit) ≡ sets (now (output .entry)) at (a % 256 ∷ b % 256 ∷ c % 256 ∷ [])) ⌝ }
@@ -64,6 +68,7 @@ fn put_three(output: &mut [u8], at: usize, a: u32, b: u32, c: u32) -> usize
     at + 3
 }
 
+// A number, a below (LANGUAGE 2.3); mark and version (2.1).
 fn put_five(output: &mut [u8], at: usize, a: u32, b: u32, c: u32, d: u32, e: u32) -> usize
     requires { ⌜ at + 5 ≤ length (now output) ⌝ }
     ensures { λ r. ⌜ (r ≡ at + 5) × (now (output .exit) ≡ sets (now (output .entry)) at (a % 256 ∷ b % 256 ∷ c % 256 ∷ d % 256 ∷ e % 256 ∷ [])) ⌝ }
@@ -76,7 +81,7 @@ fn put_five(output: &mut [u8], at: usize, a: u32, b: u32, c: u32, d: u32, e: u32
     at + 5
 }
 
-// The bytes of row i, from offset `at` on; the offset after them.
+// The bytes of row i (LANGUAGE 2.3), from offset `at` on; the offset after them.
 fn put_row_bytes(rows: &[u32], i: usize, output: &mut [u8], at: usize) -> usize
     requires { ⌜ (i * 5 + 5 ≤ length (now rows)) × (at + length (bytesAt (now rows) i) ≤ length (now output)) ⌝ }
     ensures { λ r. ⌜ (r ≡ at + length (bytesAt (now (rows .entry)) i)) × (now (output .exit) ≡ sets (now (output .entry)) at (bytesAt (now (rows .entry)) i)) ⌝ }
@@ -103,7 +108,7 @@ fn put_row_bytes(rows: &[u32], i: usize, output: &mut [u8], at: usize) -> usize
     }
 }
 
-// The script at the front of the output: the mark `RCS`, version 1, and each row's bytes.
+// The script at the front of the output (LANGUAGE 2.1, 6.4): the mark `RCS`, version 1, and each row's bytes.
 pub fn put_script(rows: &[u32], terms: usize, output: &mut [u8])
     requires { ⌜ (terms * 5 ≤ length (now rows)) × (length (scriptFrom terms (now rows)) ≤ length (now output)) ⌝ }
     ensures { λ _. ⌜ now (output .exit) ≡ sets (now (output .entry)) 0 (scriptFrom terms (now (rows .entry))) ⌝ }

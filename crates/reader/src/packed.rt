@@ -12,6 +12,7 @@ pub const PLACES: usize = 65536;
 
 pub const REFUSED: usize = 1073741824;
 
+// So many terms, or rows, and boxes met, for their limits (LANGUAGE 2.8).
 pub fn counted(terms: usize, boxes: usize) -> usize
     requires { ⌜ (terms < 1024) × (boxes < 128) ⌝ }
     ensures { λ r. ⌜ r ≡ boxes * 1024 + terms ⌝ }
@@ -19,6 +20,7 @@ pub fn counted(terms: usize, boxes: usize) -> usize
     boxes * TERMS + terms
 }
 
+// The next offset too, where bytes are read (LANGUAGE 5.2).
 pub fn fine(next: usize, terms: usize, boxes: usize) -> usize
     requires { ⌜ (next < 8192) × (terms < 1024) × (boxes < 128) ⌝ }
     ensures { λ r. ⌜ r ≡ (boxes * 1024 + terms) * 8192 + next ⌝ }
@@ -26,6 +28,7 @@ pub fn fine(next: usize, terms: usize, boxes: usize) -> usize
     counted(terms, boxes) * OFFSETS + next
 }
 
+// A refusal: its number (LANGUAGE 5.4) and its place (5.2).
 pub fn refused(number: u32, place: usize) -> usize
     requires { ⌜ place < 65536 ⌝ }
     ensures { λ r. ⌜ (r ≡ 1073741824 + number * 65536 + place) × (number < 4294967296) ⌝ }
@@ -33,7 +36,7 @@ pub fn refused(number: u32, place: usize) -> usize
     REFUSED + number as usize * PLACES + place
 }
 
-// The number of a refusal, which has 32 bits.
+// The number of a refusal (LANGUAGE 5.4), which has 32 bits.
 pub fn number_of(refusal: usize) -> u32
     requires { ⌜ 1073741824 ≤ refusal ⌝ }
     ensures { λ r. ⌜ r ≡ (refusal - 1073741824) / 65536 % 4294967296 ⌝ }

@@ -1,4 +1,5 @@
-// Terms and blocks in term rows, and what stands after them: what check, machine and writer rely on.
+// Terms and blocks in term rows (LANGUAGE 5.12), and what stands after them (5.13): what check, machine and writer rely
+// on.
 ghost use mathlib.Core.Path.{_≡_};
 ghost use mathlib.Core.Bool.{false};
 ghost use mathlib.Core.List.{_∷_, []};
@@ -13,13 +14,14 @@ use crate::kinds::boxes_with;
 use crate::limits;
 use crate::packed;
 
+// A place in its ranges (LANGUAGE 2.4, 2.5).
 fn place_fits(root: u32, follows: u32) -> bool
     ensures { λ r. ⌜ r ≡ fieldsFit placeFields (root ∷ follows ∷ []) ⌝ }
 {
     root < limits::VARIABLES && follows < limits::FOLLOWS
 }
 
-// Fields that no operand uses.
+// Fields that the kind does not use are 0 (LANGUAGE 2.10).
 fn all_zero(a: u32, b: u32, c: u32, d: u32) -> bool
     ensures { λ r. ⌜ r ≡ fieldsFit [] (a ∷ b ∷ c ∷ d ∷ []) ⌝ }
 {
@@ -32,7 +34,7 @@ fn all_zero(a: u32, b: u32, c: u32, d: u32) -> bool
     c == 0 && d == 0
 }
 
-// One operand, from low to below high.
+// One operand, from low to below high (LANGUAGE 2.4), and unused fields.
 fn one_fits(low: u32, high: u32, a: u32, b: u32, c: u32, d: u32) -> bool
     ensures { λ r. ⌜ r ≡ fieldsFit (until low high ∷ []) (a ∷ b ∷ c ∷ d ∷ []) ⌝ }
 {
@@ -42,7 +44,7 @@ fn one_fits(low: u32, high: u32, a: u32, b: u32, c: u32, d: u32) -> bool
     a < high && all_zero(0, b, c, d)
 }
 
-// The operands of a kind are in their ranges, and the fields after them 0.
+// 14 is not met (LANGUAGE 5.4): the operands of a kind are in their ranges (2.4), and the fields after them 0 (2.10).
 fn fields_fit(kind: u32, a: u32, b: u32, c: u32, d: u32) -> bool
     requires { ⌜ IsKind kind ⌝ }
     ensures { λ r. ⌜ r ≡ fieldsFit (fieldsOf kind) (a ∷ b ∷ c ∷ d ∷ []) ⌝ }
@@ -58,8 +60,8 @@ fn fields_fit(kind: u32, a: u32, b: u32, c: u32, d: u32) -> bool
     }
 }
 
-// The first row is a term's, and not a block's: 18. No other row can meet that, so it is asked once, before the rows
-// are judged one after the other.
+// 18 (LANGUAGE 5.4): the first row is a term's, and not a block's. No other row can meet that, so it is asked once,
+// before the rows are judged one after the other.
 pub fn no_block(rows: &[u32]) -> bool
     requires { ⌜ length (now rows) ≡ 2560 ⌝ }
     ensures { λ r. ⌜ r ≡ noBlock (now (rows .entry)) ⌝ }
@@ -68,7 +70,7 @@ pub fn no_block(rows: &[u32]) -> bool
     0 < kind && kind < kinds::BLOCK
 }
 
-// The number of the refusal at row i, in 01's order 12, 13, 15, 17, 14; 0 where there is none.
+// The number of the refusal at row i, in the order 12, 13, 15, 17, 14 (LANGUAGE 5.12); 0 where there is none.
 // 16 cannot be met, since 512 rows hold no more than 512 terms.
 fn row_number(rows: &[u32], i: usize, levels: usize, boxes: usize) -> u32
     requires { ⌜ length (now rows) ≡ 2560 ⌝ }
@@ -102,8 +104,8 @@ fn row_number(rows: &[u32], i: usize, levels: usize, boxes: usize) -> u32
     limits::OPERAND
 }
 
-// The term at row i, nested at most as deep as levels says, after so many boxes. Box, let and assign are judged as
-// their inner term is, one row on and one level deeper.
+// The term at row i (LANGUAGE 2.2), nested at most as deep as levels says, after so many boxes. Box, let and assign are
+// judged as their inner term is, one row on and one level deeper (2.7).
 fn judge_term(rows: &[u32], i: usize, levels: usize, boxes: usize) -> usize
     requires { ⌜ RowsReady (now rows) i boxes ⌝ }
     ensures { λ r. ⌜ spanned r ≡ spanOf (termRows levels false (now (rows .entry)) i boxes) ⌝ }
@@ -135,7 +137,7 @@ fn judge_term(rows: &[u32], i: usize, levels: usize, boxes: usize) -> usize
     }
 }
 
-// count terms one after the other from row i on, one at least.
+// A block's terms (LANGUAGE 2.3): count of them one after the other from row i on, one at least.
 pub fn judge_block(rows: &[u32], i: usize, count: usize, levels: usize, boxes: usize) -> usize
     requires { ⌜ RowsReady (now rows) i boxes × (0 < count) ⌝ }
     ensures { λ r. ⌜ spanned r ≡ spanOf (blockRows levels count (now (rows .entry)) i boxes) ⌝ }
@@ -155,7 +157,8 @@ pub fn judge_block(rows: &[u32], i: usize, count: usize, levels: usize, boxes: u
     packed::counted(next, boxed)
 }
 
-// The bits that any number from `from` on has. Nothing leaves the loop early, so it becomes vector code.
+// The bits that any number from `from` on has: 0 where 19 is not met (LANGUAGE 5.13). Nothing leaves the loop early, so
+// it becomes vector code.
 fn bits_from(rows: &[u32], from: usize) -> u32
     ensures { λ r. ⌜ r ≡ bitsOf 0 (drop from (now (rows .entry))) ⌝ }
 {
@@ -168,7 +171,7 @@ fn bits_from(rows: &[u32], from: usize) -> u32
     bits
 }
 
-// Where the first number from `from` on that is not 0 stands; the length where there is none.
+// 19 (LANGUAGE 5.13): where the first number from `from` on that is not 0 stands; the length where there is none.
 // Rows that were read from bytes have none, so that is found out first, by the faster loop.
 pub fn first_used(rows: &[u32], from: usize) -> usize
     requires { ⌜ from ≤ length (now rows) ⌝ }

@@ -1,4 +1,5 @@
-// Terms and blocks in a script's bytes. Each term is read from the part of the script that begins at its kind byte.
+// Terms and blocks in a script's bytes. Each term is read from the part of the script that begins at its kind byte
+// (LANGUAGE 2.2).
 ghost use mathlib.Core.Path.{_≡_};
 ghost use Prim.Native.Nat.{_<_, _≤_};
 ghost use Rattle.reader.specs.Layout.{lay, lays, inRows};
@@ -10,7 +11,8 @@ use crate::operands::Fields;
 use crate::operands::read_operands;
 use crate::packed;
 
-// tail begins at the kind byte, which stands at offset at of the script.
+// A term (LANGUAGE 2.2): what stands at its kind byte (5.10), its operands (5.11), its inner terms one level deeper
+// (2.7). tail begins at the kind byte, which stands at offset at of the script.
 pub fn read_term(
     tail: &[u8],
     at: usize,
@@ -53,7 +55,7 @@ pub fn read_term(
     }
 }
 
-// count terms one after the other, one at least.
+// A block's terms (LANGUAGE 2.3): count of them one after the other, one at least.
 pub fn read_block(
     tail: &[u8],
     at: usize,

@@ -159,8 +159,8 @@ pub fn judge_shared(env: &[u32], variables: usize, term: usize, place: Place) ->
     }
 }
 
-// Exclusive borrow (LANGUAGE 3.22): the place, its value whole (33), no shared link passed (36), writing not barred (35),
-// one link more makes at most 8 (42).
+// Exclusive borrow (LANGUAGE 3.22): the place, its value whole (33), no shared link passed (36), writing not barred
+// (35), one link more makes at most 8 (42).
 pub fn judge_exclusive(env: &[u32], variables: usize, term: usize, place: Place) -> Verdict
     requires { ⌜ TableFor (now env) variables ⌝ }
     ensures { λ r. ⌜ answered (environmentOf (now (env .entry))) r ≡ judgeExclusive variables (environmentOf (now (env .entry))) term (asPlace place) ⌝ }

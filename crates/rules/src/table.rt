@@ -1,4 +1,4 @@
-// The table of the variables, 8 words to each: seven hold the state (LANGUAGE 3.6, 3.8). The eighth is a note (notes.rt).
+// The table of the variables, 8 words to each: seven hold the state (LANGUAGE 3.8), the eighth is a note (notes.rt).
 ghost use mathlib.Core.Path.{_≡_};
 ghost use Prim.Native.Nat.{ℕ, _<_, _≤_, _+_, _*_};
 ghost use lib.ListN.{length};
