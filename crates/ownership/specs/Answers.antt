@@ -1,4 +1,4 @@
--- What `check` answers on every input.
+-- What `check` answers on every input (LANGUAGE 6.5).
 use Prim.Native.Nat.{ℕ}
 use mathlib.Core.List.{List}
 use Rattle.reader.specs.Result.{Result, ok, err, Refusal, _>>=_}
@@ -9,12 +9,12 @@ use Rattle.rules.specs.Judge.{judgeScript}
 use Rattle.ownership.specs.declared.Checked.{Checked}
 use Rattle.ownership.specs.declared.Checked.the-variants.{Accepted, Refused}
 
--- 01's number and values for each case of the code's answer.
+-- The number of terms, or the refusal and its place (LANGUAGE 5.2), for each case of the code's answer.
 unfoldable pub toldChecked : Checked → Result Refusal ℕ
 toldChecked (Accepted n) = ok n
 toldChecked (Refused n p) = err (n, p)
 
--- 2, then 12 to 19, then 30 to 43; an accepted script has its number of terms.
+-- `check` (LANGUAGE 6.5): 2, then 12 to 19, then 30 to 43 (5.7); for an accepted script (3.30) its number of terms.
 unfoldable pub checkOf : Limits → List ℕ → Result Refusal ℕ
 checkOf l rows =
     rowsTree l rows >>= λ t.

@@ -1,4 +1,4 @@
--- The judge at a row: the rules' judge at the tree that stands there, and the row after it.
+-- The judge at a row: the rules' judge at the tree that stands there, and the row after it. No rule of the language is stated here.
 use Prim.Native.Nat.{ℕ, zero, suc, _+_, _*_, _≤_, _<_}
 use mathlib.Core.Path.{_≡_}
 use mathlib.Core.Bool.{true}

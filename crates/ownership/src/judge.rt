@@ -1,4 +1,5 @@
-// Judging terms and blocks over term rows. The table of the variables is lent down; after a refusal it is not looked at again.
+// Judging terms and blocks over term rows, in the order of a run (LANGUAGE 3.1). The table of the variables is lent
+// down; after a refusal it is not looked at again.
 ghost use mathlib.Core.Path.{_≡_};
 ghost use mathlib.Core.Bool.{false};
 ghost use Prim.Native.Nat.{_<_, _+_};
@@ -37,7 +38,7 @@ pub struct JudgedTerm {
     pub verdict: Verdict,
 }
 
-// The terms that have no inner term.
+// The terms that have no inner term: the rule of each kind (LANGUAGE 3.18 to 3.22, 3.27).
 fn judge_leaf(
     env: &mut [u32],
     variables: usize,
@@ -59,7 +60,8 @@ fn judge_leaf(
     }
 }
 
-// What comes before the inner term of a box, let or assign, which is in the next row: a let takes its number.
+// What comes before the inner term of a box, let or assign, which is in the next row: a let takes its number
+// (LANGUAGE 3.24).
 fn judge_before(rows: &[u32], i: usize, env: &mut [u32], variables: usize) -> Requirement
     requires { ⌜ Wraps variables (now rows) i × TableFor (now env) variables ⌝ }
     ensures { λ r. ⌜ (begun (environmentOf (now (env .exit))) r ≡ beginAt (now (rows .entry)) i (environmentOf (now (env .entry)))) × TableFor (now (env .exit)) variables ⌝ }
@@ -72,7 +74,7 @@ fn judge_before(rows: &[u32], i: usize, env: &mut [u32], variables: usize) -> Re
     begin_let(env, variables, i, x)
 }
 
-// What follows it.
+// What follows it: the rest of the rule (LANGUAGE 3.23 to 3.25). An inner term's refusal is the script's (3.17).
 fn judge_after(
     rows: &[u32],
     i: usize,
@@ -111,7 +113,7 @@ fn judge_after(
     }
 }
 
-// The term at row i, which is a block or has no inner term.
+// The term at row i, which has no inner term or is a block: its terms, then its end (LANGUAGE 3.28).
 fn judge_inmost(
     rows: &[u32],
     i: usize,
@@ -145,8 +147,9 @@ fn judge_inmost(
     }
 }
 
-// The term at row i, with the levels that are left. `level` is that of the innermost block around it. Terms that
-// stand around one inner term are judged by two loops, inwards and outwards, so that only blocks cost calls.
+// The term at row i, with the levels that are left, inner terms where its rule says so (LANGUAGE 3.1). `level` is that
+// of the innermost block around it (3.7). Terms that stand around one inner term are judged by two loops, inwards and
+// outwards, so that only blocks cost calls.
 fn judge_term(
     rows: &[u32],
     i: usize,
@@ -177,7 +180,7 @@ fn judge_term(
     judged
 }
 
-// A block's terms in order, count of them from row i on: the value of the last.
+// A block's terms in order (LANGUAGE 3.28), count of them from row i on: the value of the last (3.4).
 fn judge_block(
     rows: &[u32],
     i: usize,
@@ -206,7 +209,7 @@ fn judge_block(
     judged
 }
 
-// The whole script, with no number taken before it.
+// The script (LANGUAGE 3.29), with no number taken before it (3.1).
 pub fn judge_script(rows: &[u32], levels: usize, env: &mut [u32], variables: usize) -> Requirement
     requires { ⌜ IsTree (treeAt variables levels (now rows) 0) × TableFor (now env) variables × (environmentOf (now env) ≡ nothingTaken variables) × (levels < 4294967296) ⌝ }
     ensures { λ r. ⌜ asRequirement r ≡ scriptAt variables (treeAt variables levels (now (rows .entry)) 0) ⌝ }

@@ -1,4 +1,4 @@
-// The ownership check of a script that is given as term rows.
+// The ownership check (LANGUAGE 3) of a script that is given as term rows.
 ghost use mathlib.Core.Path.{_≡_};
 ghost use Rattle.reader.specs.Result.{ok};
 ghost use Rattle.reader.specs.Limits.{base};
@@ -14,13 +14,14 @@ use reader::judge_rows;
 use reader::limits;
 use rules::Requirement;
 
-// The number of terms, or 01's number and place: the row (12 to 19) or the term (30 to 43).
+// The number of terms, or the refusal's number and place (LANGUAGE 5.2): the row (12 to 19) or the term (30 to 43).
 pub enum Checked {
     Accepted(usize),
     Refused(u32, usize),
 }
 
-// The check of rows that the reader accepts as so many terms: for callers that have the reader's word for it.
+// Check (LANGUAGE 6.5), without 2 and 12 to 19: of rows that the reader accepts as so many terms, for callers that have
+// the reader's word for it.
 pub fn check_judged(rows: &[u32], terms: usize) -> Checked
     requires { ⌜ judgedOf base (now rows) ≡ ok terms ⌝ }
     ensures { λ r. ⌜ toldChecked r ≡ checkOf base (now (rows .entry)) ⌝ }
@@ -34,7 +35,7 @@ pub fn check_judged(rows: &[u32], terms: usize) -> Checked
     }
 }
 
-// "2 rows not 2,560", then 12 to 19 by the reader, then 30 to 43 by the ownership rules.
+// Check (LANGUAGE 6.5): 2 and 12 to 19 by the reader, then 30 to 43 by the ownership rules (5.7).
 pub fn check(rows: &[u32]) -> Checked
     ensures { λ r. ⌜ toldChecked r ≡ checkOf base (now (rows .entry)) ⌝ }
 {
