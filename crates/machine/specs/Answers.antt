@@ -1,4 +1,4 @@
--- What `run` answers, and what it leaves in the store, on every input.
+-- What `run` answers, and what it leaves in the store, on every input (LANGUAGE 6.6).
 use Prim.Native.Nat.{ℕ, _+_, _*_}
 use mathlib.Core.List.{List}
 use lib.Dec.{eqb}
@@ -18,12 +18,12 @@ use Rattle.machine.specs.Encode.{encode}
 use Rattle.machine.specs.declared.RunOutcome.{RunOutcome}
 use Rattle.machine.specs.declared.RunOutcome.the-variants.{Answered, Refused, Faulted}
 
--- The answer and the cells taken; 01's refusal and its place; 01's fault and its term.
+-- The answer (LANGUAGE 4.20) and the cells taken (4.22); a refusal and its place; a fault and its term (5.1, 5.2).
 pub data Answer : Type 0 where
   answered : ℤ → ℕ → Answer
   refused faulted : ℕ → ℕ → Answer
 
--- 01's number and values for each case of the code's answer.
+-- Each case of the code's answer, with its number and values.
 unfoldable pub toldRun : RunOutcome → Answer
 toldRun (Answered a c) = answered a c
 toldRun (Refused n p) = refused n p
@@ -33,33 +33,33 @@ toldRun (Faulted n i) = faulted n i
 abbrev pub AnswerAndStore : Type 0
 AnswerAndStore = Answer × List ℕ
 
--- "2 rows not 2,560; 3 store not 384; 4 readings not 8 i32": place 0, "lowest number first".
+-- 2, 3 and 4: the lengths of rows, store and readings (LANGUAGE 5.3), the lowest first (5.8).
 unfoldable pub runFits : Limits → List ℕ → List ℤ → List ℕ → Result Refusal (Unit {0})
 runFits l rows readings store =
     rowsFit l rows >>= λ _.
     need (eqb (length store) (3 * (l .variables + l .boxes))) (3, 0) >>= λ _.
     need (eqb (length readings) 8) (4, 0)
 
--- The script that is to run: 2 to 4, then 12 to 19.
+-- The script that is to run: 2 to 4, then 12 to 19 (LANGUAGE 5.7).
 unfoldable pub runnable : Limits → List ℕ → List ℤ → List ℕ → Result Refusal Term
 runnable l rows readings store =
     runFits l rows readings store >>= λ _.
     decode l rows
 
--- Reading n as its 32 bits.
+-- Reading n as its 32 bits (LANGUAGE 4.9).
 unfoldable pub bitsOf : List ℤ → ℕ → ℕ
 bitsOf readings n = ofZ w32 (getD readings n (pos 0))
 
--- "the store stays as the run rules had it" on a fault.
+-- The store as the run left it, after a fault too (LANGUAGE 4.21, 6.6).
 unfoldable pub ranInto : Limits → Ran (State × ℕ) → AnswerAndStore
 ranInto l (ok e) = (answered (toZ w32 (e .1)) (e .0 .taken), encode (l .variables) (l .variables + l .boxes) (e .0 .store))
 ranInto l (err f) = (faulted (f .number) (f .term), encode (l .variables) (l .variables + l .boxes) (f .state .store))
 
--- A refusal leaves the store unchanged. A run first clears it, so that what it was before does not count: any may be named.
+-- A refusal leaves the store as it was (LANGUAGE 6.6). A run first clears it (4.4), so that what it held does not count: any may be named.
 unfoldable pub runInto : Limits → List ℤ → List ℕ → Result Refusal Term → AnswerAndStore
 runInto l readings store (ok t) = ranInto l (runScript (bitsOf readings) t (λ x. closed))
 runInto l readings store (err e) = (refused (e .0) (e .1), store)
 
--- `run`: the answer and the store.
+-- `run` (LANGUAGE 6.6): the answer and the store.
 unfoldable pub runOf : Limits → List ℕ → List ℤ → List ℕ → AnswerAndStore
 runOf l rows readings store = runInto l readings store (runnable l rows readings store)

@@ -1,4 +1,4 @@
--- "boxes run are the box terms that finished": a count along the run.
+-- The boxes that ran to their end (LANGUAGE 4.22, 7.4): a count along the run.
 use Prim.Native.Nat.{ℕ, _+_}
 use Rattle.reader.specs.Result.{Result, ok, err}
 use Rattle.reader.specs.Script.{Term, number, reading, copy, move, borrowShared, borrowExclusive, box, declare, assign, below, block, Terms, last, more}
@@ -20,7 +20,7 @@ module _ (readings : ℕ → ℕ) where
     boxesRun (move i p) s = 0
     boxesRun (borrowShared i p) s = 0
     boxesRun (borrowExclusive i p) s = 0
-    -- A box finishes if its inner term does.
+    -- A box runs to its end if its inner term does (LANGUAGE 4.13).
     boxesRun (box i t) s = boxesRun t s + afterwards (run readings t s) (λ o. 1)
     boxesRun (declare i x t) s = boxesRun t s
     boxesRun (assign i p t) s = boxesRun t s

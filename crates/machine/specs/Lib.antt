@@ -1,4 +1,4 @@
--- The store machine: the store and the run rules.
+-- The store machine (LANGUAGE 4): the store and the run rules.
 pub mod Values
 pub mod Store
 pub mod Encode

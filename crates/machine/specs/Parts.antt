@@ -1,5 +1,5 @@
--- What the parts of the machine's code answer: each the run rule it is for, on the store that the lent numbers stand for. No rule of 01
--- is stated here. A fault number 0 is no fault.
+-- What the parts of the machine's code answer: each the run rule it is for, on the store that the lent numbers stand for. No rule of the
+-- language is stated here. A fault number 0 is no fault.
 use Prim.Native.Nat.{ℕ, zero, suc, _+_, _-_, _*_, _≤_, _<_}
 use mathlib.Core.Path.{_≡_}
 use mathlib.Core.Bool.{true}

@@ -1,4 +1,4 @@
--- The run of a term, of a block's terms, and of a whole script.
+-- The run of a term, of a block's terms, and of a whole script (LANGUAGE 4.9 to 4.20).
 use Prim.Native.Nat.{ℕ, suc, _+_, _%_}
 use mathlib.Core.Bool.{Bool, not}
 use mathlib.Core.List.{List, [], _∷_}
@@ -10,79 +10,82 @@ use Rattle.machine.specs.Store.{Store, cleared, put, isOpen, valueIn, St
 use Rattle.machine.specs.Locate.{locate, filled, numberIn}
 use Rattle.machine.specs.Drop.{dropValue, closeAll}
 
--- The state afterwards and the term's value; "let and assign have no value", which is empty here.
+-- The state afterwards and the term's value; no value is empty here (LANGUAGE 4.19).
 abbrev pub Outcome : Type 0
 Outcome = State × Value
 
--- "Copy and move read a filled row; move empties it."
+-- Copy (LANGUAGE 4.10): locate, read; the row stays.
 unfoldable pub runCopy : State → ℕ → Place → Ran Outcome
 runCopy s i p =
     locate s i p >>= λ l.
     filled s i (s .store l) >>= λ v.
     ok (s, v)
 
+-- Move (LANGUAGE 4.11): locate, read; the row becomes empty.
 unfoldable pub runMove : State → ℕ → Place → Ran Outcome
 runMove s i p =
     locate s i p >>= λ l.
     filled s i (s .store l) >>= λ v.
     ok (withStore s (put (s .store) l (openWith empty)), v)
 
--- "A borrow is a reference to the located row."
+-- Borrow, of either kind (LANGUAGE 4.12): a reference to the located row.
 unfoldable pub runBorrow : State → ℕ → Place → Ran Outcome
 runBorrow s i p = locate s i p >>= λ l. ok (s, reference l)
 
+-- A place of a below (LANGUAGE 4.16): locate, read; a number must be there.
 unfoldable pub runNumber : State → ℕ → Place → Ran ℕ
 runNumber s i p =
     locate s i p >>= λ l.
     filled s i (s .store l) >>= λ v.
     numberIn s i v
 
--- The order of the signed numbers whose 32 bits are given.
+-- The order of the signed numbers whose 32 bits are given (LANGUAGE 4.16).
 unfoldable pub less : ℕ → ℕ → Bool
 less a b = ltb ((a + 2147483648) % 4294967296) ((b + 2147483648) % 4294967296)
 
--- "Below reads its first place and needs a number there, then its second likewise, and gives 1 if the first number is less, else 0."
+-- Below (LANGUAGE 4.16): the number at the first place, then that at the second; 1 if the first is less, otherwise 0.
 unfoldable pub runBelow : State → ℕ → Place → Place → Ran Outcome
 runBelow s i p q =
     runNumber s i p >>= λ a.
     runNumber s i q >>= λ b.
     ok (s, num (pick (less a b) 1 0))
 
--- After the inner term: "then opens its row", 62 if it is open already. "Storing no value stores empty", here and below.
+-- Let (LANGUAGE 4.14), after the inner term: its row opens, 62 if it is open already. No value is stored as empty (4.19), here and below.
 unfoldable pub runLet : State → ℕ → ℕ → Value → Ran Outcome
 runLet s i x v =
     need (not (isOpen (s .store (variable x)))) (record { number = 62; term = i; state = s }) >>= λ _.
     ok (record { store = put (s .store) (variable x) (openWith v); taken = s .taken; opened = x ∷ s .opened }, empty)
 
--- After the right side: "locates, drops the old value (the row keeps it meanwhile), then writes if the row is still open; otherwise
--- the new value is lost".
+-- Assign (LANGUAGE 4.15), after the right side: locate, drop the old value, which the row keeps meanwhile, then write if the row is still
+-- open.
 unfoldable pub runAssign : State → ℕ → Place → Value → Ran Outcome
 runAssign s i p v =
     locate s i p >>= λ l.
     dropValue i s (valueIn (s .store l)) >>= λ s′.
     ok (pick (isOpen (s′ .store l)) (withStore s′ (put (s′ .store) l (openWith v))) s′, empty)
 
--- After the inner term: "then fills the new cell"; "the cells are taken in order from 0".
+-- Box (LANGUAGE 4.13), after the inner term: the next cell opens with its value.
 unfoldable pub runBox : State → Value → Ran Outcome
 runBox s v =
     ok (record { store = put (s .store) (cell (s .taken)) (openWith v); taken = suc (s .taken); opened = s .opened }, owner (s .taken))
 
--- "At its end it closes its variables". Those of the block around it are then the innermost block's again.
+-- The end of a block (LANGUAGE 4.17): its variables are closed. Those of the block around it are then the innermost block's again.
 unfoldable pub runBlockEnd : ℕ → List ℕ → Outcome → Ran Outcome
 runBlockEnd i around o =
     closeAll i (o .0) (o .0 .opened) >>= λ s.
     ok (record { store = s .store; taken = s .taken; opened = around }, o .1)
 
--- The state in which a block's terms begin.
+-- The state in which a block's terms begin: no variable lives in it yet (LANGUAGE 4.18).
 abbrev pub entered : State → State
 entered s = record { store = s .store; taken = s .taken; opened = [] }
 
--- The state in which a run begins, whatever the store was before.
+-- The state in which a run begins (LANGUAGE 4.4), whatever the store was before.
 abbrev pub begun : Store → State
 begun earlier = record { store = cleared earlier; taken = 0; opened = [] }
 
 module _ (readings : ℕ → ℕ) where
   unfoldable mutual
+    -- A number is itself, and a reading the lent one (LANGUAGE 4.9); each other case is the run rule of its kind (4.10 to 4.17).
     pub run : Term → State → Ran Outcome
     run (number i n) s = ok (s, num n)
     run (reading i n) s = ok (s, num (readings n))
@@ -96,7 +99,7 @@ module _ (readings : ℕ → ℕ) where
     run (below i p q) s = runBelow s i p q
     run (block i ts) s = runs ts i (entered s) >>= λ o. runBlockEnd i (s .opened) o
 
-    -- The terms of block i: "drops every value but the last, after its term".
+    -- The terms of block i (LANGUAGE 4.17): each value but the last is dropped after its term.
     pub runs : Terms → ℕ → State → Ran Outcome
     runs (last t) i s = run t s
     runs (more t ts) i s =
@@ -104,7 +107,7 @@ module _ (readings : ℕ → ℕ) where
         dropValue i (o .0) (o .1) >>= λ s′.
         runs ts i s′
 
-  -- The whole run: the state at its end, and the answer, which is a number ("61 .. term 0, after closing").
+  -- The whole run (LANGUAGE 4.4): the state at its end, and the answer, which must be a number (61 at 0, after closing; 4.20).
   unfoldable pub runScript : Term → Store → Ran (State × ℕ)
   runScript t earlier =
       run t (begun earlier) >>= λ o.

@@ -1,4 +1,4 @@
--- The lent numbers as the store of the rules, for the contracts inside the machine. No rule of 01 is stated here.
+-- The lent numbers as the store of the rules, for the contracts inside the machine. No rule of the language is stated here.
 use Prim.Native.Nat.{ℕ, _+_, _*_, _<_}
 use mathlib.Core.Path.{_≡_}
 use mathlib.Core.List.{List}

@@ -1,4 +1,5 @@
-// What follows an inner term: one function for each run rule. A fault of the inner term goes onwards.
+// What follows an inner term: one function for each run rule (LANGUAGE 4.13 to 4.15, 4.17). A fault of the inner term
+// goes onwards (4.5).
 ghost use mathlib.Core.Path.{_≡_};
 ghost use Prim.Native.Nat.{_<_};
 ghost use Rattle.machine.specs.Words.{Tidy, Sound};
@@ -11,8 +12,8 @@ use crate::store::load;
 use crate::store::put_row;
 use reader::fields::index_of;
 
-// Where a run stands after a term: the fault, 0 for none, and its term; the term's value; the cells taken, the
-// variables opened, and the row of the next term.
+// Where a run stands after a term: the fault, 0 for none, and its term (LANGUAGE 4.5); the term's value; the cells taken
+// (4.13), the variables opened (4.18), and the row of the next term.
 pub struct Standing {
     pub fault: u32,
     pub term: usize,
@@ -23,7 +24,7 @@ pub struct Standing {
     pub next: usize,
 }
 
-// The same without a value, and with the fault, 0 for none, of term i.
+// The same without a value (LANGUAGE 4.19), and with the fault, 0 for none, of term i (4.5).
 pub fn without_value(ran: Standing, fault: u32, i: usize) -> Standing
     ensures { λ r. ⌜ r ≡ withoutValue ran fault i ⌝ }
 {
@@ -38,7 +39,7 @@ pub fn without_value(ran: Standing, fault: u32, i: usize) -> Standing
     }
 }
 
-// Before the first term of a block: no value yet.
+// Before the first term of a block (LANGUAGE 4.17): no value yet.
 pub fn entered(block: usize, count: usize, taken: usize) -> Standing
     requires { ⌜ block < 512 ⌝ }
     ensures { λ r. ⌜ r ≡ enteredAt block count taken ⌝ }
@@ -54,7 +55,7 @@ pub fn entered(block: usize, count: usize, taken: usize) -> Standing
     }
 }
 
-// "Box runs its inner term, then fills the new cell."
+// Box (LANGUAGE 4.13), after the inner term: the next cell opens with its value.
 pub fn run_box(store: &mut [u32], inner: Standing) -> Standing
     requires { ⌜ BoxReady (now store) inner ⌝ }
     ensures { λ r. ⌜ Boxed (now (store .entry)) inner (now (store .exit)) r ⌝ }
@@ -80,7 +81,7 @@ pub fn run_box(store: &mut [u32], inner: Standing) -> Standing
     }
 }
 
-// "Let runs its inner term, then opens its row."
+// Let (LANGUAGE 4.14), after the inner term: its row opens, 62 if it is open already.
 pub fn run_let(store: &mut [u32], opened: &mut [u8], i: usize, x: u32, inner: Standing) -> Standing
     requires { ⌜ LetReady (now store) (now opened) x inner ⌝ }
     ensures { λ r. ⌜ Declared (now (store .entry)) (now (opened .entry)) i x inner (now (store .exit)) (now (opened .exit)) r ⌝ }
@@ -107,7 +108,7 @@ pub fn run_let(store: &mut [u32], opened: &mut [u8], i: usize, x: u32, inner: St
     }
 }
 
-// "then writes if the row is still open; otherwise the new value is lost".
+// The last step of an assign (LANGUAGE 4.15): writes if the row is still open.
 pub fn write_open(store: &mut [u32], row: usize, kind: u32, payload: u32)
     requires { ⌜ Tidy (now store) × (row < 128) × Sound kind payload ⌝ }
     ensures { λ _. ⌜ Wrote (now (store .entry)) row kind payload (now (store .exit)) ⌝ }
@@ -119,7 +120,8 @@ pub fn write_open(store: &mut [u32], row: usize, kind: u32, payload: u32)
     put_row(store, row, numbers::OPEN, kind, payload);
 }
 
-// "locates, drops the old value (the row keeps it meanwhile)", and then writes. The fault, 0 for none.
+// The place of an assign (LANGUAGE 4.15): locates, drops the old value, which the row keeps meanwhile, then writes. The
+// fault, 0 for none.
 pub fn assign_place(store: &mut [u32], root: usize, follows: usize, kind: u32, payload: u32) -> u32
     requires { ⌜ Tidy (now store) × (root < 64) × Sound kind payload ⌝ }
     ensures { λ r. ⌜ PlaceAssigned (now (store .entry)) root follows kind payload (now (store .exit)) r ⌝ }
@@ -137,7 +139,7 @@ pub fn assign_place(store: &mut [u32], root: usize, follows: usize, kind: u32, p
     numbers::NO_FAULT
 }
 
-// "Assign runs its right side", and then assigns.
+// Assign (LANGUAGE 4.15), after the right side.
 pub fn run_assign(store: &mut [u32], i: usize, root: u32, follows: u32, inner: Standing) -> Standing
     requires { ⌜ InnerReady (now store) inner × (root < 64) ⌝ }
     ensures { λ r. ⌜ Assigned (now (store .entry)) i root follows inner (now (store .exit)) r ⌝ }
@@ -155,7 +157,7 @@ pub fn run_assign(store: &mut [u32], i: usize, root: u32, follows: u32, inner: S
     without_value(inner, fault, i)
 }
 
-// "At its end it closes its variables": those opened from `begin` on.
+// The end of a block (LANGUAGE 4.17): it closes its variables, those opened from `begin` on (4.18).
 pub fn close_block(
     store: &mut [u32],
     opened: &[u8],

@@ -1,4 +1,4 @@
-// Dropping a value, and closing variables.
+// Dropping a value (LANGUAGE 4.8), and closing variables (4.18).
 ghost use Prim.Native.Nat.{_<_, _≤_};
 ghost use lib.ListN.{length, getD};
 ghost use Rattle.machine.specs.Words.{Tidy, Sound};
@@ -7,8 +7,8 @@ use crate::numbers;
 use crate::store::load;
 use crate::store::put_row;
 
-// "Dropping an owner marks its cell given back and empties it, then drops what it held": along the cells, of
-// which each time one fewer is not given back. The fault, 0 for none.
+// Dropping (LANGUAGE 4.8): an owner gives its cell back, which must be open (63), then what the cell held is dropped; so
+// along the cells, of which each time one fewer is not given back. The fault, 0 for none.
 pub fn drop_value(store: &mut [u32], kind: u32, payload: u32) -> u32
     requires { ⌜ Tidy (now store) × Sound kind payload ⌝ }
     ensures { λ r. ⌜ Dropped (now (store .entry)) kind payload (now (store .exit)) r ⌝ }
@@ -25,7 +25,7 @@ pub fn drop_value(store: &mut [u32], kind: u32, payload: u32) -> u32
     drop_value(store, held.kind, held.payload)
 }
 
-// The same, with the call only where the value is an owner.
+// The same (LANGUAGE 4.8), with the call only where the value is an owner.
 pub fn drop_any(store: &mut [u32], kind: u32, payload: u32) -> u32
     requires { ⌜ Tidy (now store) × Sound kind payload ⌝ }
     ensures { λ r. ⌜ Dropped (now (store .entry)) kind payload (now (store .exit)) r ⌝ }
@@ -36,7 +36,7 @@ pub fn drop_any(store: &mut [u32], kind: u32, payload: u32) -> u32
     drop_value(store, kind, payload)
 }
 
-// Closes the variable that was opened as number k: its row is set to 0, then its value dropped.
+// Closing one variable (LANGUAGE 4.18), the one opened as number k: its row is set to 0, 0, 0, then its value dropped.
 pub fn close_opened(store: &mut [u32], opened: &[u8], k: usize) -> u32
     requires { ⌜ Tidy (now store) × (k < length (now opened)) × (getD (now opened) k 0 < 64) ⌝ }
     ensures { λ r. ⌜ ClosedOne (now (store .entry)) (getD (now (opened .entry)) k 0) (now (store .exit)) r ⌝ }
@@ -47,7 +47,7 @@ pub fn close_opened(store: &mut [u32], opened: &[u8], k: usize) -> u32
     drop_any(store, value.kind, value.payload)
 }
 
-// "it closes its variables, last opened first": those of `opened` from `end` down to `begin`.
+// Closing (LANGUAGE 4.18), the last opened first: those of `opened` from `end` down to `begin`.
 pub fn close_variables(store: &mut [u32], opened: &[u8], begin: usize, end: usize) -> u32
     requires { ⌜ Tidy (now store) × (begin ≤ end) × (end ≤ length (now opened)) × Listed (now opened) end ⌝ }
     ensures { λ r. ⌜ ClosedAll (now (store .entry)) (now (opened .entry)) begin end (now (store .exit)) r ⌝ }

@@ -1,4 +1,4 @@
-// The store machine: running a script that is given as term rows.
+// The store machine (LANGUAGE 4): running a script that is given as term rows.
 ghost use mathlib.Core.Path.{_≡_};
 ghost use Rattle.reader.specs.Limits.{base};
 ghost use Rattle.machine.specs.Answers.{toldRun, runOf};
@@ -19,14 +19,15 @@ use crate::store::clear;
 use crate::terms::run_block;
 use reader::limits;
 
-// The answer and the cells taken; or a refusal and its place; or a fault and its term.
+// The answer (LANGUAGE 4.20) and the cells taken (4.22); or a refusal and its place; or a fault and its term (5.2).
 pub enum RunOutcome {
     Answered(i32, usize),
     Refused(u32, usize),
     Faulted(u32, usize),
 }
 
-// Runs rows that the reader accepts, with memory of the right lengths: for callers that have the reader's word for it.
+// The run (LANGUAGE 4.4) and its answer (4.20), of rows that the reader accepts, with memory of the right lengths: for
+// callers that have the reader's word for it.
 pub fn run_judged(rows: &[u32], readings: &[i32], store: &mut [u32]) -> RunOutcome
     requires { ⌜ RunReady (now rows) (now readings) (now store) ⌝ }
     ensures { λ r. ⌜ (toldRun r, now (store .exit)) ≡ runOf base (now (rows .entry)) (now (readings .entry)) (now (store .entry)) ⌝ }
@@ -45,8 +46,8 @@ pub fn run_judged(rows: &[u32], readings: &[i32], store: &mut [u32]) -> RunOutco
     RunOutcome::Answered(number_of(ran.payload), ran.taken)
 }
 
-// Runs the script of the term rows with the readings. A refusal leaves the store unchanged; a fault leaves it as
-// the run rules had it.
+// Run (LANGUAGE 6.6): the script of the term rows, unchecked, with the readings. A refusal leaves the store unchanged; a
+// fault leaves it as the run rules had it (4.21).
 pub fn run(rows: &[u32], readings: &[i32], store: &mut [u32]) -> RunOutcome
     ensures { λ r. ⌜ (toldRun r, now (store .exit)) ≡ runOf base (now (rows .entry)) (now (readings .entry)) (now (store .entry)) ⌝ }
 {

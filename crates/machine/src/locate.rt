@@ -1,4 +1,4 @@
-// Locating a place, and reading the row that it leads to.
+// Locating a place (LANGUAGE 4.6), and reading the row that it leads to (4.7).
 ghost use Prim.Native.Nat.{_<_};
 ghost use Rattle.machine.specs.Words.{Tidy};
 ghost use Rattle.machine.specs.Parts.{Followed, Located, Filled};
@@ -18,7 +18,7 @@ pub struct Gave {
     pub payload: u32,
 }
 
-// The row that the value of a row leads to: "each follow needs an owner or a reference there".
+// One follow (LANGUAGE 4.6): the row that an owner or a reference leads to; 60 at a row without value, 61 at a number.
 pub fn follow(store: &[u32], row: usize) -> Found
     requires { ⌜ Tidy (now store) × (row < 128) ⌝ }
     ensures { λ r. ⌜ Followed (now (store .entry)) row r ⌝ }
@@ -54,7 +54,7 @@ pub fn follow(store: &[u32], row: usize) -> Found
     }
 }
 
-// "Locating leads first to the variable's own row, then to the row that each follow names."
+// Locating (LANGUAGE 4.6): from the variable's own row, by each follow, to a row that must be open (60).
 pub fn locate(store: &[u32], root: usize, follows: usize) -> Found
     requires { ⌜ Tidy (now store) × (root < 64) ⌝ }
     ensures { λ r. ⌜ Located (now (store .entry)) root follows r ⌝ }
@@ -82,7 +82,7 @@ pub fn locate(store: &[u32], root: usize, follows: usize) -> Found
     }
 }
 
-// "Copy and move read a filled row".
+// Reading a row (LANGUAGE 4.7): it must be filled (60).
 pub fn read_row(store: &[u32], row: usize) -> Gave
     requires { ⌜ Tidy (now store) × (row < 128) ⌝ }
     ensures { λ r. ⌜ Filled (now (store .entry)) row r ⌝ }

@@ -1,16 +1,16 @@
-// The numbers in the store's rows, and the faults.
+// The numbers in the store's rows (LANGUAGE 4.1 to 4.3), and the faults (5.6).
 
-// "Rows 0 to 63 are variables, 64 to 127 are cells."
+// The rows of the cells come after those of the variables (LANGUAGE 4.1).
 pub const FIRST_CELL: usize = 64;
 
-// "State: 0 closed, 1 open, 2 given back."
+// The states (LANGUAGE 4.2).
 pub const CLOSED: u32 = 0;
 
 pub const OPEN: u32 = 1;
 
 pub const GIVEN_BACK: u32 = 2;
 
-// "Value kind: 0 empty, 1 number (32 bits), 2 owner (cell 0 to 63), 3 reference (row)."
+// The value kinds (LANGUAGE 4.3).
 pub const EMPTY: u32 = 0;
 
 pub const NUMBER: u32 = 1;
@@ -19,7 +19,7 @@ pub const OWNER: u32 = 2;
 
 pub const REFERENCE: u32 = 3;
 
-// By running what the check has not accepted.
+// By running what was not accepted (LANGUAGE 5.6).
 pub const NO_FAULT: u32 = 0;
 
 pub const NOT_THERE: u32 = 60;

@@ -1,4 +1,4 @@
-// The terms without an inner term: one function for each run rule.
+// The terms without an inner term: one function for each run rule (LANGUAGE 4.9 to 4.12, 4.16).
 ghost use mathlib.Core.Path.{_≡_};
 ghost use Prim.Native.Nat.{_<_};
 ghost use lib.ListN.{length};
@@ -16,7 +16,7 @@ use reader::fields::field_at;
 use reader::fields::index_of;
 use reader::kinds;
 
-// A fault, and no value.
+// A fault (LANGUAGE 4.5), and no value.
 fn failed(fault: u32) -> Gave
     ensures { λ r. ⌜ (r .fault ≡ fault) × (r .kind ≡ 0) × (r .payload ≡ 0) ⌝ }
 {
@@ -27,7 +27,7 @@ fn failed(fault: u32) -> Gave
     }
 }
 
-// A number, and no fault.
+// A number for a value (LANGUAGE 4.3), and no fault.
 fn numbered(bits: u32) -> Gave
     ensures { λ r. ⌜ (r .fault ≡ 0) × (r .kind ≡ 1) × (r .payload ≡ bits) ⌝ }
 {
@@ -38,7 +38,7 @@ fn numbered(bits: u32) -> Gave
     }
 }
 
-// Reading n as its 32 bits.
+// Reading (LANGUAGE 4.9): the lent reading n as its 32 bits.
 fn reading_bits(readings: &[i32], n: usize) -> u32
     requires { ⌜ n < length (now readings) ⌝ }
     ensures { λ r. ⌜ r ≡ bitsOf (now (readings .entry)) n ⌝ }
@@ -47,7 +47,7 @@ fn reading_bits(readings: &[i32], n: usize) -> u32
     bits_of(x)
 }
 
-// "Copy and move read a filled row".
+// Copy (LANGUAGE 4.10): locate, read; the row stays.
 pub fn run_copy(store: &[u32], root: usize, follows: usize) -> Gave
     requires { ⌜ Tidy (now store) × (root < 64) ⌝ }
     ensures { λ r. ⌜ Copied (now (store .entry)) root follows r ⌝ }
@@ -59,7 +59,7 @@ pub fn run_copy(store: &[u32], root: usize, follows: usize) -> Gave
     read_row(store, found.row)
 }
 
-// "move empties it".
+// Move (LANGUAGE 4.11): locate, read; the row becomes empty.
 pub fn run_move(store: &mut [u32], root: usize, follows: usize) -> Gave
     requires { ⌜ Tidy (now store) × (root < 64) ⌝ }
     ensures { λ r. ⌜ Moved (now (store .entry)) root follows (now (store .exit)) r ⌝ }
@@ -76,7 +76,7 @@ pub fn run_move(store: &mut [u32], root: usize, follows: usize) -> Gave
     held
 }
 
-// "A borrow is a reference to the located row."
+// Borrow, of either kind (LANGUAGE 4.12): a reference to the located row.
 pub fn run_borrow(store: &[u32], root: usize, follows: usize) -> Gave
     requires { ⌜ Tidy (now store) × (root < 64) ⌝ }
     ensures { λ r. ⌜ Borrowed (now (store .entry)) root follows r ⌝ }
@@ -92,7 +92,7 @@ pub fn run_borrow(store: &[u32], root: usize, follows: usize) -> Gave
     }
 }
 
-// A place of `below`: it "needs a number there".
+// A place of a below (LANGUAGE 4.16): locate, read; a number must be there (61).
 pub fn run_number(store: &[u32], root: usize, follows: usize) -> Gave
     requires { ⌜ Tidy (now store) × (root < 64) ⌝ }
     ensures { λ r. ⌜ Numbered (now (store .entry)) root follows r ⌝ }
@@ -107,7 +107,7 @@ pub fn run_number(store: &[u32], root: usize, follows: usize) -> Gave
     held
 }
 
-// "Below reads its first place and needs a number there, then its second likewise".
+// Below (LANGUAGE 4.16): the number at the first place, then that at the second; 1 if the first is less, otherwise 0.
 pub fn run_below(store: &[u32], root: usize, follows: usize, other: usize, others: usize) -> Gave
     requires { ⌜ Tidy (now store) × (root < 64) × (other < 64) ⌝ }
     ensures { λ r. ⌜ Compared (now (store .entry)) root follows other others r ⌝ }
@@ -126,7 +126,7 @@ pub fn run_below(store: &[u32], root: usize, follows: usize, other: usize, other
     numbered(0)
 }
 
-// The term at row i, if it has no inner term.
+// The term at row i, if it has no inner term, by the rule of its kind (LANGUAGE 4.9 to 4.12, 4.16).
 pub fn run_leaf(rows: &[u32], i: usize, readings: &[i32], store: &mut [u32]) -> Gave
     requires { ⌜ LeafReady (now rows) i (now readings) (now store) ⌝ }
     ensures { λ r. ⌜ LeafRan (now (rows .entry)) i (now (readings .entry)) (now (store .entry)) (now (store .exit)) r ⌝ }

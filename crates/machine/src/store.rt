@@ -1,17 +1,18 @@
-// The rows of the lent store: "128 rows of state, value kind, payload".
+// The rows of the lent store (LANGUAGE 4.1): state, value kind and payload of each.
 ghost use mathlib.Core.Path.{_≡_};
 ghost use Prim.Native.Nat.{_<_};
 ghost use lib.ListN.{length};
 ghost use Rattle.reader.specs.Layout.{zeros};
 ghost use Rattle.machine.specs.Words.{Tidy, IsRow, Loaded, Written};
 
-// A row: its state, and the value that it holds.
+// A row: its state (LANGUAGE 4.2), and the value that it holds (4.3).
 pub struct Entry {
     pub state: u32,
     pub kind: u32,
     pub payload: u32,
 }
 
+// The three numbers of a row (LANGUAGE 4.1).
 pub fn load(store: &[u32], row: usize) -> Entry
     requires { ⌜ Tidy (now store) × (row < 128) ⌝ }
     ensures { λ r. ⌜ Loaded (now (store .entry)) row r ⌝ }
@@ -24,6 +25,7 @@ pub fn load(store: &[u32], row: usize) -> Entry
     }
 }
 
+// Sets the three numbers of a row (LANGUAGE 4.1).
 pub fn put_row(store: &mut [u32], row: usize, state: u32, kind: u32, payload: u32)
     requires { ⌜ Tidy (now store) × (row < 128) × IsRow state kind payload ⌝ }
     ensures { λ _. ⌜ Written (now (store .entry)) row state kind payload (now (store .exit)) ⌝ }
@@ -36,7 +38,7 @@ pub fn put_row(store: &mut [u32], row: usize, state: u32, kind: u32, payload: u3
     store[at2] = payload;
 }
 
-// "A run first sets all to 0."
+// The beginning of a run (LANGUAGE 4.4): all numbers become 0.
 pub fn clear(store: &mut [u32])
     ensures { λ _. ⌜ now (store .exit) ≡ zeros (length (now (store .entry))) ⌝ }
 {

@@ -1,4 +1,4 @@
-// Terms and blocks, which call each other. The store and the variables opened are lent down.
+// Terms and blocks, which call each other (LANGUAGE 4.9 to 4.17). The store and the variables opened are lent down.
 ghost use mathlib.Core.Path.{_≡_};
 ghost use mathlib.Core.Bool.{false};
 ghost use Prim.Native.Nat.{_<_};
@@ -20,7 +20,7 @@ use reader::fields::index_of;
 use reader::kinds;
 use reader::kinds::wraps;
 
-// The term at row i, if it has no inner term: it opens no variable and takes no cell.
+// The term at row i, if it has no inner term (LANGUAGE 4.9 to 4.12, 4.16): it opens no variable and takes no cell.
 fn run_plain(
     rows: &[u32],
     i: usize,
@@ -44,7 +44,7 @@ fn run_plain(
     }
 }
 
-// What follows the inner term of a box, let or assign, which is at row i.
+// What follows the inner term of a box, let or assign (LANGUAGE 4.13 to 4.15), which is at row i.
 fn run_after(
     rows: &[u32],
     i: usize,
@@ -63,7 +63,7 @@ fn run_after(
     }
 }
 
-// The term at row i, which is a block or has no inner term.
+// The term at row i, which has no inner term or is a block: its terms, then its end (LANGUAGE 4.17).
 fn run_inmost(
     rows: &[u32],
     i: usize,
@@ -86,7 +86,7 @@ fn run_inmost(
 }
 
 // The term at row i, nested at most as deep as levels says, after `count` variables opened and so many cells taken:
-// the innermost term first, then what follows it, outwards. So calls nest for blocks only.
+// the innermost term first, then what follows it, outwards (LANGUAGE 4.13 to 4.15). So calls nest for blocks only.
 fn run_term(
     rows: &[u32],
     i: usize,
@@ -114,7 +114,8 @@ fn run_term(
     ran
 }
 
-// The terms of the block at row `block`, from the next row on: it "drops every value but the last, after its term".
+// The terms of the block at row `block` (LANGUAGE 4.17), from the next row on: each value but the last is dropped after
+// its term.
 pub fn run_block(
     rows: &[u32],
     block: usize,
