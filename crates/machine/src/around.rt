@@ -12,8 +12,8 @@ use crate::store::load;
 use crate::store::put_row;
 use reader::fields::index_of;
 
-// Where a run stands after a term: the fault, 0 for none, and its term (LANGUAGE 4.5); the term's value; the cells taken
-// (4.13), the variables opened (4.18), and the row of the next term.
+// Where a run stands after a term: the fault, 0 for none, and its term (LANGUAGE 4.5); the term's value; the cells
+// taken (4.13), the variables opened (4.18), and the row of the next term.
 pub struct Standing {
     pub fault: u32,
     pub term: usize,

@@ -7,8 +7,8 @@ use crate::numbers;
 use crate::store::load;
 use crate::store::put_row;
 
-// Dropping (LANGUAGE 4.8): an owner gives its cell back, which must be open (63), then what the cell held is dropped; so
-// along the cells, of which each time one fewer is not given back. The fault, 0 for none.
+// Dropping (LANGUAGE 4.8): an owner gives its cell back, which must be open (63), then what the cell held is dropped;
+// so along the cells, of which each time one fewer is not given back. The fault, 0 for none.
 pub fn drop_value(store: &mut [u32], kind: u32, payload: u32) -> u32
     requires { ⌜ Tidy (now store) × Sound kind payload ⌝ }
     ensures { λ r. ⌜ Dropped (now (store .entry)) kind payload (now (store .exit)) r ⌝ }

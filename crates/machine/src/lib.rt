@@ -46,8 +46,8 @@ pub fn run_judged(rows: &[u32], readings: &[i32], store: &mut [u32]) -> RunOutco
     RunOutcome::Answered(number_of(ran.payload), ran.taken)
 }
 
-// Run (LANGUAGE 6.6): the script of the term rows, unchecked, with the readings. A refusal leaves the store unchanged; a
-// fault leaves it as the run rules had it (4.21).
+// Run (LANGUAGE 6.6): the script of the term rows, unchecked, with the readings. A refusal leaves the store unchanged;
+// a fault leaves it as the run rules had it (4.21).
 pub fn run(rows: &[u32], readings: &[i32], store: &mut [u32]) -> RunOutcome
     ensures { λ r. ⌜ (toldRun r, now (store .exit)) ≡ runOf base (now (rows .entry)) (now (readings .entry)) (now (store .entry)) ⌝ }
 {
