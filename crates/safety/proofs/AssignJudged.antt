@@ -1,4 +1,4 @@
--- Assign, as judged: the conditions hold. 35 is asked "with the new value in place".
+-- Assign, as judged (LANGUAGE 3.25): the conditions hold. 35 is asked in the new state.
 use Prim.Native.Nat.{ℕ, _≤_}
 use native.Mathlib.Omega.{arith}
 use mathlib.Core.Path.{_≡_, refl, sym, ap, _∙_, subst}

@@ -45,7 +45,7 @@ pub record Own (Γ : Environment) (q : Place) : Type 0 where
   pub is : Γ (q .root) ≡ live v
   pub at : ((q .follows ≤ leadingBoxes (v .chain)) × (q .follows ≤ v .movedFrom)) ⊎ ((leadingBoxes (v .chain) < q .follows) × (leadingBoxes (v .chain) < v .movedFrom) × (isBorrow (v .borrow) ≡ true))
 
--- What "in scope (31), long enough chain (32), nothing moved away on the path (33)" gives.
+-- What judging a place gives (31, 32, 33; LANGUAGE 3.16).
 pub record Passed (Γ : Environment) (p : Place) (l : Located) : Type 0 where
   pub is : Γ (p .root) ≡ live (l .root)
   pub long : p .follows ≤ length (l .root .chain)
@@ -53,7 +53,7 @@ pub record Passed (Γ : Environment) (p : Place) (l : Located) : Type 0 where
   pub own : (q : Place) → Among q (path .ps) → Own Γ q
   pub to : (q : Place) (v : Variable) → Among q (path .ps) → Γ (q .root) ≡ live v → q .follows ≤ leadingBoxes (v .chain) → Among q (ends l)
 
--- What "value whole (33)" gives: nothing is moved away on the way to the end of the chain.
+-- What a whole value gives (33; LANGUAGE 3.15): nothing is moved away on the way to the end of the chain.
 pub record Whole (Γ : Environment) (x : ℕ) (v : Variable) : Type 0 where
   pub path : Path Γ (place x (length (v .chain)))
   pub all : (q : Place) → Among q (path .ps) → (u : Variable) × (Γ (q .root) ≡ live u) × (leadingBoxes (u .chain) < u .movedFrom)

@@ -1,4 +1,4 @@
--- Demand 3: every script that the check accepts runs to its end and gives everything back.
+-- Safety of accepted scripts (LANGUAGE 7.4): every script that the check accepts runs to its end and gives everything back.
 use Prim.Native.Nat.{ℕ, _≤_}
 use native.Mathlib.Omega.{arith}
 use native.Mathlib.Nat.{zero-add}
@@ -47,7 +47,7 @@ run-script : (readings : ℕ → ℕ) (t : Term) (earlier : Store) (s : State) (
 unfolding runScript numberIn _>>=_
 run-script readings t earlier s n e = rw e refl
 
--- 43.
+-- The answer is a number (43; LANGUAGE 3.29).
 answered : (nv : ℕ) (o : Option Ty) → isAnswer nv o ≡ true → (t : Ty) × (o ≡ some t) × (t .links ≡ [])
 answered nv none h = absurd (false≢true h)
 answered nv (some t) h = (t, refl, number-nil (t .links) h)

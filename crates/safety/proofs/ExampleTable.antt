@@ -1,4 +1,4 @@
--- E1 to E11: the rules give what 01 says.
+-- E1 to E11 (LANGUAGE 8.4): the rules give the outcomes that the table lists.
 use Prim.Native.Nat.{ℕ}
 use mathlib.Core.Path.{_≡_, refl}
 use mathlib.Core.List.{List}

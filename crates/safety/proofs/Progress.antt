@@ -18,7 +18,7 @@ pub record Progress (nv : ℕ) (Γ Γ′ : Environment) (o : Option Ty) (lv : �
   pub ran : r ≡ ok (s, v)
   pub inv : Invariant nv Γ′ o lv s v
   -- What lives in a block further out was in scope before; a number that is taken and not in scope stays so; a variable in scope stays
-  -- so, its chain "fixed by its let".
+  -- so, with the chain that its let fixed (LANGUAGE 3.8).
   pub keep : (x : ℕ) (q : Variable) → Γ′ x ≡ live q → q .level < lv → (k : Variable) × (Γ x ≡ live k) × (k .level ≡ q .level)
   pub stay : (x : ℕ) → Γ x ≡ used → Γ′ x ≡ used
   pub lives : (x : ℕ) (k : Variable) → Γ x ≡ live k → (q : Variable) × (Γ′ x ≡ live q) × (q .chain ≡ k .chain) × (q .level ≡ k .level)

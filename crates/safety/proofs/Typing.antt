@@ -80,7 +80,7 @@ pub record At (Γ : Name → Slot) (H : Name → Content) (ρ : Name → ℕ →
   pub outdated : boxes Q < Q .movedFrom → Q .borrow ≡ stale → (l : Location) × (H x ≡ has (boxes Q) (reference l))
   pub refs : boxes Q < Q .movedFrom → (p : Place) → borrowed (Q .borrow) ≡ some p → Ref Γ H ρ rank x Q p
 
--- "A variable holds that place while the link is not moved away."
+-- Holding (LANGUAGE 3.10): the first borrow link is not moved away.
 pub record Holds (Γ : Name → Slot) (x : Name) (Q : Variable) (p : Place) : Type 0 where
   pub is : Γ x ≡ live Q
   pub whole : boxes Q < Q .movedFrom
