@@ -1,5 +1,6 @@
-//! Independent reference program for room scripts, developed from the scope
-//! document alone. It is a second opinion on every answer and on what lent
+//! Independent reference program for room scripts, written apart, from the
+//! language's document alone: `LANGUAGE 3.19` cites a paragraph of
+//! `docs/LANGUAGE.md`. It is a second opinion on every answer and on what lent
 //! memory holds afterwards, and a rival in speed.
 //!
 //! | Layer | Function | Numbers |

@@ -1,4 +1,5 @@
-//! The line that the program `roomcheck` prints for a standard input.
+//! The line that the program `roomcheck` prints for a standard input
+//! (LANGUAGE 6.9, 6.10).
 
 use crate::form::{read, ROWS_LEN};
 use crate::machine::{run, Ran, READINGS, STORE_LEN};

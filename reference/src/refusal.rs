@@ -1,8 +1,8 @@
 //! What every layer answers when it does not accept its input.
 
-/// A refusal number of the scope document together with its place: a byte
-/// offset while reading, a row or term number otherwise, 0 for the caller's
-/// own mistakes.
+/// The number of a refusal or fault (LANGUAGE 5.3 to 5.6) together with its
+/// place (5.2): a byte offset while reading, a row or term number otherwise, 0
+/// for the caller's own mistakes.
 #[derive(Clone, Copy, Debug, PartialEq, Eq)]
 pub struct Refusal {
     pub number: u32,

@@ -1,4 +1,5 @@
-//! The ownership rules of assigns and of blocks with borrows.
+//! The ownership rules of assigns (LANGUAGE 3.25) and of blocks with borrows
+//! (3.28).
 
 mod common;
 

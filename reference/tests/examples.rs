@@ -1,4 +1,4 @@
-//! Scripts E1 to E11 as the scope document lists them.
+//! Scripts E1 to E11 (LANGUAGE 8.4).
 
 mod common;
 

@@ -1,4 +1,4 @@
-//! The form of scripts at the edges that the scope document names.
+//! The form of scripts at its edges (LANGUAGE 5.9 to 5.13, 8.6).
 
 use reference::form::{HEADER, MAX_BYTES, ROWS_LEN};
 use reference::{judge_rows, read, write, Refusal};

@@ -1,7 +1,7 @@
-//! The ownership rules once more, written for closeness to the text of the
-//! scope document instead of speed: chains as lists, and every question about
-//! borrows answered by looking at every variable. Compared with the crate on
-//! generated rows.
+//! The ownership rules once more (LANGUAGE 3), written for closeness to the
+//! text of the rules instead of speed: chains as lists, and every question
+//! about borrows answered by looking at every variable. Compared with the crate
+//! on generated rows.
 
 use reference::{check, judge_rows, Generator};
 

@@ -1,6 +1,6 @@
-//! The form once more, written for closeness to the text of the scope
-//! document instead of speed: a recursive reader that knows nothing of rows,
-//! and a recursive judge of rows. Compared with the crate on generated input.
+//! The form once more (LANGUAGE 2, 5.9 to 5.13), written for closeness to the
+//! text instead of speed: a recursive reader that knows nothing of rows, and a
+//! recursive judge of rows. Compared with the crate on generated input.
 
 use reference::form::ROWS_LEN;
 use reference::{judge_rows, read, Generator};

@@ -1,4 +1,4 @@
-//! The run rules, with the store as each fault leaves it.
+//! The run rules (LANGUAGE 4), with the store as each fault leaves it (4.21).
 
 mod common;
 

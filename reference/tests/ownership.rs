@@ -1,4 +1,5 @@
-//! The ownership rules one by one, with the order of their numbers.
+//! The ownership rules one by one (LANGUAGE 3.16 to 3.29), with the order of
+//! their numbers.
 
 mod common;
 

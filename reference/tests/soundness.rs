@@ -1,5 +1,6 @@
-//! What the check accepts runs without a fault and leaves the store tidy, and
-//! the generators of scripts for check and machine reach every number.
+//! What the check accepts runs without a fault and leaves the store tidy
+//! (LANGUAGE 7.4), and the generators of scripts for check and machine reach
+//! every number.
 
 mod common;
 

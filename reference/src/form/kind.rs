@@ -1,4 +1,4 @@
-//! Term kinds and the ranges of their operands.
+//! Term kinds (LANGUAGE 2.3) and the ranges of their operands (2.4).
 
 pub const NUMBER: u32 = 0x01;
 pub const READING: u32 = 0x02;

@@ -1,5 +1,5 @@
-//! The form of scripts: bytes to term rows, term rows judged, term rows back
-//! to bytes.
+//! The form of scripts (LANGUAGE 2): bytes to term rows, term rows judged, term
+//! rows back to bytes.
 
 mod kind;
 mod outline;

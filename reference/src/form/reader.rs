@@ -1,4 +1,4 @@
-//! From script bytes to term rows.
+//! From script bytes to term rows (LANGUAGE 5.9 to 5.11, 6.2).
 
 use super::kind::{is_in_range, DEMANDS};
 use super::outline::Outline;

@@ -1,4 +1,4 @@
-//! Judging term rows that the reader did not make.
+//! Judging term rows that the reader did not make (LANGUAGE 5.12, 5.13, 6.3).
 
 use super::kind::{is_in_range, DEMANDS};
 use super::outline::Outline;

@@ -1,4 +1,4 @@
-//! From term rows to script bytes.
+//! From term rows to script bytes (LANGUAGE 6.4).
 
 use super::kind::DEMANDS;
 use super::*;

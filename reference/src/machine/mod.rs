@@ -1,5 +1,6 @@
-//! The store machine. It runs any rows of the right form, accepted by the
-//! check or not, and reports a fault where the run rules have no next step.
+//! The store machine (LANGUAGE 4). It runs any rows of the right form, accepted
+//! by the check or not, and reports a fault where the run rules have no next
+//! step.
 
 mod store;
 

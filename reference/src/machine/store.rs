@@ -1,5 +1,5 @@
-//! The store of the machine: 128 rows of state, value kind and payload, and
-//! what the rules do with single rows. Errors are the fault numbers.
+//! The store of the machine (LANGUAGE 4.1 to 4.3), and what the rules do with
+//! single rows (4.6 to 4.8). Errors are the fault numbers (5.6).
 
 use crate::refusal::*;
 

@@ -1,6 +1,6 @@
-//! The link kinds of a type, packed into 16 bits: two bits per link, the
-//! first link lowest, 0 after the last link. Two types have equal link kinds
-//! exactly if the packed forms are equal.
+//! The link kinds of a type (LANGUAGE 3.2), packed into 16 bits: two bits per
+//! link, the first link lowest, 0 after the last link. Two types have equal
+//! link kinds exactly if the packed forms are equal.
 
 /// What one link of a type is.
 #[derive(Clone, Copy, Debug, PartialEq, Eq)]

@@ -1,5 +1,5 @@
-//! The environment of the check: which variables there are, what state each
-//! is in, and who holds borrows of whom.
+//! The environment of the check (LANGUAGE 3.6 to 3.15): which variables there
+//! are, what state each is in, and who holds borrows of whom.
 
 use super::chain::Chain;
 

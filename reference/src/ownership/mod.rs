@@ -1,4 +1,5 @@
-//! The ownership check: terms judged in order against an environment.
+//! The ownership check (LANGUAGE 3): terms judged in order against an
+//! environment.
 
 pub(crate) mod chain;
 pub(crate) mod environment;

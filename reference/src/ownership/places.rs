@@ -1,5 +1,6 @@
-//! The rules of the terms that are judged by places alone. Errors are the
-//! refusal numbers, tested in the order in which the rules list them.
+//! The rules of the terms that are judged by places alone (LANGUAGE 3.16, 3.19
+//! to 3.22, 3.25, 3.27). Errors are the refusal numbers, tested in the order in
+//! which the rules list them (3.17).
 
 use super::chain::Link;
 use super::environment::{Environment, Place, Value};

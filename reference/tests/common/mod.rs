@@ -1,5 +1,5 @@
 //! Terms as bytes, so that tests can be written close to the notation of the
-//! scope document, and the layers put together.
+//! language (LANGUAGE 1.5), and the layers put together.
 
 #![allow(dead_code)]
 
