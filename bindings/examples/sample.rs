@@ -1,5 +1,5 @@
-//! Calls the first example's script from Rust, and prints the line that the
-//! program prints for it.
+//! Calls the script of E1 (LANGUAGE 8.2) from Rust, and prints the line that
+//! the program prints for it (6.10).
 
 use roomscript::{call, Called, Refusal, ROWS_LEN, STORE_LEN};
 

@@ -1,5 +1,6 @@
 /*
- * Room scripts: the functions of the proved library.
+ * Room scripts: the functions of the proved library. LANGUAGE 6.2 cites a
+ * paragraph of docs/LANGUAGE.md, which defines the language.
  *
  * A script is a run of bytes; term rows are the same script as numbers, five
  * uint32_t per term: kind, then operands in byte order (a number as its 32
@@ -54,7 +55,8 @@ extern "C" {
  * Refusals 1 to 5 are the caller's, with place 0 and no lent memory changed,
  * and the lowest number is the one given. Refusals 10 to 19 are about the form
  * of the script; their place is a byte offset from reading and a row from
- * rows. Refusals 30 to 43 are the author's; their place is the term.
+ * rows. Refusals 30 to 43 are the author's; their place is the term
+ * (LANGUAGE 5.2 to 5.5).
  */
 typedef struct roomscript_answer {
     uint32_t refused;
@@ -63,7 +65,8 @@ typedef struct roomscript_answer {
 } roomscript_answer;
 
 /*
- * Reads a script into term rows and answers the number of terms.
+ * Reads a script into term rows and answers the number of terms
+ * (LANGUAGE 6.2).
  *
  * A script is the mark RCS, a 16-bit version, high byte first, equal to 1, and
  * one term, a block: at most 4,096 bytes, 512 terms, 64 box terms and 16
@@ -86,7 +89,7 @@ roomscript_answer roomscript_read(const uint8_t *script, size_t script_len,
                                   uint32_t *rows, size_t rows_len);
 
 /*
- * Judges term rows and answers the number of terms.
+ * Judges term rows and answers the number of terms (LANGUAGE 6.3).
  *
  * Rows are accepted exactly where roomscript_read could have made them.
  * Nothing lent is changed.
@@ -104,7 +107,8 @@ roomscript_answer roomscript_read(const uint8_t *script, size_t script_len,
 roomscript_answer roomscript_judge_rows(const uint32_t *rows, size_t rows_len);
 
 /*
- * Writes the script of term rows and answers its length in bytes.
+ * Writes the script of term rows and answers its length in bytes
+ * (LANGUAGE 6.4).
  *
  * After success the first bytes of output are the script, and reading them
  * gives rows back; bytes past the script stay unchanged.
@@ -118,7 +122,8 @@ roomscript_answer roomscript_write(const uint32_t *rows, size_t rows_len,
                                    uint8_t *output, size_t output_len);
 
 /*
- * Judges term rows by the ownership rules and answers the number of terms.
+ * Judges term rows by the ownership rules and answers the number of terms
+ * (LANGUAGE 6.5).
  *
  * A script is accepted where its rows are of the right form and the rules
  * refuse no term of it. It then runs without a fault, whatever the readings.
@@ -160,16 +165,17 @@ typedef struct roomscript_ran {
 } roomscript_ran;
 
 /*
- * Runs term rows, accepted by roomscript_check or not.
+ * Runs term rows, accepted by roomscript_check or not (LANGUAGE 6.6).
  *
- * The store is 128 rows of state, value kind and payload. Rows 0 to 63 are
- * variables, 64 to 127 are cells. State: 0 closed, 1 open, 2 given back. Value
- * kind: 0 empty, 1 number (32 bits), 2 owner (cell 0 to 63), 3 reference
- * (row). The run first sets all of it to 0, whatever it held.
+ * The store is 128 rows of state, value kind and payload, first those of the
+ * 64 variables and then those of the 64 cells (LANGUAGE 4.1). States: 0
+ * closed, 1 open, 2 given back (4.2). Value kinds: 0 empty, 1 a number, 2 the
+ * owner of a cell, 3 a reference to a row (4.3). The run first sets all of it
+ * to 0, whatever it held.
  *
  * Where roomscript_check accepts the rows the run meets no fault, takes a cell
  * for every box term and gives each back: afterwards the store is all 0 but
- * the cells taken, which are 2, 0, 0.
+ * the cells taken, which are 2, 0, 0 (LANGUAGE 7.4).
  *
  * Refusals by the caller, at place 0, with store unchanged, the lowest first:
  *   2: rows is not 2,560 long; 3: store is not 384 long; 4: readings is not 8
@@ -203,7 +209,7 @@ typedef struct roomscript_called {
 } roomscript_called;
 
 /*
- * Reads a script into rows, checks it and runs it on store.
+ * Reads a script into rows, checks it and runs it on store (LANGUAGE 6.7).
  *
  * It answers as roomscript_read, roomscript_check and roomscript_run do one
  * after the other. A script that is accepted runs without a fault, so there is

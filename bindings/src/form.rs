@@ -1,9 +1,10 @@
-//! The form of scripts: read, judged as rows, and written.
+//! The form of scripts (LANGUAGE 2): read, judged as rows, and written.
 
 use crate::foreign;
 use crate::Refusal;
 
-/// Reads a script into term rows and answers the number of terms.
+/// Reads a script into term rows and answers the number of terms
+/// (LANGUAGE 6.2).
 ///
 /// A script is the mark `RCS`, a 16-bit version, high byte first, equal to 1,
 /// and one term, a block: at most 4,096 bytes, 512 terms, 64 box terms and 16
@@ -29,7 +30,7 @@ pub fn read(script: &[u8], rows: &mut [u32]) -> Result<u32, Refusal> {
     foreign::read(script, rows).count()
 }
 
-/// Judges term rows and answers the number of terms.
+/// Judges term rows and answers the number of terms (LANGUAGE 6.3).
 ///
 /// Rows are accepted exactly where [`read`] could have made them. Nothing lent
 /// is changed.
@@ -50,7 +51,8 @@ pub fn judge_rows(rows: &[u32]) -> Result<u32, Refusal> {
     foreign::judge_rows(rows).count()
 }
 
-/// Writes the script of term rows and answers its length in bytes.
+/// Writes the script of term rows and answers its length in bytes
+/// (LANGUAGE 6.4).
 ///
 /// After success the first bytes of `output` are the script, and reading them
 /// gives `rows` back; bytes past the script stay unchanged.

@@ -1,4 +1,5 @@
-//! Room scripts: the proved functions behind safe ones.
+//! Room scripts: the proved functions behind safe ones. `LANGUAGE 6.2` cites a
+//! paragraph of `docs/LANGUAGE.md`, which defines the language.
 //!
 //! A script is a run of bytes; term rows are the same script as numbers, five
 //! `u32` per term: kind, then operands in byte order (a number as its 32

@@ -1,4 +1,4 @@
-//! The store machine: term rows run on a store.
+//! The store machine (LANGUAGE 4): term rows run on a store.
 
 use crate::foreign;
 use crate::Refusal;
@@ -14,7 +14,7 @@ pub struct Ran {
     pub cells: u32,
 }
 
-/// A fault: its number and the term that was acting.
+/// A fault (LANGUAGE 5.6): its number and the term that was acting.
 ///
 /// - 60: a location that is closed, given back or empty;
 /// - 61: a value of the wrong kind, or an answer that is no number (term 0,
@@ -50,16 +50,17 @@ impl Display for Stop {
 impl Error for Stop {}
 
 /// Runs term rows, accepted by [`check`](crate::check) or not, and answers
-/// the number that they give and how many cells they took.
+/// the number that they give and how many cells they took (LANGUAGE 6.6).
 ///
-/// The store is 128 rows of state, value kind and payload. Rows 0 to 63 are
-/// variables, 64 to 127 are cells. State: 0 closed, 1 open, 2 given back.
-/// Value kind: 0 empty, 1 number (32 bits), 2 owner (cell 0 to 63), 3
-/// reference (row). The run first sets all of it to 0, whatever it held.
+/// The store is 128 rows of state, value kind and payload, first those of the
+/// 64 variables and then those of the 64 cells (LANGUAGE 4.1). States: 0
+/// closed, 1 open, 2 given back (4.2). Value kinds: 0 empty, 1 a number, 2 the
+/// owner of a cell, 3 a reference to a row (4.3). The run first sets all of it
+/// to 0, whatever it held.
 ///
 /// Where the check accepts the rows the run meets no fault, takes a cell for
 /// every box term and gives each back: afterwards the store is all 0 but the
-/// cells taken, which are 2, 0, 0.
+/// cells taken, which are 2, 0, 0 (LANGUAGE 7.4).
 ///
 /// # Stops
 ///

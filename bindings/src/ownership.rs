@@ -1,9 +1,10 @@
-//! The ownership check of term rows.
+//! The ownership check (LANGUAGE 3) of term rows.
 
 use crate::foreign;
 use crate::Refusal;
 
-/// Judges term rows by the ownership rules and answers the number of terms.
+/// Judges term rows by the ownership rules and answers the number of terms
+/// (LANGUAGE 6.5).
 ///
 /// A script is accepted where its rows are of the right form and the rules
 /// refuse no term of it. It then runs without a fault, whatever the readings
@@ -15,7 +16,7 @@ use crate::Refusal;
 /// - 12 to 15 and 17 to 19, with the row, as from
 ///   [`judge_rows`](crate::judge_rows).
 ///
-/// By the author, with the term:
+/// By the author, with the term (LANGUAGE 5.5):
 /// - 30: the number of a let is taken;
 /// - 31: the root of a place is not in scope; 32: its chain is not long
 ///   enough; 33: something is moved away on the path or of the value;

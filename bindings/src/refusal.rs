@@ -3,7 +3,7 @@
 use std::error::Error;
 use std::fmt::{self, Display, Formatter};
 
-/// A refusal: its number and its place.
+/// A refusal: its number (LANGUAGE 5.3 to 5.5) and its place (5.2).
 ///
 /// Refusals 1 to 5 are the caller's, with place 0 and no lent memory changed,
 /// and the lowest number is the one given. Refusals 10 to 19 are about the

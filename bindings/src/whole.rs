@@ -14,7 +14,8 @@ pub struct Called {
     pub cells: u32,
 }
 
-/// Reads a script into `rows`, checks it and runs it on `store`.
+/// Reads a script into `rows`, checks it and runs it on `store`
+/// (LANGUAGE 6.7).
 ///
 /// It answers as [`read`](crate::read), [`check`](crate::check) and
 /// [`run`](crate::run) do one after the other. A script that is accepted runs

@@ -1,4 +1,4 @@
-/* Every function from C, on the first example, on some refusals and faults, and on empty buffers. */
+/* Every function from C, on E1 (LANGUAGE 8.2), on some refusals and faults, and on empty buffers. */
 #include <roomscript.h>
 
 #include <stdio.h>

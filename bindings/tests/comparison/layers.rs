@@ -72,9 +72,9 @@ impl Layers {
         answer
     }
 
-    /// What is demanded of the run of an accepted script: no fault, a cell for
-    /// every box term, and each given back. Each box term runs, since nothing
-    /// is left out of a run that ends.
+    /// Safety of accepted scripts (LANGUAGE 7.4): no fault, a cell for every
+    /// box term, and each given back. Each box term runs, since nothing is
+    /// left out of a run that ends.
     pub fn as_demanded(&self, case: &Case, rows: &[u32], ran: RunAnswer) {
         let Ok(ran) = ran else {
             panic!("an accepted script: {ran:?}\n{case}");

@@ -1,5 +1,5 @@
-//! Assigns: their order, link kinds (39) and lives (40), and what is held
-//! with the new value in place (35).
+//! Assigns (LANGUAGE 3.25): their order, links (39) and lives (40), and what is
+//! held in the new state (35).
 
 use crate::common::terms::*;
 use crate::common::{ran, refused};

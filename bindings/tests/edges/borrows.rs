@@ -1,5 +1,5 @@
-//! Borrows that are held: reading barred (34), writing barred (35), and what
-//! stands behind a shared borrow (36).
+//! Borrows that are held (LANGUAGE 3.10): reading barred (34; 3.11), writing
+//! barred (35; 3.12), and what stands behind a shared borrow (36; 3.22).
 
 use crate::common::refused;
 use crate::common::terms::*;

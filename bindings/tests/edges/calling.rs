@@ -1,6 +1,6 @@
-//! Whole calls: refusals by the caller in their order, and by the bytes, with
-//! all lent memory. The author's refusals and success are looked at wherever
-//! a script is checked by hand.
+//! Whole calls (LANGUAGE 6.7): refusals by the caller in their order, and by
+//! the bytes, with all lent memory. The author's refusals and success are
+//! looked at wherever a script is checked by hand.
 
 use crate::asked;
 use crate::common::examples::e1;

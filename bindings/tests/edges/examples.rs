@@ -1,5 +1,5 @@
-//! Scripts E1 to E11 as the requirement lists them, checked and run, and E8
-//! and E9 run unchecked.
+//! Scripts E1 to E11 (LANGUAGE 8.4), checked and run, and E8 and E9 run
+//! unchecked.
 
 use crate::common::examples::*;
 use crate::common::store::{cell, is_tidy, store_of};

@@ -1,4 +1,5 @@
-//! Faults 60 to 63 of unchecked runs, each with its term and the whole store.
+//! Faults 60 to 63 of unchecked runs (LANGUAGE 5.6), each with its term and the
+//! whole store (4.21).
 
 use crate::common::fault;
 use crate::common::store::{cell, store_of, StoreRow};

@@ -1,5 +1,6 @@
-//! The limits of a script, from bytes and from rows: bytes, levels, terms and
-//! boxes, each at its edge and one beyond, and their order.
+//! The limits of a script (LANGUAGE 2.8), from bytes and from rows: bytes,
+//! levels, terms and boxes, each at its edge and one beyond, and their order
+//! (5.10, 5.12).
 
 use crate::common::refused;
 use crate::given::*;

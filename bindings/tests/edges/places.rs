@@ -1,5 +1,5 @@
-//! Places: chains (32), what is moved away (33), copies (37), moves (38) and
-//! links (42).
+//! Places (LANGUAGE 3.16): chains (32), what is moved away (33), copies (37;
+//! 3.19), moves (38; 3.20) and links (42; 3.21 to 3.23).
 
 use crate::common::refused;
 use crate::common::terms::*;

@@ -1,4 +1,5 @@
-//! Reading: what rows come of the bytes, and each refusal by the bytes.
+//! Reading (LANGUAGE 6.2): what rows come of the bytes, and each refusal by the
+//! bytes (5.9 to 5.11).
 
 use crate::common::guarded::Guarded;
 use crate::common::refused;

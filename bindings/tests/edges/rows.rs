@@ -1,4 +1,5 @@
-//! Judging rows, and the writer with them: each refusal by the rows.
+//! Judging rows, and the writer with them: each refusal by the rows
+//! (LANGUAGE 5.12, 5.13).
 
 use crate::common::refused;
 use crate::given::*;

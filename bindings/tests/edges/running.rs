@@ -1,4 +1,5 @@
-//! Runs: what comes before them, answers, and what a block does at its end.
+//! Runs (LANGUAGE 4): what comes before them, answers, and what a block does at
+//! its end.
 
 use crate::asked;
 use crate::common::guarded::Guarded;

@@ -1,5 +1,6 @@
-//! What is there: numbers of lets (30), scope (31), values (41) and the
-//! answer (43), and that rows are judged before all of them.
+//! What is there: numbers of lets (30; LANGUAGE 3.6), scope (31; 3.16), values
+//! (41; 3.4) and the answer (43; 3.29), and that rows are judged before all of
+//! them (5.7).
 
 use crate::asked;
 use crate::common::refused;

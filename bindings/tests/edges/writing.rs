@@ -1,4 +1,5 @@
-//! Writing: the bytes that come of rows, and outputs of every length.
+//! Writing (LANGUAGE 6.4): the bytes that come of rows, and outputs of every
+//! length.
 
 use crate::common::guarded::Guarded;
 use crate::common::refused;
