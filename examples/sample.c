@@ -1,4 +1,4 @@
-/* Calls the first example's script from C, and prints the line that the program prints for it. */
+/* Calls the script of E1 (LANGUAGE 8.2) from C, and prints the line that the program prints for it (6.10). */
 #include <roomscript.h>
 #include <stdio.h>
 
