@@ -23,7 +23,7 @@ pub data Answer : Type 0 where
   answered : ℤ → ℕ → Answer
   refused faulted : ℕ → ℕ → Answer
 
--- Each case of the code's answer, with its number and values.
+-- Each case of the code's answer, with its number and values (LANGUAGE 6.6).
 unfoldable pub toldRun : RunOutcome → Answer
 toldRun (Answered a c) = answered a c
 toldRun (Refused n p) = refused n p

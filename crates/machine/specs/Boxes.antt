@@ -13,6 +13,7 @@ afterwards (err e) count = 0
 
 module _ (readings : ℕ → ℕ) where
   unfoldable mutual
+    -- The boxes in a term that run to their end (LANGUAGE 4.22).
     pub boxesRun : Term → State → ℕ
     boxesRun (number i n) s = 0
     boxesRun (reading i n) s = 0

@@ -13,6 +13,7 @@ abbrev pub InRange : Field → ℕ → Type 0
 InRange word v = v < 4294967296
 InRange (until a b) v = (a ≤ v) × (v < b)
 
+-- All operands of a term in their ranges (LANGUAGE 2.4).
 abbrev pub Ranges : List Field → List ℕ → Type 0
 Ranges [] [] = Unit {0}
 Ranges [] (v ∷ vs) = ⊥

@@ -28,7 +28,7 @@ heldBy h free x = false
 heldBy h used x = false
 heldBy h (live v) x = pick (holding v) (h (v .borrow) x) false
 
--- Some variable below n holds such a borrow.
+-- Some variable below n holds such a borrow (LANGUAGE 3.11, 3.12).
 unfoldable pub held : (Borrow → ℕ → Bool) → ℕ → Environment → ℕ → Bool
 held h zero Γ x = false
 held h (suc n) Γ x = pick (heldBy h (Γ n) x) true (held h n Γ x)

@@ -25,6 +25,7 @@ pub data Slot : Type 0 where
   free used : Slot
   live : Variable → Slot
 
+-- The state of every number (LANGUAGE 3.1).
 abbrev pub Environment : Type 0
 Environment = ℕ → Slot
 
@@ -44,7 +45,7 @@ fresh ks b l = record { chain = ks; movedFrom = suc (leadingBoxes ks); borrow = 
 abbrev pub movedAway : Variable → ℕ → Variable
 movedAway v d = record { chain = v .chain; movedFrom = d; borrow = v .borrow; level = v .level }
 
--- The same of a number: what is not in scope stays as it is.
+-- The same of a number (LANGUAGE 3.20): what is not in scope stays as it is.
 abbrev pub movedAwayAt : Slot → ℕ → Slot
 movedAwayAt free d = free
 movedAwayAt used d = used
@@ -86,5 +87,6 @@ leaveSlot l free = free
 leaveSlot l used = used
 leaveSlot l (live v) = pick (ltb l (v .level)) used (live v)
 
+-- The same of all numbers (LANGUAGE 3.28).
 unfoldable pub leave : ℕ → Environment → Environment
 leave l Γ = λ x. leaveSlot l (Γ x)

@@ -20,7 +20,7 @@ through noBorrow r go = none
 through (sharedOf p) r go = go (p .root) (p .follows + r)
 through (exclusiveOf p) r go = go (p .root) (p .follows + r)
 
--- One variable of the path: an own link with no mark before it, or past its borrow link, which no mark may be before (LANGUAGE 3.13, 3.14).
+-- One variable of the path (LANGUAGE 3.13, 3.14): to an own link with no mark before it, or past its borrow link if it has no mark.
 unfoldable pub followAt : Slot → ℕ → ℕ → Follows → Option Place
 followAt free x r go = none
 followAt used x r go = none
@@ -41,6 +41,7 @@ wholeAt free d = false
 wholeAt used d = false
 wholeAt (live v) d = ltb d (v .movedFrom)
 
+-- The same where a path leads; not where something on it is moved away (LANGUAGE 3.15).
 unfoldable pub wholeThere : Environment → Option Place → Bool
 wholeThere Γ none = false
 wholeThere Γ (some q) = wholeAt (Γ (q .root)) (q .follows)

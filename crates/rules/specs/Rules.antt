@@ -12,6 +12,7 @@ use Rattle.rules.specs.Environment.{Borrow, noBorrow, sharedOf, exclusiv
 use Rattle.rules.specs.Follow.{follow, valueWhole}
 use Rattle.rules.specs.Bars.{readBarred, writeBarred}
 
+-- What a rule gives, or the first test that fails (LANGUAGE 3.17).
 abbrev pub Judged : Type 0 → Type 0
 Judged A = Result Refusal A
 

@@ -39,6 +39,7 @@ asRequirement (requirement.Refused n at) = err (n, at)
 abbrev pub beginLet : Environment → ℕ → ℕ → Judged Environment
 beginLet Γ i x = need (isFree (Γ x)) (30, i) >>= λ _. ok (update Γ x used)
 
+-- The answer of the beginning of a let (LANGUAGE 3.24), with the environment afterwards.
 unfoldable pub begun : Environment → Requirement → Judged Environment
 begun Γ requirement.Met = ok Γ
 begun Γ (requirement.Refused n at) = err (n, at)
