@@ -1,4 +1,4 @@
--- Rows that the check accepts run safely: what the check's answer says of the rows, and demand 3 of their script.
+-- Rows that the check accepts run safely (LANGUAGE 7.4): what the check's answer says of the rows, and safety of their script.
 use Prim.Native.Nat.{ℕ, _+_, _*_}
 use mathlib.Core.Path.{_≡_, sym, ap, _∙_}
 use mathlib.Core.List.{List}
