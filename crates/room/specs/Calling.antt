@@ -1,4 +1,4 @@
--- What `call` answers and leaves in lent memory on every input, and what demand 3 says of it.
+-- What `call` answers and leaves in lent memory on every input (LANGUAGE 6.7), and what safety (7.4) says of it.
 use Prim.Native.Nat.{ℕ, _+_, _-_, _*_}
 use mathlib.Core.Path.{_≡_}
 use mathlib.Core.List.{List, _++_}
@@ -23,12 +23,12 @@ use Rattle.machine.specs.Answers.{runFits, bitsOf}
 use Rattle.room.specs.declared.Called.{Called}
 use Rattle.room.specs.declared.Called.the-variants.{Answered, Refused}
 
--- The terms, the answer and the cells taken; or 01's refusal and its place.
+-- The terms, the answer and the cells taken; or the refusal's number and its place.
 pub data CallAnswer : Type 0 where
   called : ℕ → ℤ → ℕ → CallAnswer
   refused : ℕ → ℕ → CallAnswer
 
--- 01's number and values for each case of the code's answer. No case is a fault.
+-- The numbers and values of each case of the code's answer. No case is a fault.
 unfoldable pub toldCall : Called → CallAnswer
 toldCall (Answered n a c) = called n a c
 toldCall (Refused n p) = refused n p
@@ -37,28 +37,28 @@ toldCall (Refused n p) = refused n p
 abbrev pub CallMade : Type 0
 CallMade = CallAnswer × (List ℕ × List ℕ)
 
--- "1 script over 4,096 bytes", then 2 to 4: place 0, "lowest number first".
+-- The caller's numbers, lowest first (LANGUAGE 5.3, 5.8): a script over the byte limit is 1, then 2 to 4; all at place 0.
 unfoldable pub callFits : Limits → List ℕ → List ℤ → List ℕ → List ℕ → Result Refusal (Unit {0})
 callFits l script readings rows store =
     need (leb (length script) maxBytes) (1, 0) >>= λ _.
     runFits l rows readings store
 
--- The run of an accepted script. By demand 3 it does not come to a fault, so the second clause is never asked.
+-- The run of an accepted script. It does not come to a fault (LANGUAGE 7.4), so the second clause is never asked.
 unfoldable pub runCalled : Limits → Term → Ran (State × ℕ) → CallMade
 runCalled l t (ok e) = (called (size t) (toZ w32 (e .1)) (e .0 .taken), (rowsOf l t, encode (l .variables) (l .variables + l .boxes) (e .0 .store)))
 runCalled l t (err f) = (refused (f .number) (f .term), (rowsOf l t, encode (l .variables) (l .variables + l .boxes) (f .state .store)))
 
--- "By the author: 30 to 43": the store is unchanged.
+-- 30 to 43 leave the script's rows, and the store unchanged (LANGUAGE 5.5).
 unfoldable pub judgedCalled : Limits → List ℤ → List ℕ → Term → Result Refusal (Unit {0}) → CallMade
 judgedCalled l readings store t (ok u) = runCalled l t (runScript (bitsOf readings) t (λ x. closed))
 judgedCalled l readings store t (err e) = (refused (e .0) (e .1), (rowsOf l t, store))
 
--- "reading leaves all rows 0".
+-- 10 to 19 leave all rows 0 (LANGUAGE 5.4).
 unfoldable pub parsedCalled : Limits → List ℤ → List ℕ → Result Refusal Term → CallMade
 parsedCalled l readings store (ok t) = judgedCalled l readings store t (judgeScript (l .variables) t)
 parsedCalled l readings store (err e) = (refused (e .0) (e .1), (zeros (rowNumbers l), store))
 
--- By the caller: "no lent memory changes".
+-- 1 to 4 change no lent memory (LANGUAGE 5.3).
 unfoldable pub fitCalled : Result Refusal (Unit {0}) → List ℕ → List ℕ → CallMade → CallMade
 fitCalled (ok u) rows store made = made
 fitCalled (err e) rows store made = (refused (e .0) (e .1), (rows, store))
@@ -77,7 +77,7 @@ pub record SafeCall (l : Limits) (script : List ℕ) (readings : List ℤ) (r : 
   pub tidy : (n : ℕ) (a : ℤ) (c : ℕ) → r ≡ called n a c → after ≡ closedRows (l .variables) ++ (givenRows c ++ closedRows (l .boxes - c))
   pub untouched : (n p : ℕ) → r ≡ refused n p → after ≡ before
 
--- "eight readings of 4 bytes, high byte first": the one in the bytes from `at` on, 0 where there are not four.
+-- A reading of the program's input (LANGUAGE 6.9): four bytes from `at` on, high byte first; 0 where there are not four.
 unfoldable pub readingAt : List ℕ → ℕ → ℤ
 readingAt input at =
     pick (leb (at + 4) (length input))

@@ -1,4 +1,4 @@
--- What the parts of `call` answer, as the answers of the layers below put together. No rule of 01 is stated here.
+-- What the parts of `call` answer, as the answers of the layers below put together. No rule of the language is stated here.
 use Prim.Native.Nat.{ℕ}
 use mathlib.Core.List.{List}
 use lib.IntN.{ℤ}

@@ -1,4 +1,4 @@
--- Scripts E1 to E11, what they come to, and what 01 says they come to.
+-- Scripts E1 to E11, what they come to, and what LANGUAGE 8.4 says they come to.
 use Prim.Native.Nat.{ℕ, zero, suc}
 use mathlib.Core.List.{List, [], _∷_}
 use Rattle.reader.specs.Result.{Result, ok, err, Refusal}
@@ -10,7 +10,7 @@ use Rattle.machine.specs.Values.{closed}
 use Rattle.machine.specs.Store.{State, Ran}
 use Rattle.machine.specs.Run.{runScript}
 
--- "vN is variable N, a star a follow".
+-- Places in the notation of LANGUAGE 1.5.
 abbrev v : ℕ → Place
 v x = record { root = x; follows = 0 }
 
@@ -125,7 +125,7 @@ e11 =
     ⨾ assign 7 (v 2) (block 8 (declare 9 3 (borrowShared 10 (v 1)) ⨾ last (borrowShared 11 (star (v 3)))))
     ⨾ last (copy 12 (star (v 2))))
 
--- "Readings 185, 200".
+-- Readings 185 and then 200.
 unfoldable pub readings : ℕ → ℕ
 readings zero = 185
 readings (suc n) = 200
@@ -156,20 +156,20 @@ lines =
 
 unfoldable pub table : List Line
 table =
-    -- E1 to E4: "answer 1, 8 terms, 0 cells", "34 at 5", "33 at 6", "8, one cell".
+    -- E1 to E4.
     accepted 8 1 0
     ∷ refused 34 5
     ∷ refused 33 6
     ∷ accepted 9 8 1
-    -- E5 to E7: "40 at 4", "2", "36 at 7".
+    -- E5 to E7.
     ∷ refused 40 4
     ∷ accepted 12 2 0
     ∷ refused 36 7
-    -- E8: "E3 run unchecked: 60 at 6". E9: "37 at 5; unchecked, 63 at 0".
+    -- E8, which is E3 unchecked; E9, checked and unchecked.
     ∷ faulted 60 6
     ∷ refused 37 5
     ∷ faulted 63 0
-    -- E10: "42 at 2. Eight: accepted". E11: "40 at 8".
+    -- E10, with nine boxes and with eight; E11.
     ∷ refused 42 2
     ∷ accepted 12 0 8
     ∷ refused 40 8
