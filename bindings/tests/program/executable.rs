@@ -15,7 +15,7 @@ pub fn root() -> &'static Path {
 }
 
 /// Without the program there is nothing to compare, which is a failure.
-fn executable() -> PathBuf {
+pub fn executable() -> PathBuf {
     let path = root().join("target").join("bin").join("roomcheck");
     assert!(
         path.is_file(),

@@ -1,5 +1,8 @@
--- What a call answers, from what the layers below answer; and that it is safe (LANGUAGE 7.4).
+-- What a call answers, from what the layers below answer; that it is safe (LANGUAGE 7.4); and the line that reports it.
 pub mod RunLaws
 pub mod CallLaws
 pub mod CallSafe
 pub mod AcceptedSafe
+pub mod LineLaws
+pub mod ReportLaws
+pub mod ExampleLines

@@ -1,8 +1,11 @@
--- What the parts of `call` answer, as the answers of the layers below put together. No rule of the language is stated here.
-use Prim.Native.Nat.{ℕ}
+-- What the parts of `call` and of `report` answer, as the answers of the layers below put together. No rule of the language is stated here.
+use Prim.Native.Nat.{ℕ, _+_}
+use mathlib.Core.Path.{_≡_}
 use mathlib.Core.List.{List}
 use lib.IntN.{ℤ}
 use lib.Dec.{ltb, eqb}
+use lib.ListN.{length}
+use lib.Seq.{sets}
 use Rattle.reader.specs.Result.{Result, ok, err, Refusal, pick}
 use Rattle.reader.specs.Limits.{Limits}
 use Rattle.ownership.specs.Answers.{checkOf}
@@ -29,3 +32,8 @@ unfoldable pub fitNumber : ℕ → ℕ → ℕ → ℕ → ℕ
 fitNumber script rows store readings =
     pick (ltb 4096 script) 1
     (pick (eqb rows 2560) (pick (eqb store 384) (pick (eqb readings 8) 0 4) 3) 2)
+
+-- A text put into a line from offset `at` on: the offset after it, and the line afterwards.
+pub record Put (line : List ℕ) (at : ℕ) (text : List ℕ) (end : ℕ) (after : List ℕ) : Type 0 where
+  pub ends : end ≡ at + length text
+  pub stored : after ≡ sets line at text

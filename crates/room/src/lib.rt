@@ -1,10 +1,15 @@
-// Reads, checks and runs a script in one call. What the check accepts runs without a fault, so the answer has none.
+// Reads, checks and runs a script in one call, and puts the program's line of it into a buffer. What the check accepts
+// runs without a fault, so the answer has none.
+mod line; // line.rt: the line of an answer
+
 ghost use mathlib.Core.Path.{_≡_};
+ghost use Prim.Native.Nat.{_≤_};
 ghost use lib.ListN.{length};
 ghost use Rattle.reader.specs.Result.{ok};
 ghost use Rattle.reader.specs.Limits.{base};
 ghost use Rattle.reader.specs.Answers.{judgedOf};
 ghost use Rattle.room.specs.Calling.{toldCall, callOf, SafeCall, readingAt};
+ghost use Rattle.room.specs.Line.{readingsOf, reportOf};
 ghost use Rattle.room.specs.Parts.{fitNumber, checkedRun};
 use machine::RunOutcome;
 use machine::signed::number_of;
@@ -13,13 +18,13 @@ use reader::Outcome;
 use reader::fields::word_at;
 use reader::limits;
 
-// The terms, the answer and the cells taken; or 01's number and place.
+// The terms, the answer and the cells taken; or the refusal's number and place (LANGUAGE 6.7).
 pub enum Called {
     Answered(usize, i32, usize),
     Refused(u32, usize),
 }
 
-// The number of the caller's refusal, lowest first; 0 for none.
+// The number of the caller's refusal, lowest first (LANGUAGE 5.8); 0 for none.
 fn fit_number(script: usize, rows: usize, store: usize, readings: usize) -> u32
     ensures { λ r. ⌜ r ≡ fitNumber script rows store readings ⌝ }
 {
@@ -57,7 +62,7 @@ fn run_checked(terms: usize, rows: &[u32], readings: &[i32], store: &mut [u32]) 
     }
 }
 
-// The caller's refusals (1 to 4) change nothing; those of the bytes (10 to 19) leave all rows 0; those of the
+// A call (LANGUAGE 6.7). The caller's refusals (1 to 4) change nothing; those of the bytes (10 to 19) leave all rows 0; those of the
 // ownership rules (30 to 43) leave the rows of the script. In all of these the store is unchanged.
 pub fn call(script: &[u8], readings: &[i32], rows: &mut [u32], store: &mut [u32]) -> Called
     ensures answered { λ r. ⌜ (toldCall r, (now (rows .exit), now (store .exit))) ≡ callOf base (now (script .entry)) (now (readings .entry)) (now (rows .entry)) (now (store .entry)) ⌝ }
@@ -74,8 +79,8 @@ pub fn call(script: &[u8], readings: &[i32], rows: &mut [u32], store: &mut [u32]
     }
 }
 
-// The reading in the four bytes from `at` on, high byte first; 0 where the input has not as many.
-pub fn reading_at(input: &[u8], at: usize) -> i32
+// A reading of the input (LANGUAGE 6.9): the four bytes from `at` on, high byte first; 0 where there are not as many.
+fn reading_at(input: &[u8], at: usize) -> i32
     ensures { λ r. ⌜ r ≡ readingAt (now (input .entry)) at ⌝ }
 {
     if input.len() < 4 {
@@ -85,4 +90,34 @@ pub fn reading_at(input: &[u8], at: usize) -> i32
         return 0;
     }
     number_of(word_at(input, at))
+}
+
+// The eight readings at the front of the input (LANGUAGE 6.9).
+fn readings_of(input: &[u8]) -> [i32; 8]
+    ensures { λ r. ⌜ r ≡ readingsOf (now (input .entry)) ⌝ }
+{
+    [
+        reading_at(input, 0),
+        reading_at(input, 4),
+        reading_at(input, 8),
+        reading_at(input, 12),
+        reading_at(input, 16),
+        reading_at(input, 20),
+        reading_at(input, 24),
+        reading_at(input, 28),
+    ]
+}
+
+// The program's work (LANGUAGE 6.8): the line for an input of eight readings and a script goes to the front of `line`, and the
+// answer is its length.
+pub fn report(input: &[u8], rows: &mut [u32], store: &mut [u32], line: &mut [u8; 80]) -> usize
+    ensures answered { λ r. ⌜ (r, (now (rows .exit), (now (store .exit), now (line .exit)))) ≡ reportOf base (now (input .entry)) (now (rows .entry)) (now (store .entry)) (now (line .entry)) ⌝ }
+    ensures within { λ r. ⌜ r ≤ length (now (line .exit)) ⌝ }
+{
+    if input.len() < 32 {
+        return line::put_text(line, 0, b"readings short\n");
+    }
+    let readings = readings_of(input);
+    let called = call(&input[32..], &readings, rows, store);
+    line::put_called(line, called)
 }

@@ -1,70 +1,64 @@
-// Reads eight readings and a script from standard input, runs the script if it is accepted, and prints one line.
+// The program (LANGUAGE 6.9 to 6.11). Reads eight readings and a script from standard input, and prints the line that
+// `room::report` makes of them. Where
+// reading fails there is no line: what was read may not be the whole input.
+ghost use lib.ListN.{length};
+ghost use Rattle.roomcheck.specs.Input.{Within};
+use libc::STDERR_FILENO;
 use libc::STDIN_FILENO;
 use libc::STDOUT_FILENO;
-use room::Called;
 
-fn print_signed(n: i32) {
-    let bits = machine::signed::bits_of(n) as u64;
-    if bits < 2147483648 {
-        io::print_decimal(STDOUT_FILENO, bits);
-    } else {
-        io::write_all(STDOUT_FILENO, b"-");
-        io::print_decimal(STDOUT_FILENO, distance(bits));
-    }
+// The number of bytes read when the input ended or the buffer was full; or an error before that.
+enum Input {
+    Whole(usize),
+    Failed,
 }
 
-// How far below 0 the number with these 32 bits is.
-fn distance(bits: u64) -> u64 {
-    if 4294967296 < bits {
-        return 0;
-    }
-    4294967296 - bits
-}
-
-fn print_called(called: Called) {
-    match called {
-        Called::Answered(terms, answer, cells) => {
-            io::write_all(STDOUT_FILENO, b"accepted ");
-            io::print_decimal(STDOUT_FILENO, terms as u64);
-            io::write_all(STDOUT_FILENO, b" call ");
-            print_signed(answer);
-            io::write_all(STDOUT_FILENO, b" cells ");
-            io::print_decimal(STDOUT_FILENO, cells as u64);
+// A read that a signal interrupted is tried again. Every loop has to end, so the reads are counted; so many of them
+// are out of reach.
+fn read_input(buffer: &mut [u8]) -> Input
+    ensures { λ r. ⌜ Within (length (now (buffer .exit))) r ⌝ }
+{
+    let mut done = 0;
+    let mut tries: u64 = 0xffff_ffff_ffff_ffff;
+    while done < buffer.len() {
+        if tries == 0 {
+            return Input::Failed;
         }
-        Called::Refused(number, place) => {
-            io::write_all(STDOUT_FILENO, b"refused ");
-            io::print_decimal(STDOUT_FILENO, number as u64);
-            io::write_all(STDOUT_FILENO, b" at ");
-            io::print_decimal(STDOUT_FILENO, place as u64);
+        tries -= 1;
+        let got = libc::read(STDIN_FILENO, &mut buffer[done..]);
+        if got < 0 {
+            if os::errno() != libc::EINTR {
+                return Input::Failed;
+            }
+        } else {
+            let more = io::count(got, &buffer[done..]);
+            if more == 0 {
+                return Input::Whole(done);
+            }
+            done += more;
         }
     }
-    io::write_all(STDOUT_FILENO, b"\n");
-}
-
-fn readings_of(input: &[u8]) -> [i32; 8] {
-    [
-        room::reading_at(input, 0),
-        room::reading_at(input, 4),
-        room::reading_at(input, 8),
-        room::reading_at(input, 12),
-        room::reading_at(input, 16),
-        room::reading_at(input, 20),
-        room::reading_at(input, 24),
-        room::reading_at(input, 28),
-    ]
+    Input::Whole(done)
 }
 
 fn main() {
     // 32 bytes of readings, and one more than a script may have: what follows changes nothing.
     let mut input = [0u8; 4129];
-    let n = io::read_full(STDIN_FILENO, &mut input);
-    if n < 32 {
-        io::write_all(STDOUT_FILENO, b"readings short\n");
+    let Input::Whole(n) = read_input(&mut input) else {
+        io::write_all(
+            STDERR_FILENO,
+            b"roomcheck: error while reading standard input\n",
+        );
         return;
-    }
-    let readings = readings_of(&input);
+    };
     let mut rows = [0u32; 2560];
     let mut store = [0u32; 384];
-    let called = room::call(&input[32..n], &readings, &mut rows, &mut store);
-    print_called(called);
+    let mut line = [0u8; 80];
+    let length = room::report(&input[..n], &mut rows, &mut store, &mut line);
+    if !io::write_all(STDOUT_FILENO, &line[..length]) {
+        io::write_all(
+            STDERR_FILENO,
+            b"roomcheck: error while writing standard output\n",
+        );
+    }
 }

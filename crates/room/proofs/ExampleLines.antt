@@ -1,0 +1,49 @@
+-- E1 to E11: the definitions give the lines of LANGUAGE 8.4.
+use mathlib.Core.Path.{refl}
+use Rattle.reader.specs.Result
+use Rattle.reader.specs.Limits
+use Rattle.reader.specs.Kinds
+use Rattle.reader.specs.Layout
+use Rattle.reader.specs.Reader
+use Rattle.reader.specs.Measures
+use Rattle.rules.specs.Links
+use Rattle.rules.specs.Environment
+use Rattle.rules.specs.Follow
+use Rattle.rules.specs.Bars
+use Rattle.rules.specs.Rules
+use Rattle.rules.specs.Judge
+use Rattle.machine.specs.Store
+use Rattle.machine.specs.Locate
+use Rattle.machine.specs.Drop
+use Rattle.machine.specs.Run
+use Rattle.machine.specs.Answers
+use Rattle.safety.specs.Examples
+use Rattle.room.specs.Calling
+use Rattle.room.specs.Line
+use Rattle.room.specs.ExampleLines
+use Rattle.room.specs.ExampleLines.{LinesHold}
+
+pub lines-hold : LinesHold
+unfolding
+    ExampleLines.lineIn ExampleLines.printed ExampleLines.e1Readings ExampleLines.on ExampleLines.examples
+    Line.digitsBy Line.decimal Line.signed Line.lineOf Line.shortLine Line.readingsOf Line.inFront Line.reported Line.reportCall Line.reportOf
+    Calling.callFits Calling.runCalled Calling.judgedCalled Calling.parsedCalled Calling.fitCalled Calling.callOf Calling.readingAt
+    Result._>>=_ Result.need
+    Limits.base Limits.maxBytes Limits.rowNumbers
+    Kinds.byteOf Kinds.kinds Kinds.among Kinds.kindOf Kinds.fields
+    Layout.bytesOf Layout.lay Layout.head Layout.wordOf Layout.unused Layout.zeros Layout.others
+    Reader._>>=_ Reader.done Reader.placeIn Reader.expect Reader.first Reader.peek Reader.skip Reader.next Reader.ranged Reader.field Reader.operands Reader.restOfRow Reader.is Reader.boxesOf Reader.ended Reader.known Reader.kind Reader.opening Reader.counted Reader.several Reader.built Reader.term Reader.nothingLeft Reader.over Reader.script Reader.mark Reader.version Reader.leading Reader.answer Reader.parse
+    Measures.size
+    Links.leadingBoxes Links.maxLinks Links.noShared Links.isNumber Links.copies Links.sameLink Links.sameLinks
+    Environment.update Environment.isFree Environment.levelOf Environment.borrowOf Environment.livesAt Environment.leaveSlot Environment.leave
+    Follow.through Follow.followAt Follow.follow Follow.wholeAt Follow.wholeThere Follow.valueWhole
+    Bars.borrowsAny Bars.borrowsExclusive Bars.holding Bars.heldBy Bars.held
+    Rules.inScope Rules.reached Rules.valued Rules.judgePlace Rules.judgeReadable Rules.judgeCopy Rules.judgeMove Rules.judgeShared Rules.judgeExclusive Rules.judgeBox Rules.judgeLet Rules.judgeAssign Rules.judgeNumber Rules.judgeBelow Rules.judgeBlockEnd
+    Judge.judge Judge.judgeScript
+    Store.sameLocation Store.put Store.isOpen
+    Locate.followed Locate.locateFrom Locate.locate Locate.filled Locate.numberIn
+    Drop.giveBack Drop.dropStep Drop.isGivenBack Drop.cellsGivenBack Drop.cellsLeft Drop.dropAlong Drop.dropValue Drop.closeAll
+    Run.runCopy Run.runMove Run.runBorrow Run.runNumber Run.less Run.runBelow Run.runBox Run.runLet Run.runAssign Run.runBlockEnd Run.run Run.runScript
+    Answers.runFits Answers.bitsOf
+    Examples.boxed Examples.e1Bytes Examples.e2 Examples.e3 Examples.e4 Examples.e5 Examples.e6 Examples.e7 Examples.e9 Examples.nine Examples.eight Examples.e11
+lines-hold = refl
