@@ -21,7 +21,6 @@ pub mod RoundTrip
 pub mod View
 pub mod LoopLaws
 pub mod ClearLaws
-pub mod LentLaws
 pub mod ScriptLaws
 pub mod NumberLaws
 pub mod WholeLaws

@@ -54,12 +54,12 @@ unfolding fieldsOf
 operands-near kind t at n p e h =
     subst (λ (f : Fields). Near 4200 f) e (near-fields 4200 (fieldsIn (kindOf 1 kind)) t at 1 (omega arith) (omega (arith, few-fields (kindOf 1 kind))))
 
-pub lead-near : (t : List ℕ) (n p : ℕ) → leadJudged t ≡ found.Refused n p → length t ≤ 4096 → p ≤ 4200
+pub lead-near : (t : List ℕ) (at n p : ℕ) → leadJudged t at ≡ found.Refused n p → at ≤ length t → length t ≤ 4096 → p ≤ 4200
 unfolding leadJudged
-lead-near t n p e h =
+lead-near t at n p e l h =
     subst (λ (f : Fields). Near 4200 f) e
-    (near-number 4200 (markNumber t 0 0x52) 0 _ (omega arith)
-    (near-number 4200 (markNumber t 1 0x43) 1 _ (omega arith)
-    (near-number 4200 (markNumber t 2 0x53) 2 _ (omega arith)
-    (near-pick 4200 (ltb (length t) 5) (found.Refused 12 (length t)) _ (omega arith)
-    (near-pick 4200 (eqb (getD t 3 0 * 256 + getD t 4 0) 1) (found.Fine 5) (found.Refused 11 3) tt (omega arith))))))
+    (near-number 4200 (markNumber t at 0x52) at _ (omega arith)
+    (near-number 4200 (markNumber t (at + 1) 0x43) (at + 1) _ (omega arith)
+    (near-number 4200 (markNumber t (at + 2) 0x53) (at + 2) _ (omega arith)
+    (near-pick 4200 (ltb (length t) (at + 5)) (found.Refused 12 (length t)) _ (omega arith)
+    (near-pick 4200 (eqb (getD t (at + 3) 0 * 256 + getD t (at + 4) 0) 1) (found.Fine (at + 5)) (found.Refused 11 (at + 3)) tt (omega arith))))))

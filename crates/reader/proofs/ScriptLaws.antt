@@ -103,25 +103,27 @@ module _ (t : List ℕ) where
       go zero e = go-on (mark b) _ (here j) (here (suc j)) tt _ (mark-is j b ∙ ap (λ (n : ℕ). marked n j) e) (h e)
       go (suc n) e = stops (mark b) _ (here j) _ (mark-is j b ∙ ap (λ (n : ℕ). marked n j) e)
 
-  pub lead-is : leading (start t) ≡ onLead (leadJudged t)
+  pub lead-is : leading (start t) ≡ onLead (leadJudged t 0)
   unfolding leadJudged leading versioned
   lead-is = mark-then 0 0x52 _ _ (λ a. mark-then 1 0x43 _ _ (λ b. mark-then 2 0x53 version versioned (λ c. version-is (mark-room 2 0x53 c))))
 
-  pub lead-room : (n : ℕ) → leadJudged t ≡ fields.Fine n → 5 ≤ length t
-  unfolding leadJudged versioned
-  lead-room n h = go (ltb (length t) 5) refl (number-fine _ 2 n versioned (number-fine _ 1 n _ (number-fine _ 0 n _ h .1) .1) .1)
+  -- Where mark and version are fine, they are there, and five bytes.
+  pub lead-room : (at n : ℕ) → leadJudged t at ≡ fields.Fine n → (n ≡ at + 5) × (at + 5 ≤ length t)
+  unfolding leadJudged
+  lead-room at n h = go (ltb (length t) (at + 5)) (eqb (getD t (at + 3) 0 * 256 + getD t (at + 4) 0) 1) refl (number-fine _ (at + 2) n _ (number-fine _ (at + 1) n _ (number-fine _ at n _ h .1) .1) .1)
     where
-      go : (x : Bool) → ltb (length t) 5 ≡ x → pick x (fields.Refused 12 (length t)) (pick (eqb (getD t 3 0 * 256 + getD t 4 0) 1) (fields.Fine 5) (fields.Refused 11 3)) ≡ fields.Fine n → 5 ≤ length t
-      go true l q = let z : _≡_ {A = ℕ} 0 1 = cc in absurd (omega arith)
-      go false l q = ltb-false _ _ l
+      go : (x y : Bool) → ltb (length t) (at + 5) ≡ x → pick x (fields.Refused 12 (length t)) (pick y (fields.Fine (at + 5)) (fields.Refused 11 (at + 3))) ≡ fields.Fine n → (n ≡ at + 5) × (at + 5 ≤ length t)
+      go true y l q = let z : _≡_ {A = ℕ} 0 1 = cc in absurd (omega arith)
+      go false true l q = (let e : at + 5 ≡ n = cc in omega arith, ltb-false _ _ l)
+      go false false l q = let z : _≡_ {A = ℕ} 0 1 = cc in absurd (omega arith)
 
   -- ---- the whole script
 
-  pub script-lead : (n p : ℕ) → leadJudged t ≡ fields.Refused n p → readScript t ≡ err (n, p)
+  pub script-lead : (n p : ℕ) → leadJudged t 0 ≡ fields.Refused n p → readScript t ≡ err (n, p)
   unfolding onLead
   script-lead n p e = stops leading _ (start t) (n, p) (lead-is ∙ ap onLead e)
 
-  module _ (n : ℕ) (e : leadJudged t ≡ fields.Fine n) where
+  module _ (n : ℕ) (e : leadJudged t 0 ≡ fields.Fine n) where
     script-on : readScript t ≡ script base 1 inBytes (here 5)
     unfolding onLead
     script-on = go-on leading _ (start t) (here 5) tt _ (lead-is ∙ ap onLead e) refl

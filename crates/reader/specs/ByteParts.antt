@@ -114,13 +114,14 @@ readBlock levels count tail at terms boxes = several (term base 1 inBytes levels
 unfoldable pub markNumber : List ℕ → ℕ → ℕ → ℕ
 markNumber t j byte = pick (leb (length t) j) 12 (pick (eqb (getD t j 0) byte) 0 10)
 
-unfoldable pub leadJudged : List ℕ → Fields
-leadJudged t =
-    onNumber (markNumber t 0 0x52) 0
-    (onNumber (markNumber t 1 0x43) 1
-    (onNumber (markNumber t 2 0x53) 2
-    (pick (ltb (length t) 5) (fields.Refused 12 (length t))
-    (pick (eqb (getD t 3 0 * 256 + getD t 4 0) 1) (fields.Fine 5) (fields.Refused 11 3)))))
+-- Mark and version from offset at on: where they end, or the refusal.
+unfoldable pub leadJudged : List ℕ → ℕ → Fields
+leadJudged t at =
+    onNumber (markNumber t at 0x52) at
+    (onNumber (markNumber t (at + 1) 0x43) (at + 1)
+    (onNumber (markNumber t (at + 2) 0x53) (at + 2)
+    (pick (ltb (length t) (at + 5)) (fields.Refused 12 (length t))
+    (pick (eqb (getD t (at + 3) 0 * 256 + getD t (at + 4) 0) 1) (fields.Fine (at + 5)) (fields.Refused 11 (at + 3))))))
 
 abbrev pub readScript : List ℕ → Result Refusal (Term × Cursor)
 readScript bytes = (leading >> script base 1 inBytes) (start bytes)

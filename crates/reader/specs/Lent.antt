@@ -1,50 +1,59 @@
--- "A reader of a script consists of the lent bytes and the next offset": where it begins, where it goes on, and what it finds.
-use Prim.Native.Nat.{ℕ, _+_, _≤_}
+-- "A reader of a script consists of the lent bytes and the next offset": where it begins, where it goes on, and what it reads from there.
+use Prim.Native.Nat.{ℕ, _≤_}
+use mathlib.Core.Path.{_≡_}
 use mathlib.Core.Bool.{true}
-use mathlib.Core.List.{List, [], _∷_}
+use mathlib.Core.List.{List}
 use lib.ListN.{length, drop}
+use lib.Dec.{ltb}
 use denote.Ref.{RefT}
-use Rattle.reader.specs.Result.{Result, Refusal}
+use Rattle.reader.specs.Result.{Result, Refusal, pick}
 use Rattle.reader.specs.Limits.{base}
 use Rattle.reader.specs.Script.{Term}
 use Rattle.reader.specs.Layout.{lay, inRows}
 use Rattle.reader.specs.Reader.{Cursor}
-use Rattle.reader.specs.ByteParts.{Ready, found, Reading, readTerm}
+use Rattle.reader.specs.Within.{Under}
+use Rattle.reader.specs.ByteParts.{Got, Fine, Refused, found, Reading, readTerm, leadJudged}
+use Rattle.reader.specs.declared.operands.Fields.{Fields}
+use Rattle.reader.specs.declared.operands.Fields.the-variants as fields
 use Rattle.reader.specs.declared.reader.Reader.{Reader}
-use Rattle.reader.specs.declared.reader.Next.{Next}
-use Rattle.reader.specs.declared.reader.Next.the-variants.{Byte, End}
 
 abbrev pub begun : RefT (List ℕ) → Reader
 begun script = record { script = script; at = 0 }
 
-abbrev pub advanced : Reader → ℕ → Reader
-advanced reader by = record { script = reader .script; at = reader .at + by }
+-- The next offset after an answer: past what was read, and after a refusal the same.
+unfoldable pub reached : ℕ → Got → ℕ
+reached at (Fine next terms boxes) = next
+reached at (Refused n p) = at
 
-unfoldable pub foremost : List ℕ → Next
-foremost [] = End
-foremost (x ∷ xs) = Byte x
+abbrev pub advanced : Reader → Got → Reader
+advanced reader got = record { script = reader .script; at = reached (reader .at) got }
+
+-- An offset in a script that is no longer than one may be.
+abbrev pub Inside : List ℕ → ℕ → Type 0
+Inside bytes at = (at ≤ length bytes) × (length bytes ≤ 4096)
+
+-- The answer for mark and version: no term is met in them.
+unfoldable pub leadGot : Fields → Got
+leadGot (fields.Fine next) = Fine next 0 0
+leadGot (fields.Refused n p) = Refused n p
+
+abbrev pub LeadRead : List ℕ → ℕ → ℕ → Type 0
+LeadRead bytes at r = (found r ≡ leadGot (leadJudged bytes at)) × Under 256 bytes
 
 -- The bytes from an offset on.
 abbrev pub remaining : List ℕ → ℕ → List ℕ
 remaining bytes at = drop at bytes
 
--- What stands at an offset: the first of the bytes from there on.
-unfoldable pub standing : List ℕ → ℕ → Next
-standing bytes at = foremost (remaining bytes at)
-
--- "one term, a block": the outermost term at the front of a part, the answer for it, and the rows that it fills.
-abbrev pub readPart : List ℕ → ℕ → Result Refusal (Term × Cursor)
-readPart part at = readTerm (base .levels) true part at 0 0
-
-abbrev pub PartRead : List ℕ → ℕ → List ℕ → List ℕ → ℕ → Type 0
-PartRead part at before after r = Reading (lay inRows) (readPart part at) 0 before after (found r)
-
--- The same from an offset on, and what it asks.
+-- "one term, a block": the outermost term from an offset on.
 abbrev pub readOutermost : List ℕ → ℕ → Result Refusal (Term × Cursor)
-readOutermost bytes at = readPart (remaining bytes at) at
+readOutermost bytes at = readTerm (base .levels) true (remaining bytes at) at 0 0
 
-abbrev pub OutermostRead : List ℕ → ℕ → List ℕ → List ℕ → ℕ → Type 0
-OutermostRead bytes at = PartRead (remaining bytes at) at
+-- The answer after mark and version, and the rows that it fills: their refusal, or what the outermost term gives.
+unfoldable pub OutermostRead : Got → List ℕ → ℕ → List ℕ → List ℕ → Got → Type 0
+OutermostRead (Refused n p) bytes at before after r = r ≡ Refused n p
+OutermostRead (Fine next terms boxes) bytes at before after r = Reading (lay inRows) (readOutermost bytes at) 0 before after r
 
-abbrev pub OutermostReady : List ℕ → ℕ → List ℕ → Type 0
-OutermostReady bytes at rows = (at ≤ length bytes) × Ready (remaining bytes at) at 0 rows
+-- The answer for a whole script, from the one for its outermost term: a byte that is left is 19.
+unfoldable pub endJudged : Got → List ℕ → ℕ → Got
+endJudged (Refused n p) bytes at = Refused n p
+endJudged (Fine next terms boxes) bytes at = pick (ltb at (length bytes)) (Refused 19 at) (Fine next terms boxes)

@@ -1,96 +1,152 @@
-// A reader of a script in its named form: the lent bytes and the next offset. No function over a struct that holds a reference is
-// covered by the borrow checker, so they are few and thin: each leaves its work to one on slice and number, and who reads a
-// script calls `next_at` and `read_outermost_at`, whose parameters are plain.
+// A reader of a script in its named form: the lent bytes and the next offset. No function over a struct that holds a reference
+// is covered by the borrow checker, so they are few and thin: each leaves its work to one on slice and number, and has no
+// branch. An answer is one number, as the term reader's is; where the answer so far is a refusal, it is answered again.
 ghost use mathlib.Core.Path.{_≡_};
-ghost use Prim.Native.Nat.{_+_, _≤_, _<_, _^_};
+ghost use Prim.Native.Nat.{_≤_};
 ghost use lib.ListN.{length};
-ghost use Rattle.reader.specs.ByteParts.{Ready};
-ghost use Rattle.reader.specs.Lent.{begun, advanced, standing, remaining, PartRead, OutermostReady, OutermostRead};
+ghost use Rattle.reader.specs.Within.{Under};
+ghost use Rattle.reader.specs.ByteParts.{found, markNumber, leadJudged};
+ghost use Rattle.reader.specs.Lent.{begun, reached, advanced, Inside, LeadRead, OutermostRead, endJudged};
+use crate::fields::wide;
 use crate::limits;
+use crate::operands::Fields;
+use crate::packed;
 use crate::terms::read_term;
 
+// "A reader of a script consists of the lent bytes and the next offset".
 pub struct Reader<'a> {
     script: &'a [u8],
     at: usize,
 }
 
-// What stands at an offset.
-pub enum Next {
-    Byte(u8),
-    End,
+// ---- on slice and number
+
+// "10 mark differs (first such byte)": 0 where the byte at j is the mark's; else 10, or 12 where there is none.
+fn mark_number(script: &[u8], j: usize, byte: u8) -> u32
+    ensures { λ r. ⌜ r ≡ markNumber (now (script .entry)) j byte ⌝ }
+{
+    if script.len() <= j {
+        return limits::ENDED;
+    }
+    if script[j] != byte {
+        return limits::MARK;
+    }
+    0
 }
 
-fn byte_at(script: &[u8], at: usize) -> Next
-    ensures { λ r. ⌜ r ≡ standing (now (script .entry)) at ⌝ }
+// "the mark `RCS` (52 43 53), a 16-bit version, high byte first, equal to 1": where they end, or the refusal.
+fn judge_lead(script: &[u8], at: usize) -> Fields
+    requires { ⌜ Inside (now script) at ⌝ }
+    ensures { λ r. ⌜ (r ≡ leadJudged (now (script .entry)) at) × Under 256 (now (script .entry)) ⌝ }
 {
-    if at < script.len() {
-        Next::Byte(script[at])
-    } else {
-        Next::End
+    let first = mark_number(script, at, 0x52);
+    if first != 0 {
+        return Fields::Refused(first, at);
+    }
+    let second = mark_number(script, at + 1, 0x43);
+    if second != 0 {
+        return Fields::Refused(second, at + 1);
+    }
+    let third = mark_number(script, at + 2, 0x53);
+    if third != 0 {
+        return Fields::Refused(third, at + 2);
+    }
+    if script.len() < at + 5 {
+        return Fields::Refused(limits::ENDED, script.len());
+    }
+    let version = wide(script[at + 3]) * 256 + wide(script[at + 4]);
+    if version != 1 {
+        return Fields::Refused(limits::VERSION, at + 3);
+    }
+    Fields::Fine(at + 5)
+}
+
+// "10 mark differs", "11 other version" or "12 ended", or the offset after both, in one number.
+fn lead_answer(script: &[u8], at: usize) -> usize
+    requires { ⌜ Inside (now script) at ⌝ }
+    ensures { λ r. ⌜ LeadRead (now (script .entry)) at r ⌝ }
+{
+    match judge_lead(script, at) {
+        Fields::Fine(next) => packed::fine(next, 0, 0),
+        Fields::Refused(number, place) => packed::refused(number, place),
     }
 }
 
-fn part_from(script: &[u8], at: usize) -> &[u8]
-    requires { ⌜ at ≤ length (now script) ⌝ }
-    ensures { λ r. ⌜ now r ≡ remaining (now (script .entry)) at ⌝ }
+// "the next offset": past what an answer has read, and after a refusal the same.
+fn offset_after(at: usize, answer: usize) -> usize
+    ensures { λ r. ⌜ r ≡ reached at (found answer) ⌝ }
 {
-    &script[at..]
+    if packed::REFUSED <= answer {
+        at
+    } else {
+        answer % packed::OFFSETS
+    }
 }
 
-fn read_part(part: &[u8], at: usize, rows: &mut [u32]) -> usize
-    requires { ⌜ Ready (now part) at 0 (now rows) ⌝ }
-    ensures { λ r. ⌜ PartRead (now (part .entry)) at (now (rows .entry)) (now (rows .exit)) r ⌝ }
+// "and one term, a block": the outermost term, read from the bytes that begin at its kind byte.
+fn outermost_answer(script: &[u8], at: usize, lead: usize, rows: &mut [u32]) -> usize
+    requires { ⌜ Inside (now script) at × (length (now rows) ≡ 2560) ⌝ }
+    ensures { λ r. ⌜ OutermostRead (found lead) (now (script .entry)) at (now (rows .entry)) (now (rows .exit)) (found r) ⌝ }
 {
-    read_term(part, at, limits::LEVELS, true, 0, 0, rows)
+    if packed::REFUSED <= lead {
+        return lead;
+    }
+    read_term(&script[at..], at, limits::LEVELS, true, 0, 0, rows)
 }
 
+// "19 bytes left", at "the first left over".
+fn end_answer(script: &[u8], at: usize, got: usize) -> usize
+    requires { ⌜ length (now script) ≤ 4096 ⌝ }
+    ensures { λ r. ⌜ found r ≡ endJudged (found got) (now (script .entry)) at ⌝ }
+{
+    if packed::REFUSED <= got {
+        return got;
+    }
+    if at < script.len() {
+        return packed::refused(limits::LEFT_OVER, at);
+    }
+    got
+}
+
+// ---- on a reader
+
+// "the lent bytes and the next offset", at the first byte.
 pub fn new<'a>(script: &'a [u8]) -> Reader<'a>
     ensures { λ r. ⌜ r ≡ begun (script .entry) ⌝ }
 {
     Reader { script, at: 0 }
 }
 
-pub fn advance<'a>(reader: Reader<'a>, by: usize) -> Reader<'a>
-    requires { ⌜ reader .at + by < 2 ^ 64 ⌝ }
-    ensures { λ r. ⌜ r ≡ advanced (reader .entry) by ⌝ }
+// "the next offset": past what an answer has read, and after a refusal the same.
+pub fn advance<'a>(reader: Reader<'a>, answer: usize) -> Reader<'a>
+    ensures { λ r. ⌜ r ≡ advanced (reader .entry) (found answer) ⌝ }
 {
     Reader {
         script: reader.script,
-        at: reader.at + by,
+        at: offset_after(reader.at, answer),
     }
 }
 
-pub fn peek<'a>(reader: Reader<'a>) -> Next
-    ensures { λ r. ⌜ r ≡ standing (now (reader .entry .script)) (reader .entry .at) ⌝ }
+// "the mark `RCS` (52 43 53), a 16-bit version", from the next offset on.
+pub fn read_lead<'a>(reader: Reader<'a>) -> usize
+    requires { ⌜ Inside (now (reader .script)) (reader .at) ⌝ }
+    ensures { λ r. ⌜ LeadRead (now (reader .entry .script)) (reader .entry .at) r ⌝ }
 {
-    byte_at(reader.script, reader.at)
+    lead_answer(reader.script, reader.at)
 }
 
-// The part of the script from the next offset on.
-pub fn rest<'a>(reader: Reader<'a>) -> &'a [u8]
-    requires { ⌜ reader .at ≤ length (now (reader .script)) ⌝ }
-    ensures { λ r. ⌜ now r ≡ remaining (now (reader .entry .script)) (reader .entry .at) ⌝ }
+// "and one term, a block", from the next offset on.
+pub fn read_outermost<'a, 'b>(reader: Reader<'a>, lead: usize, rows: &'b mut [u32]) -> usize
+    requires { ⌜ Inside (now (reader .script)) (reader .at) × (length (now rows) ≡ 2560) ⌝ }
+    ensures { λ r. ⌜ OutermostRead (found lead) (now (reader .entry .script)) (reader .entry .at) (now (rows .entry)) (now (rows .exit)) (found r) ⌝ }
 {
-    part_from(reader.script, reader.at)
+    outermost_answer(reader.script, reader.at, lead, rows)
 }
 
-// The outermost term, from the next offset on.
-pub fn read_outermost<'a, 'b>(reader: Reader<'a>, rows: &'b mut [u32]) -> usize
-    requires { ⌜ OutermostReady (now (reader .script)) (reader .at) (now rows) ⌝ }
-    ensures { λ r. ⌜ OutermostRead (now (reader .entry .script)) (reader .entry .at) (now (rows .entry)) (now (rows .exit)) r ⌝ }
+// "19 bytes left": none stands at the next offset.
+pub fn read_end<'a>(reader: Reader<'a>, got: usize) -> usize
+    requires { ⌜ length (now (reader .script)) ≤ 4096 ⌝ }
+    ensures { λ r. ⌜ found r ≡ endJudged (found got) (now (reader .entry .script)) (reader .entry .at) ⌝ }
 {
-    read_part(rest(reader), reader.at, rows)
-}
-
-pub fn next_at(script: &[u8], at: usize) -> Next
-    ensures { λ r. ⌜ r ≡ standing (now (script .entry)) at ⌝ }
-{
-    peek(advance(new(script), at))
-}
-
-pub fn read_outermost_at(script: &[u8], at: usize, rows: &mut [u32]) -> usize
-    requires { ⌜ OutermostReady (now script) at (now rows) ⌝ }
-    ensures { λ r. ⌜ OutermostRead (now (script .entry)) at (now (rows .entry)) (now (rows .exit)) r ⌝ }
-{
-    read_outermost(advance(new(script), at), rows)
+    end_answer(reader.script, reader.at, got)
 }
