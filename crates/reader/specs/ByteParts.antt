@@ -1,4 +1,4 @@
--- What the parts of the byte reader's code answer, and the rows that they fill.
+-- What the parts of the byte reader's code answer, and the rows that they fill. No rule of the language is stated here.
 use Prim.Native.Nat.{ℕ, zero, suc, _+_, _*_, _-_, _/_, _%_, _≤_}
 use mathlib.Core.Path.{_≡_}
 use mathlib.Core.Bool.{Bool, false, not, _&&_}

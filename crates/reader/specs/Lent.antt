@@ -1,4 +1,5 @@
--- "A reader of a script consists of the lent bytes and the next offset": where it begins, where it goes on, and what it reads from there.
+-- A reader, which is the lent bytes and the next offset: where it begins, where it goes on, and what it reads from there. No rule of the
+-- language is stated here.
 use Prim.Native.Nat.{ℕ, _≤_}
 use mathlib.Core.Path.{_≡_}
 use mathlib.Core.Bool.{true}
@@ -44,7 +45,7 @@ LeadRead bytes at r = (found r ≡ leadGot (leadJudged bytes at)) × Under 256 b
 abbrev pub remaining : List ℕ → ℕ → List ℕ
 remaining bytes at = drop at bytes
 
--- "one term, a block": the outermost term from an offset on.
+-- The outermost term from an offset on.
 abbrev pub readOutermost : List ℕ → ℕ → Result Refusal (Term × Cursor)
 readOutermost bytes at = readTerm (base .levels) true (remaining bytes at) at 0 0
 

@@ -13,7 +13,7 @@ use crate::operands::Fields;
 use crate::packed;
 use crate::terms::read_term;
 
-// "A reader of a script consists of the lent bytes and the next offset".
+// The lent bytes of a script, and the next offset.
 pub struct Reader<'a> {
     script: &'a [u8],
     at: usize,
@@ -21,7 +21,7 @@ pub struct Reader<'a> {
 
 // ---- on slice and number
 
-// "10 mark differs (first such byte)": 0 where the byte at j is the mark's; else 10, or 12 where there is none.
+// The mark, byte by byte (LANGUAGE 2.1, 5.9): 0 where the byte at j is the mark's; else 10, or 12 where there is none.
 fn mark_number(script: &[u8], j: usize, byte: u8) -> u32
     ensures { λ r. ⌜ r ≡ markNumber (now (script .entry)) j byte ⌝ }
 {
@@ -34,7 +34,7 @@ fn mark_number(script: &[u8], j: usize, byte: u8) -> u32
     0
 }
 
-// "the mark `RCS` (52 43 53), a 16-bit version, high byte first, equal to 1": where they end, or the refusal.
+// Mark and version from offset `at` on (LANGUAGE 2.1, 5.9): where they end, or the refusal.
 fn judge_lead(script: &[u8], at: usize) -> Fields
     requires { ⌜ Inside (now script) at ⌝ }
     ensures { λ r. ⌜ (r ≡ leadJudged (now (script .entry)) at) × Under 256 (now (script .entry)) ⌝ }
@@ -61,7 +61,7 @@ fn judge_lead(script: &[u8], at: usize) -> Fields
     Fields::Fine(at + 5)
 }
 
-// "10 mark differs", "11 other version" or "12 ended", or the offset after both, in one number.
+// The same in one number: 10, 11 or 12 and its place, or the offset after both.
 fn lead_answer(script: &[u8], at: usize) -> usize
     requires { ⌜ Inside (now script) at ⌝ }
     ensures { λ r. ⌜ LeadRead (now (script .entry)) at r ⌝ }
@@ -72,7 +72,7 @@ fn lead_answer(script: &[u8], at: usize) -> usize
     }
 }
 
-// "the next offset": past what an answer has read, and after a refusal the same.
+// The next offset: past what an answer has read, and after a refusal the same.
 fn offset_after(at: usize, answer: usize) -> usize
     ensures { λ r. ⌜ r ≡ reached at (found answer) ⌝ }
 {
@@ -83,7 +83,7 @@ fn offset_after(at: usize, answer: usize) -> usize
     }
 }
 
-// "and one term, a block": the outermost term, read from the bytes that begin at its kind byte.
+// The outermost term (LANGUAGE 2.1), read from the part of the script that begins at its kind byte (2.2).
 fn outermost_answer(script: &[u8], at: usize, lead: usize, rows: &mut [u32]) -> usize
     requires { ⌜ Inside (now script) at × (length (now rows) ≡ 2560) ⌝ }
     ensures { λ r. ⌜ OutermostRead (found lead) (now (script .entry)) at (now (rows .entry)) (now (rows .exit)) (found r) ⌝ }
@@ -94,7 +94,7 @@ fn outermost_answer(script: &[u8], at: usize, lead: usize, rows: &mut [u32]) -> 
     read_term(&script[at..], at, limits::LEVELS, true, 0, 0, rows)
 }
 
-// "19 bytes left", at "the first left over".
+// What is left after the outermost term (LANGUAGE 5.9): 19 at the first byte left.
 fn end_answer(script: &[u8], at: usize, got: usize) -> usize
     requires { ⌜ length (now script) ≤ 4096 ⌝ }
     ensures { λ r. ⌜ found r ≡ endJudged (found got) (now (script .entry)) at ⌝ }
@@ -110,14 +110,14 @@ fn end_answer(script: &[u8], at: usize, got: usize) -> usize
 
 // ---- on a reader
 
-// "the lent bytes and the next offset", at the first byte.
+// A reader at the first byte.
 pub fn new<'a>(script: &'a [u8]) -> Reader<'a>
     ensures { λ r. ⌜ r ≡ begun (script .entry) ⌝ }
 {
     Reader { script, at: 0 }
 }
 
-// "the next offset": past what an answer has read, and after a refusal the same.
+// The reader past what an answer has read; after a refusal it stays.
 pub fn advance<'a>(reader: Reader<'a>, answer: usize) -> Reader<'a>
     ensures { λ r. ⌜ r ≡ advanced (reader .entry) (found answer) ⌝ }
 {
@@ -127,7 +127,7 @@ pub fn advance<'a>(reader: Reader<'a>, answer: usize) -> Reader<'a>
     }
 }
 
-// "the mark `RCS` (52 43 53), a 16-bit version", from the next offset on.
+// Mark and version (LANGUAGE 2.1), from the next offset on.
 pub fn read_lead<'a>(reader: Reader<'a>) -> usize
     requires { ⌜ Inside (now (reader .script)) (reader .at) ⌝ }
     ensures { λ r. ⌜ LeadRead (now (reader .entry .script)) (reader .entry .at) r ⌝ }
@@ -135,7 +135,7 @@ pub fn read_lead<'a>(reader: Reader<'a>) -> usize
     lead_answer(reader.script, reader.at)
 }
 
-// "and one term, a block", from the next offset on.
+// The outermost term (LANGUAGE 2.1), from the next offset on.
 pub fn read_outermost<'a, 'b>(reader: Reader<'a>, lead: usize, rows: &'b mut [u32]) -> usize
     requires { ⌜ Inside (now (reader .script)) (reader .at) × (length (now rows) ≡ 2560) ⌝ }
     ensures { λ r. ⌜ OutermostRead (found lead) (now (reader .entry .script)) (reader .entry .at) (now (rows .entry)) (now (rows .exit)) (found r) ⌝ }
@@ -143,7 +143,7 @@ pub fn read_outermost<'a, 'b>(reader: Reader<'a>, lead: usize, rows: &'b mut [u3
     outermost_answer(reader.script, reader.at, lead, rows)
 }
 
-// "19 bytes left": none stands at the next offset.
+// The end (LANGUAGE 2.1): no byte stands at the next offset, or 19.
 pub fn read_end<'a>(reader: Reader<'a>, got: usize) -> usize
     requires { ⌜ length (now (reader .script)) ≤ 4096 ⌝ }
     ensures { λ r. ⌜ found r ≡ endJudged (found got) (now (reader .entry .script)) (reader .entry .at) ⌝ }

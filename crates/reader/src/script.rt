@@ -1,4 +1,4 @@
-// A whole script: mark and version, one block, and nothing after it. One reader goes from the mark to the end.
+// A whole script (LANGUAGE 2.1): mark and version, one block, and nothing after it. One reader goes from the mark to the end.
 ghost use mathlib.Core.Path.{_≡_};
 ghost use mathlib.Core.List.{_++_};
 ghost use Prim.Native.Nat.{_-_, _≤_};
@@ -11,7 +11,7 @@ use crate::reader::read_end;
 use crate::reader::read_lead;
 use crate::reader::read_outermost;
 
-// "A script is the mark `RCS` (52 43 53), a 16-bit version, … and one term, a block": one reader, moved past both.
+// Reads mark, version and outermost term in this order (LANGUAGE 5.9): one reader, moved past each.
 pub fn read_script(script: &[u8], rows: &mut [u32]) -> usize
     requires { ⌜ (length (now script) ≤ 4096) × (length (now rows) ≡ 2560) ⌝ }
     ensures { λ r. ⌜ Reading (lay inRows) (readScript (now (script .entry))) 0 (now (rows .entry)) (now (rows .exit)) (found r) ⌝ }
@@ -24,7 +24,7 @@ pub fn read_script(script: &[u8], rows: &mut [u32]) -> usize
     read_end(end, got)
 }
 
-// "unused rows 0", and all of them after a refusal: 0 in every field from `from` on.
+// 0 in every field from `from` on: the unused rows (LANGUAGE 2.10), and all of them after a refusal (5.4).
 pub fn clear_from(rows: &mut [u32], from: usize)
     requires { ⌜ from ≤ length (now rows) ⌝ }
     ensures { λ _. ⌜ now (rows .exit) ≡ take from (now (rows .entry)) ++ zeros (length (now (rows .entry)) - from) ⌝ }
