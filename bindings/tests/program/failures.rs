@@ -17,7 +17,7 @@ const O_NONBLOCK: i32 = 0o4000;
 
 fn run(command: &mut Command) -> Output {
     let output = command.output().expect("the program ends");
-    // The requirement leaves the exit status open, so only a crash counts.
+    // The exit status says nothing (LANGUAGE 6.11), so only a crash counts.
     assert!(output.status.code().is_some(), "{}", output.status);
     output
 }

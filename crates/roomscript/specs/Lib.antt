@@ -1,1 +1,2 @@
+-- What the C interface answers.
 pub mod Answers

@@ -12,7 +12,7 @@ use reader::Outcome;
 use room::Called;
 
 // refused is 0 or 1. Where it is 0, value is the count (terms, or bytes written) and number is 0;
-// else number is the refusal's number (LANGUAGE 5.1) and value its place.
+// else number is the refusal's number (LANGUAGE 5.3 to 5.5) and value its place (5.2).
 #[repr(C)]
 pub struct Answer {
     pub refused: u32,

@@ -13,7 +13,8 @@ pub data Borrow : Type 0 where
   sharedOf exclusiveOf : Place → Borrow
 
 -- A variable in scope (LANGUAGE 3.8). Its links before `movedFrom` are whole, those from there on moved away; where nothing is
--- moved away, `movedFrom` is one past its own positions (3.9). `level` is that of the block that it lives in (3.7).
+-- moved away, `movedFrom` is one past its own positions (3.9). `level` is how many blocks
+-- are around its let (3.7), not the level of 2.7.
 pub record Variable : Type 0 where
   pub chain : List Link
   pub movedFrom : ℕ
@@ -63,7 +64,7 @@ isFree free = true
 isFree used = false
 isFree (live v) = false
 
--- The level of the block that the variable lives in (LANGUAGE 3.7).
+-- How many blocks the variable lives in (LANGUAGE 3.7).
 unfoldable pub levelOf : Slot → ℕ
 levelOf free = 0
 levelOf used = 0

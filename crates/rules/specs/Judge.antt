@@ -9,7 +9,7 @@ use Rattle.rules.specs.Environment.{Environment, free, used, Ty, update,
 use Rattle.rules.specs.Rules.{Judged, Out, numberTy, judgeCopy, judgeMove, judgeShared, judgeExclusive, judgeBox, judgeLet, judgeAssign, judgeBelow, judgeBlockEnd}
 
 module _ (nv : ℕ) where
-  -- level is that of the innermost block around the term, in which a let's variable lives (LANGUAGE 3.7); a block's own is one more.
+  -- level is how many blocks are around the term; a let's variable lives in the innermost of them (LANGUAGE 3.7). It is not that of 2.7.
   -- A number and a reading are never refused (3.18); each other case is the rule of its kind (3.19 to 3.28).
   unfoldable mutual
     pub judge : Term → ℕ → Environment → Judged Out

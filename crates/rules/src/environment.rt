@@ -31,7 +31,7 @@ pub fn is_free(env: &[u32], variables: usize, x: usize) -> bool
     }
 }
 
-// The level of the block in which x lives (LANGUAGE 3.7).
+// How many blocks x lives in (LANGUAGE 3.7); not the level of 2.7.
 pub fn level_at(env: &[u32], variables: usize, x: usize) -> u32
     requires { ⌜ TableFor (now env) variables ⌝ }
     ensures { λ r. ⌜ r ≡ levelOf (environmentOf (now (env .entry)) x) ⌝ }
