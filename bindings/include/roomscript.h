@@ -52,11 +52,11 @@ extern "C" {
  * Where refused is 0, value is the count and number 0. Where refused is 1,
  * number is the refusal's number and value its place.
  *
- * Refusals 1 to 5 are the caller's, with place 0 and no lent memory changed,
- * and the lowest number is the one given. Refusals 10 to 19 are about the form
- * of the script; their place is a byte offset from reading and a row from
- * rows. Refusals 30 to 43 are the author's; their place is the term
- * (LANGUAGE 5.2 to 5.5).
+ * Refusals 1 to 5 are the caller's, with place 0 and no lent memory changed:
+ * of 1 to 4 the lowest is given, and 5 comes after the rows. Refusals 10 to 19
+ * are about the form of the script; their place is a byte offset from reading
+ * and a row from rows. Refusals 30 to 43 are the author's; their place is the
+ * term (LANGUAGE 5.2 to 5.5).
  */
 typedef struct roomscript_answer {
     uint32_t refused;
@@ -145,8 +145,8 @@ roomscript_answer roomscript_write(const uint32_t *rows, size_t rows_len,
  *   written or in one around it, or lives in the block that ends;
  *   41: no value where one is needed; 42: more than 8 links;
  *   43: the answer is no number, at term 0.
- * Terms are judged in their order. A term whose inner term is refused is
- * refused with the inner number and term.
+ * Terms are judged in the order of a run (LANGUAGE 3.1). A term whose inner
+ * term is refused is refused with the inner number and term.
  */
 roomscript_answer roomscript_check(const uint32_t *rows, size_t rows_len);
 

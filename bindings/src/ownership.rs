@@ -31,8 +31,8 @@ use crate::Refusal;
 /// - 41: no value where one is needed; 42: more than 8 links;
 /// - 43: the answer is no number, at term 0.
 ///
-/// Terms are judged in their order. A term whose inner term is refused is
-/// refused with the inner number and term.
+/// Terms are judged in the order of a run (LANGUAGE 3.1). A term whose inner
+/// term is refused is refused with the inner number and term.
 pub fn check(rows: &[u32]) -> Result<u32, Refusal> {
     foreign::check(rows).count()
 }

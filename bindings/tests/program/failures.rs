@@ -1,5 +1,6 @@
-//! Errors in reading standard input and in writing the line: there is no line,
-//! and a message on standard error says which of the two failed.
+//! Errors in reading standard input and in writing the line (LANGUAGE 6.11): a
+//! message on standard error says which of the two failed. What is written to
+//! here takes the line whole or not at all, so there is no line.
 
 use crate::common::inputs;
 use crate::executable::executable;

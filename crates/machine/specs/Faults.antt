@@ -8,7 +8,7 @@ use Rattle.reader.specs.Script.{Place, Term, copy, move, borrowShared, borrowEx
 use Rattle.machine.specs.Values.{Location, variable, closed}
 use Rattle.machine.specs.Store.{Store, put, valueIn, State, withStore, Fault}
 use Rattle.machine.specs.Locate.{locate, numberIn}
-use Rattle.machine.specs.Drop.{dropValue, closeAll}
+use Rattle.machine.specs.Drop.{dropValue}
 use Rattle.machine.specs.Run.{Outcome, runCopy, runMove, runBorrow, runBelow, runLet, entered, begun, run, runs}
 
 -- Closing the variables for block i, one after the other: dropping the value of one of them meets the fault.

@@ -33,7 +33,7 @@ pub fn run_judged(rows: &[u32], readings: &[i32], store: &mut [u32]) -> RunOutco
     ensures { λ r. ⌜ (toldRun r, now (store .exit)) ≡ runOf base (now (rows .entry)) (now (readings .entry)) (now (store .entry)) ⌝ }
 {
     clear(store);
-    let mut opened: [u8; 512] = [0; 512];
+    let mut opened: [u8; limits::TERMS] = [0; limits::TERMS];
     let deeper = limits::LEVELS - 1;
     let inner = run_block(rows, 0, deeper, readings, store, &mut opened, 0, 0);
     let ran = close_block(store, &opened, 0, 0, inner);

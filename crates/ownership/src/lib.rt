@@ -14,6 +14,9 @@ use reader::judge_rows;
 use reader::limits;
 use rules::Requirement;
 
+// The words of the table of the variables: 8 to each, and two rows of notes.
+const TABLE: usize = 528;
+
 // The number of terms, or the refusal's number and place (LANGUAGE 5.2): the row (12 to 19) or the term (30 to 43).
 pub enum Checked {
     Accepted(usize),
@@ -26,8 +29,7 @@ pub fn check_judged(rows: &[u32], terms: usize) -> Checked
     requires { ⌜ judgedOf base (now rows) ≡ ok terms ⌝ }
     ensures { λ r. ⌜ toldChecked r ≡ checkOf base (now (rows .entry)) ⌝ }
 {
-    // The table of the variables: 8 words to each, and two rows of notes.
-    let mut env: [u32; 528] = [0; 528];
+    let mut env: [u32; TABLE] = [0; TABLE];
     let verdict = judge_script(rows, limits::LEVELS, &mut env, limits::VARIABLES as usize);
     match verdict {
         Requirement::Met => Checked::Accepted(terms),

@@ -3,9 +3,8 @@ use Prim.Native.Nat.{ℕ}
 use mathlib.Core.Path.{_≡_, refl}
 use mathlib.Core.List.{List, [], _∷_}
 use Rattle.reader.specs.Result
-use Rattle.reader.specs.Result.{Result, err, Refusal, need}
+use Rattle.reader.specs.Result.{err, need}
 use Rattle.reader.specs.Limits.{Limits}
-use Rattle.reader.specs.Script.{Term}
 use Rattle.reader.specs.Kinds
 use Rattle.reader.specs.Reader
 use Rattle.reader.specs.Reader.{parse}
@@ -14,16 +13,20 @@ use Rattle.reader.specs.Reader.{parse}
 abbrev few : ℕ → ℕ → Limits
 few terms levels = record { terms = terms; variables = 1; boxes = 0; levels = levels }
 
+-- Mark, version, and a kind byte.
+abbrev outermost : ℕ → List ℕ
+outermost kind = 0x52 ∷ 0x43 ∷ 0x53 ∷ 0 ∷ 1 ∷ kind ∷ []
+
 -- Mark, version, and a block of one term, of which these bytes are there.
 abbrev blockOf : List ℕ → List ℕ
 blockOf bytes = 0x52 ∷ 0x43 ∷ 0x53 ∷ 0 ∷ 1 ∷ 0x0B ∷ 1 ∷ bytes
 
--- No byte, an unknown kind, a box as the outermost term, and a box inside where a term, a level and a box are too many, each without
+-- No byte; an unknown kind, and a box, as the outermost term; and a box inside where a term, a level and a box are too many, each without
 -- the one before.
 pub order :
     (parse (few 1 1) (blockOf []) ≡ err (12, 7))
-    × (parse (few 1 1) (blockOf (0x0C ∷ [])) ≡ err (13, 7))
-    × (parse (few 0 0) (0x52 ∷ 0x43 ∷ 0x53 ∷ 0 ∷ 1 ∷ 0x07 ∷ []) ≡ err (18, 5))
+    × (parse (few 0 0) (outermost 0x0C) ≡ err (13, 5))
+    × (parse (few 0 0) (outermost 0x07) ≡ err (18, 5))
     × (parse (few 1 1) (blockOf (0x07 ∷ [])) ≡ err (16, 7))
     × (parse (few 2 1) (blockOf (0x07 ∷ [])) ≡ err (15, 7))
     × (parse (few 2 2) (blockOf (0x07 ∷ [])) ≡ err (17, 7))

@@ -1,9 +1,7 @@
 // The kinds of terms (LANGUAGE 2.3), as they stand in kind bytes and in term rows, and what the layers above ask of a
 // kind too.
 ghost use mathlib.Core.Path.{_≡_};
-ghost use Prim.Native.Nat.{_≤_};
 ghost use Rattle.reader.specs.Kinds.{wrapsOf};
-ghost use Rattle.reader.specs.Parts.{boxesWith};
 
 pub const NUMBER: u32 = 1;
 
@@ -38,12 +36,4 @@ pub fn wraps(kind: u32) -> bool
         return true;
     }
     kind == ASSIGN
-}
-
-// The box terms so far, with a term of this kind (at most 64, LANGUAGE 2.8).
-pub fn boxes_with(kind: u32, boxes: usize) -> usize
-    requires { ⌜ boxes ≤ 64 ⌝ }
-    ensures { λ r. ⌜ r ≡ boxesWith kind boxes ⌝ }
-{
-    if kind == BOX { boxes + 1 } else { boxes }
 }

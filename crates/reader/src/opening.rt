@@ -1,5 +1,7 @@
 // What stands at a kind byte (LANGUAGE 5.10).
 ghost use mathlib.Core.Path.{_≡_};
+ghost use Prim.Native.Nat.{_≤_};
+ghost use Rattle.reader.specs.Parts.{boxesWith};
 ghost use Rattle.reader.specs.ByteParts.{openingNumber};
 use crate::kinds;
 use crate::limits;
@@ -36,4 +38,12 @@ pub fn opening_number(tail: &[u8], levels: usize, outer: bool, terms: usize, box
         }
     }
     0
+}
+
+// The box terms so far, with a term of this kind (at most 64, LANGUAGE 2.8).
+pub fn boxes_with(kind: u32, boxes: usize) -> usize
+    requires { ⌜ boxes ≤ 64 ⌝ }
+    ensures { λ r. ⌜ r ≡ boxesWith kind boxes ⌝ }
+{
+    if kind == kinds::BOX { boxes + 1 } else { boxes }
 }

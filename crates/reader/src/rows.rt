@@ -10,8 +10,8 @@ ghost use Rattle.reader.specs.Parts.{IsKind, placeFields, fieldsOf};
 ghost use Rattle.reader.specs.RowParts.{fieldsFit, noBlock, rowNumber, RowsReady, termRows, blockRows, spanOf, spanned, bitsOf, firstUsed};
 use crate::fields::field_at;
 use crate::kinds;
-use crate::kinds::boxes_with;
 use crate::limits;
+use crate::opening::boxes_with;
 use crate::packed;
 
 // A place in its ranges (LANGUAGE 2.4, 2.5).

@@ -5,7 +5,7 @@ ghost use Prim.Native.Nat.{_<_, _≤_};
 ghost use Rattle.reader.specs.Layout.{lay, lays, inRows};
 ghost use Rattle.reader.specs.ByteParts.{Ready, found, Reading, readTerm, readBlock};
 use crate::kinds;
-use crate::kinds::boxes_with;
+use crate::opening::boxes_with;
 use crate::opening::opening_number;
 use crate::operands::Fields;
 use crate::operands::read_operands;

@@ -18,6 +18,12 @@ use reader::Outcome;
 use reader::fields::word_at;
 use reader::limits;
 
+// The bytes of the eight readings before the script.
+pub const READINGS: usize = 32;
+
+// The bytes of a buffer that holds every line (`line.rt`).
+pub const LINE: usize = 80;
+
 // The terms, the answer and the cells taken; or the refusal's number and place (LANGUAGE 6.7).
 pub enum Called {
     Answered(usize, i32, usize),
@@ -110,14 +116,14 @@ fn readings_of(input: &[u8]) -> [i32; 8]
 
 // The program's work (LANGUAGE 6.8): the line for an input of eight readings and a script goes to the front of `line`, and the
 // answer is its length.
-pub fn report(input: &[u8], rows: &mut [u32], store: &mut [u32], line: &mut [u8; 80]) -> usize
+pub fn report(input: &[u8], rows: &mut [u32], store: &mut [u32], line: &mut [u8; LINE]) -> usize
     ensures answered { λ r. ⌜ (r, (now (rows .exit), (now (store .exit), now (line .exit)))) ≡ reportOf base (now (input .entry)) (now (rows .entry)) (now (store .entry)) (now (line .entry)) ⌝ }
     ensures within { λ r. ⌜ r ≤ length (now (line .exit)) ⌝ }
 {
-    if input.len() < 32 {
+    if input.len() < READINGS {
         return line::put_text(line, 0, b"readings short\n");
     }
     let readings = readings_of(input);
-    let called = call(&input[32..], &readings, rows, store);
+    let called = call(&input[READINGS..], &readings, rows, store);
     line::put_called(line, called)
 }

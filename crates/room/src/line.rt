@@ -1,5 +1,5 @@
-// The line of an answer, put into a buffer. 80 bytes hold every line that the numbers' types allow. Each function
-// puts its bytes from offset `at` on, and answers the offset after them.
+// The line of an answer (LANGUAGE 6.10), put into a buffer. 80 bytes hold every line that the numbers' types allow. A
+// function that puts bytes puts them from offset `at` on, and answers the offset after them.
 ghost use mathlib.Core.Path.{_≡_};
 ghost use mathlib.Core.List.{_∷_, [], _++_};
 ghost use Prim.Native.Nat.{_+_, _≤_, _<_};

@@ -1,11 +1,14 @@
 // The program (LANGUAGE 6.9 to 6.11). Reads eight readings and a script from standard input, and prints the line that
-// `room::report` makes of them. Where
-// reading fails there is no line: what was read may not be the whole input.
+// `room::report` makes of them. Where reading fails there is no line: what was read may not be the whole input.
 ghost use lib.ListN.{length};
 ghost use Rattle.roomcheck.specs.Input.{Within};
 use libc::STDERR_FILENO;
 use libc::STDIN_FILENO;
 use libc::STDOUT_FILENO;
+use reader::limits;
+
+// The readings, and one byte more than a script may have: what follows changes nothing.
+const CAPACITY: usize = room::READINGS + limits::BYTES + 1;
 
 // The number of bytes read when the input ended or the buffer was full; or an error before that.
 enum Input {
@@ -42,8 +45,7 @@ fn read_input(buffer: &mut [u8]) -> Input
 }
 
 fn main() {
-    // 32 bytes of readings, and one more than a script may have: what follows changes nothing.
-    let mut input = [0u8; 4129];
+    let mut input = [0u8; CAPACITY];
     let Input::Whole(n) = read_input(&mut input) else {
         io::write_all(
             STDERR_FILENO,
@@ -51,9 +53,9 @@ fn main() {
         );
         return;
     };
-    let mut rows = [0u32; 2560];
-    let mut store = [0u32; 384];
-    let mut line = [0u8; 80];
+    let mut rows = [0u32; limits::ROW_NUMBERS];
+    let mut store = [0u32; limits::STORE_NUMBERS];
+    let mut line = [0u8; room::LINE];
     let length = room::report(&input[..n], &mut rows, &mut store, &mut line);
     if !io::write_all(STDOUT_FILENO, &line[..length]) {
         io::write_all(

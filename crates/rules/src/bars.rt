@@ -5,15 +5,15 @@ ghost use Rattle.rules.specs.Bars.{readBarred, writeBarred};
 ghost use Rattle.rules.specs.Table.{TableFor, environmentOf};
 use crate::notes::EXCLUSIVE_HOLDER;
 use crate::table::NOTE;
-use crate::table::wide;
 use crate::table::word_at;
+use reader::fields::index_of;
 
 // Reading barred (LANGUAGE 3.11): someone holds an exclusive borrow of the root.
 pub fn read_barred(env: &[u32], variables: usize, root: u32) -> bool
     requires { ⌜ TableFor (now env) variables × (root < variables) ⌝ }
     ensures { λ r. ⌜ r ≡ readBarred variables (environmentOf (now (env .entry))) root ⌝ }
 {
-    EXCLUSIVE_HOLDER <= word_at(env, wide(root), NOTE)
+    EXCLUSIVE_HOLDER <= word_at(env, index_of(root), NOTE)
 }
 
 // Writing barred (LANGUAGE 3.12): someone holds a borrow of the root, of either kind.
@@ -21,5 +21,5 @@ pub fn write_barred(env: &[u32], variables: usize, root: u32) -> bool
     requires { ⌜ TableFor (now env) variables × (root < variables) ⌝ }
     ensures { λ r. ⌜ r ≡ writeBarred variables (environmentOf (now (env .entry))) root ⌝ }
 {
-    0 < word_at(env, wide(root), NOTE)
+    0 < word_at(env, index_of(root), NOTE)
 }

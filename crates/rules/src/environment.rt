@@ -15,8 +15,8 @@ use crate::table::NOTE;
 use crate::table::STATUS;
 use crate::table::VariableState;
 use crate::table::load;
-use crate::table::wide;
 use crate::table::word_at;
+use reader::fields::index_of;
 
 // The number is free (30; LANGUAGE 3.6).
 pub fn is_free(env: &[u32], variables: usize, x: usize) -> bool
@@ -64,8 +64,8 @@ pub fn lives_at(env: &[u32], variables: usize, end: BorrowEnd, level: u32) -> bo
 {
     match end {
         BorrowEnd::None => true,
-        BorrowEnd::Shared(place) => level_at(env, variables, wide(place.root)) <= level,
-        BorrowEnd::Exclusive(place) => level_at(env, variables, wide(place.root)) <= level,
+        BorrowEnd::Shared(place) => level_at(env, variables, index_of(place.root)) <= level,
+        BorrowEnd::Exclusive(place) => level_at(env, variables, index_of(place.root)) <= level,
     }
 }
 
@@ -101,7 +101,7 @@ pub fn leave_blocks(env: &mut [u32], variables: usize, level: u32)
     if word_at(env, variables, NOTE) <= level {
         return;
     }
-    let mut x = wide(word_at(env, variables + 1, NOTE));
+    let mut x = index_of(word_at(env, variables + 1, NOTE));
     while 0 < x {
         x -= 1;
         if is_deeper(env, x, level) {

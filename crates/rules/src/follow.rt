@@ -15,7 +15,7 @@ use crate::table::Entry;
 use crate::table::Place;
 use crate::table::VariableState;
 use crate::table::load;
-use crate::table::wide;
+use reader::fields::index_of;
 
 // One variable of the path: the follows end at its own link, there is nothing to follow, or they go on from the
 // borrowed place, with so many follows after that place's own.
@@ -36,7 +36,7 @@ fn step_of(state: VariableState, follows: usize) -> Step
     ensures { λ r. ⌜ r ≡ stepOf state follows ⌝ }
 {
     let boxes = leading_boxes(state.links);
-    let moved_from = wide(state.moved_from);
+    let moved_from = index_of(state.moved_from);
     if follows <= boxes {
         if follows <= moved_from {
             return Step::Here;
@@ -85,8 +85,8 @@ pub fn follow_place(env: &[u32], variables: usize, root: usize, follows: usize) 
                 return Followed::Nowhere;
             }
             Step::Through(place, beyond) => {
-                x = wide(place.root);
-                more = wide(place.follows) + beyond;
+                x = index_of(place.root);
+                more = index_of(place.follows) + beyond;
             }
         }
         left -= 1;
@@ -116,7 +116,7 @@ fn link_whole(env: &[u32], variables: usize, y: usize, link: usize) -> bool
     let Entry::Live(end) = entry else {
         return false;
     };
-    link < wide(end.moved_from)
+    link < index_of(end.moved_from)
 }
 
 // Whole (LANGUAGE 3.15), as `value_whole` of the place's root, where the place is known to lead to that link of y, and
@@ -136,5 +136,5 @@ pub fn whole_at(
     if rest == 0 {
         return link_whole(env, variables, y, link);
     }
-    value_whole(env, variables, wide(place.root), links)
+    value_whole(env, variables, index_of(place.root), links)
 }

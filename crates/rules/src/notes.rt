@@ -22,8 +22,8 @@ use crate::table::put_live;
 use crate::table::put_moved;
 use crate::table::put_used;
 use crate::table::put_whole;
-use crate::table::wide;
 use crate::table::word_at;
+use reader::fields::index_of;
 
 // In the note of a root each holder of a shared borrow (LANGUAGE 3.10) counts 1, each holder of an exclusive one this.
 pub const EXCLUSIVE_HOLDER: u32 = 65536;
@@ -41,11 +41,11 @@ fn holds(env: &[u32], x: usize, root: u32, any: bool) -> bool
     }
     let borrow = word_at(env, x, BORROW);
     if borrow == EXCLUSIVE {
-        return leading_boxes(word_at(env, x, LINKS)) < wide(word_at(env, x, MOVED_FROM));
+        return leading_boxes(word_at(env, x, LINKS)) < index_of(word_at(env, x, MOVED_FROM));
     }
     if borrow == SHARED {
         if any {
-            return leading_boxes(word_at(env, x, LINKS)) < wide(word_at(env, x, MOVED_FROM));
+            return leading_boxes(word_at(env, x, LINKS)) < index_of(word_at(env, x, MOVED_FROM));
         }
     }
     false
@@ -73,7 +73,7 @@ fn forget_holder(env: &mut [u32], variables: usize, x: usize)
     let root = word_at(env, x, BORROWED_ROOT);
     let added = weight(env, x, root);
     if 0 < added {
-        let y = wide(root);
+        let y = index_of(root);
         if y < variables {
             env[y * 8 + NOTE] = word_at(env, y, NOTE) - added;
         }
@@ -88,7 +88,7 @@ fn note_holder(env: &mut [u32], variables: usize, x: usize)
     let root = word_at(env, x, BORROWED_ROOT);
     let added = weight(env, x, root);
     if 0 < added {
-        let y = wide(root);
+        let y = index_of(root);
         if y < variables {
             env[y * 8 + NOTE] = word_at(env, y, NOTE) + added;
         }

@@ -35,13 +35,13 @@ use crate::table::BorrowEnd;
 use crate::table::Entry;
 use crate::table::Place;
 use crate::table::load;
-use crate::table::wide;
 use crate::verdicts::Value;
 use crate::verdicts::Verdict;
 use crate::verdicts::borrow_in;
 use crate::verdicts::longer_value;
 use crate::verdicts::number_value;
 use crate::verdicts::value_of;
+use reader::fields::index_of;
 
 // The links of the place's root, those of them after the follows, and the variable and its own link that the place
 // leads to (LANGUAGE 3.13); or the refusal.
@@ -60,8 +60,8 @@ pub fn judge_place(env: &[u32], variables: usize, term: usize, place: Place) -> 
     requires { ⌜ TableFor (now env) variables ⌝ }
     ensures { λ r. ⌜ asLocated r ≡ foundOf (place .follows) (judgePlace variables (environmentOf (now (env .entry))) term (asPlace place)) ⌝ }
 {
-    let root = wide(place.root);
-    let follows = wide(place.follows);
+    let root = index_of(place.root);
+    let follows = index_of(place.follows);
     let entry = load(env, variables, root);
     let Entry::Live(state) = entry else {
         return Located::Refused(refusals::NOT_IN_SCOPE, term);
@@ -123,8 +123,8 @@ pub fn judge_move(env: &mut [u32], variables: usize, term: usize, place: Place) 
     requires { ⌜ TableFor (now env) variables ⌝ }
     ensures { λ r. ⌜ (answered (environmentOf (now (env .exit))) r ≡ judgeMove variables (environmentOf (now (env .entry))) term (asPlace place)) × TableFor (now (env .exit)) variables ⌝ }
 {
-    let root = wide(place.root);
-    let follows = wide(place.follows);
+    let root = index_of(place.root);
+    let follows = index_of(place.follows);
     let entry = load(env, variables, root);
     let Entry::Live(state) = entry else {
         return Verdict::Refused(refusals::NOT_IN_SCOPE, term);
@@ -172,7 +172,7 @@ pub fn judge_exclusive(env: &[u32], variables: usize, term: usize, place: Place)
             if !whole_at(env, variables, place, links, rest, variable, link) {
                 return Verdict::Refused(refusals::MOVED_AWAY, term);
             }
-            if !no_shared(links, wide(place.follows)) {
+            if !no_shared(links, index_of(place.follows)) {
                 return Verdict::Refused(refusals::SHARED_PASSED, term);
             }
             if write_barred(env, variables, place.root) {
@@ -247,7 +247,7 @@ pub fn judge_assign(
     match located {
         Located::Refused(number, at) => Verdict::Refused(number, at),
         Located::At(links, rest, written, _) => {
-            if !no_shared(links, wide(place.follows)) {
+            if !no_shared(links, index_of(place.follows)) {
                 return Verdict::Refused(refusals::SHARED_PASSED, term);
             }
             if rest != of.links {

@@ -64,13 +64,6 @@ pub const SHARED: u32 = 1;
 
 pub const EXCLUSIVE: u32 = 2;
 
-// A variable or its follows (LANGUAGE 2.5), as an index.
-pub fn wide(x: u32) -> usize
-    ensures { λ r. ⌜ r ≡ x ⌝ }
-{
-    x as usize
-}
-
 // Word k of x: the state of a variable (LANGUAGE 3.8) is kept in such words.
 pub fn word_at(env: &[u32], x: usize, k: usize) -> u32
     requires { ⌜ (x * 8 + 8 ≤ length (now env)) × (k < 8) ⌝ }

@@ -19,7 +19,7 @@ use Rattle.reader.proofs.rows.judge_term.Kinds as judge-term-kinds
 use Rattle.reader.proofs.rows.+judge_block+judge_term.Lts-judge_term as judge-term-lts
 use Rattle.reader.proofs.packed.counted.Reads as counted-reads
 use Rattle.reader.proofs.packed.refused.Reads as refused-reads
-use Rattle.reader.proofs.kinds.boxes_with.Reads as boxes-with-reads
+use Rattle.reader.proofs.opening.boxes_with.Reads as boxes-with-reads
 use Rattle.reader.proofs.fields.field_at.Reads as field-at-reads
 use Rattle.reader.proofs.rows.row_number.Reads as row-number-reads
 use Rattle.reader.proofs.rows.+judge_block+judge_term.{statement}

@@ -23,7 +23,7 @@ use Rattle.reader.proofs.opening.opening_number.Reads as opening-number
 use Rattle.reader.proofs.operands.read_operands.Reads as read-operands-reads
 use Rattle.reader.proofs.packed.fine.Reads as fine-reads
 use Rattle.reader.proofs.packed.refused.Reads as refused-reads
-use Rattle.reader.proofs.kinds.boxes_with.Reads as boxes-with-reads
+use Rattle.reader.proofs.opening.boxes_with.Reads as boxes-with-reads
 use Rattle.reader.proofs.terms.+read_block+read_term.{statement}
 use Rattle.reader.proofs.terms.+read_block+read_term.Tie.{close}
 

@@ -35,13 +35,13 @@ add-word-at c = search needs
 word-at-requires-2 : tie.Need-word-at-requires-2 Inv-loop μ-loop
 word-at-requires-2 c κs = search needs
 
-wide-requires : tie.Need-wide-requires Inv-loop μ-loop
-wide-requires c κs = search needs
+index-of-requires : tie.Need-index-of-requires Inv-loop μ-loop
+index-of-requires c κs = search needs
 
 loop-holds : tie.Need-loop-holds Inv-loop μ-loop
 loop-holds c =
     let start = c .before .before .before .before .before .before .before in
-    let highest = c .wide .ensures ∙ c .before .word-at2 .ensures in
+    let highest = c .index-of .ensures ∙ c .before .word-at2 .ensures in
     let last = simp add-one at highest in
     (omega (arith, last, start .pre .2 .most), refl, start .pre, left-start _ _ _ (λ y h. start .pre .2 .untaken y (omega (arith, last))))
 
@@ -107,7 +107,7 @@ leave-blocks-spec =
     returns
     add-word-at
     word-at-requires-2
-    wide-requires
+    index-of-requires
     loop-holds
     sub-x
     is-deeper-requires

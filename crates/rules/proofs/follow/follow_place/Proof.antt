@@ -39,14 +39,14 @@ returns-2 c = follow-nowhere _ _ _ _ (c .before .before .step-at .ensures) _ (c 
 enum-known-step : tie.Need-enum-known-step Inv-loop μ-loop
 enum-known-step c = search needs
 
-wide-requires : tie.Need-wide-requires Inv-loop μ-loop
-wide-requires c κs = search needs
+index-of-requires : tie.Need-index-of-requires Inv-loop μ-loop
+index-of-requires c κs = search needs
 
-wide-requires-2 : tie.Need-wide-requires-2 Inv-loop μ-loop
-wide-requires-2 c κs = search needs
+index-of-requires-2 : tie.Need-index-of-requires-2 Inv-loop μ-loop
+index-of-requires-2 c κs = search needs
 
 add-more : tie.Need-add-more Inv-loop μ-loop
-add-more c = omega (arith, through-fewer _ _ _ _ (c .before .before .before .before .before .step-at .ensures) _ _ (c .before .before .before .step .given .1), c .wide2 .ensures)
+add-more c = omega (arith, through-fewer _ _ _ _ (c .before .before .before .before .before .step-at .ensures) _ _ (c .before .before .before .step .given .1), c .index-of2 .ensures)
 
 sub-left : tie.Need-sub-left Inv-loop μ-loop
 sub-left c = omega arith
@@ -55,7 +55,7 @@ loop-less : tie.Need-loop-less Inv-loop μ-loop
 loop-less c = omega arith
 
 loop-again : tie.Need-loop-again Inv-loop μ-loop
-loop-again c = (omega arith, omega (arith, through-fewer _ _ _ _ (c .before .before .before .before .before .step-at .ensures) _ _ (c .before .before .before .step .given .1), c .wide2 .ensures), follow-through _ _ _ _ (c .before .before .before .before .before .step-at .ensures) _ (c .before .before .before .before .before .before .loop-test .taken) _ _ (c .before .before .before .step .given .1) _ _ (c .before .wide .ensures) (c .wide2 .ensures) ∙ c .before .before .before .before .before .before .before .loop .inv .2)
+loop-again c = (omega arith, omega (arith, through-fewer _ _ _ _ (c .before .before .before .before .before .step-at .ensures) _ _ (c .before .before .before .step .given .1), c .index-of2 .ensures), follow-through _ _ _ _ (c .before .before .before .before .before .step-at .ensures) _ (c .before .before .before .before .before .before .loop-test .taken) _ _ (c .before .before .before .step .given .1) _ _ (c .before .index-of .ensures) (c .index-of2 .ensures) ∙ c .before .before .before .before .before .before .before .loop .inv .2)
 
 returns-3 : tie.Need-returns-3 Inv-loop μ-loop
 unfolding asFollowed
@@ -74,8 +74,8 @@ follow-place-spec =
     enum-told-2
     returns-2
     enum-known-step
-    wide-requires
-    wide-requires-2
+    index-of-requires
+    index-of-requires-2
     add-more
     sub-left
     loop-less

@@ -15,13 +15,13 @@ enum-known-entry c = search needs
 returns : tie.Need-returns
 returns c = sym (not-whole _ _ _ (c .before .load .ensures) _ (c .match .keys2))
 
-wide-requires : tie.Need-wide-requires
-wide-requires c κs = search needs
+index-of-requires : tie.Need-index-of-requires
+index-of-requires c κs = search needs
 
 returns-2 : tie.Need-returns-2
 unfolding wholeAt
-returns-2 c = rw (slot-live _ _ _ (c .before .before .before .before .load .ensures) _ (c .before .before .entry .given .1), c .wide .ensures)
+returns-2 c = rw (slot-live _ _ _ (c .before .before .before .before .load .ensures) _ (c .before .before .entry .given .1), c .index-of .ensures)
 
 pub link-whole-spec : {M : Type 1} → statement M
 link-whole-spec =
-    tie.close (tie.spec load-requires enum-known-entry returns wide-requires returns-2)
+    tie.close (tie.spec load-requires enum-known-entry returns index-of-requires returns-2)

@@ -9,20 +9,20 @@ use Rattle.rules.proofs.follow.step_of.Tie as tie
 leading-boxes-requires : tie.Need-leading-boxes-requires
 leading-boxes-requires c κs = search needs
 
-wide-requires : tie.Need-wide-requires
-wide-requires c κs = search needs
+index-of-requires : tie.Need-index-of-requires
+index-of-requires c κs = search needs
 
 returns : tie.Need-returns
 unfolding stepOf
-returns c = rw (← c .before .before .before .leading-boxes .ensures .0, ← c .before .before .wide .ensures, le-leb _ _ (c .before .if1 .taken), le-leb _ _ (c .if2 .taken))
+returns c = rw (← c .before .before .before .leading-boxes .ensures .0, ← c .before .before .index-of .ensures, le-leb _ _ (c .before .if1 .taken), le-leb _ _ (c .if2 .taken))
 
 returns-2 : tie.Need-returns-2
 unfolding stepOf
-returns-2 c = rw (← c .before .before .before .leading-boxes .ensures .0, ← c .before .before .wide .ensures, le-leb _ _ (c .before .if1 .taken), lt-leb _ _ (c .if2 .left))
+returns-2 c = rw (← c .before .before .before .leading-boxes .ensures .0, ← c .before .before .index-of .ensures, le-leb _ _ (c .before .if1 .taken), lt-leb _ _ (c .if2 .left))
 
 returns-3 : tie.Need-returns-3
 unfolding stepOf
-returns-3 c = rw (← c .before .before .before .leading-boxes .ensures .0, ← c .before .before .wide .ensures, lt-leb _ _ (c .before .if1 .left), le-ltb _ _ (c .if3 .taken))
+returns-3 c = rw (← c .before .before .before .leading-boxes .ensures .0, ← c .before .before .index-of .ensures, lt-leb _ _ (c .before .if1 .left), le-ltb _ _ (c .if3 .taken))
 
 enum-told : tie.Need-enum-told
 enum-told c = search needs
@@ -50,9 +50,9 @@ unfolding stepOf stepThrough
 returns-4 c =
     let at-if3 = c .before .before in
     let at-if1 = at-if3 .before in
-    let at-wide = at-if1 .before in
-    let at-leading-boxes = at-wide .before in
-    rw (← at-leading-boxes .leading-boxes .ensures .0, ← at-wide .wide .ensures, lt-leb _ _ (at-if1 .if1 .left), lt-ltb _ _ (at-if3 .if3 .left), c .enum-told .given .1)
+    let at-index-of = at-if1 .before in
+    let at-leading-boxes = at-index-of .before in
+    rw (← at-leading-boxes .leading-boxes .ensures .0, ← at-index-of .index-of .ensures, lt-leb _ _ (at-if1 .if1 .left), lt-ltb _ _ (at-if3 .if3 .left), c .enum-told .given .1)
 
 returns-5 : tie.Need-returns-5
 unfolding stepOf stepThrough
@@ -60,10 +60,10 @@ returns-5 c =
     let at-end = c .before in
     let at-if3 = at-end .before .before in
     let at-if1 = at-if3 .before in
-    let at-wide = at-if1 .before in
-    let at-leading-boxes = at-wide .before in
+    let at-index-of = at-if1 .before in
+    let at-leading-boxes = at-index-of .before in
     let start = at-leading-boxes .before in
-    rw (← at-leading-boxes .leading-boxes .ensures .0, ← at-wide .wide .ensures, lt-leb _ _ (at-if1 .if1 .left), lt-ltb _ _ (at-if3 .if3 .left), at-end .end .given .1, sub-suc (start .args .follows) (at-leading-boxes .leading-boxes .result))
+    rw (← at-leading-boxes .leading-boxes .ensures .0, ← at-index-of .index-of .ensures, lt-leb _ _ (at-if1 .if1 .left), lt-ltb _ _ (at-if3 .if3 .left), at-end .end .given .1, sub-suc (start .args .follows) (at-leading-boxes .leading-boxes .result))
 
 returns-6 : tie.Need-returns-6
 unfolding stepOf stepThrough
@@ -71,17 +71,17 @@ returns-6 c =
     let at-end2 = c .before in
     let at-if3 = at-end2 .before .before in
     let at-if1 = at-if3 .before in
-    let at-wide = at-if1 .before in
-    let at-leading-boxes = at-wide .before in
+    let at-index-of = at-if1 .before in
+    let at-leading-boxes = at-index-of .before in
     let start = at-leading-boxes .before in
-    rw (← at-leading-boxes .leading-boxes .ensures .0, ← at-wide .wide .ensures, lt-leb _ _ (at-if1 .if1 .left), lt-ltb _ _ (at-if3 .if3 .left), at-end2 .end2 .given .1, sub-suc (start .args .follows) (at-leading-boxes .leading-boxes .result))
+    rw (← at-leading-boxes .leading-boxes .ensures .0, ← at-index-of .index-of .ensures, lt-leb _ _ (at-if1 .if1 .left), lt-ltb _ _ (at-if3 .if3 .left), at-end2 .end2 .given .1, sub-suc (start .args .follows) (at-leading-boxes .leading-boxes .result))
 
 pub step-of-spec : {M : Type 1} → statement M
 step-of-spec =
     tie.close
     (tie.spec
     leading-boxes-requires
-    wide-requires
+    index-of-requires
     returns
     returns-2
     returns-3

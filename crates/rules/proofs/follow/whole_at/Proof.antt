@@ -19,15 +19,15 @@ returns c =
     let ended : length (chainOf (start .args .links)) ≡ start .args .place .follows = omega (arith, start .pre .2, length-none (start .args .rest) (omega (arith, c .before .if1 .taken))) in
     rw (ended, start .pre .1) (c .link-whole .ensures)
 
-wide-requires : tie.Need-wide-requires
-wide-requires c κs = search needs
+index-of-requires : tie.Need-index-of-requires
+index-of-requires c κs = search needs
 
 value-whole-requires : tie.Need-value-whole-requires
 value-whole-requires c κs = search needs
 
 returns-2 : tie.Need-returns-2
-returns-2 c = rw (← c .before .wide .ensures) (c .value-whole .ensures)
+returns-2 c = rw (← c .before .index-of .ensures) (c .value-whole .ensures)
 
 pub whole-at-spec : {M : Type 1} → statement M
 whole-at-spec =
-    tie.close (tie.spec link-whole-requires returns wide-requires value-whole-requires returns-2)
+    tie.close (tie.spec link-whole-requires returns index-of-requires value-whole-requires returns-2)

@@ -29,8 +29,8 @@ leading-boxes-requires c κs = search needs
 word-at-requires-5 : tie.Need-word-at-requires-5
 word-at-requires-5 c κs = search needs
 
-wide-requires : tie.Need-wide-requires
-wide-requires c κs = search needs
+index-of-requires : tie.Need-index-of-requires
+index-of-requires c κs = search needs
 
 returns-3 : tie.Need-returns-3
 returns-3 c =
@@ -43,7 +43,7 @@ returns-3 c =
     let at-word-at2 = at-if2 .before in
     let at-if1 = at-word-at2 .before in
     let at-word-at = at-if1 .before in
-    rw (c .wide .ensures, at-leading-boxes .leading-boxes .ensures .0, at-word-at4 .word-at4 .ensures, at-word-at5 .word-at5 .ensures) (holds-exclusive _ _ _ _ (rw (at-word-at2 .word-at2 .ensures) at (at-if2 .if2 .left)) (sym (at-word-at .word-at .ensures) ∙ at-if1 .if1 .left) (sym (at-word-at3 .word-at3 .ensures) ∙ at-if3 .if3 .taken))
+    rw (c .index-of .ensures, at-leading-boxes .leading-boxes .ensures .0, at-word-at4 .word-at4 .ensures, at-word-at5 .word-at5 .ensures) (holds-exclusive _ _ _ _ (rw (at-word-at2 .word-at2 .ensures) at (at-if2 .if2 .left)) (sym (at-word-at .word-at .ensures) ∙ at-if1 .if1 .left) (sym (at-word-at3 .word-at3 .ensures) ∙ at-if3 .if3 .taken))
 
 word-at-requires-6 : tie.Need-word-at-requires-6
 word-at-requires-6 c κs = search needs
@@ -54,8 +54,8 @@ leading-boxes-requires-2 c κs = search needs
 word-at-requires-7 : tie.Need-word-at-requires-7
 word-at-requires-7 c κs = search needs
 
-wide-requires-2 : tie.Need-wide-requires-2
-wide-requires-2 c κs = search needs
+index-of-requires-2 : tie.Need-index-of-requires-2
+index-of-requires-2 c κs = search needs
 
 returns-4 : tie.Need-returns-4
 returns-4 c =
@@ -69,7 +69,7 @@ returns-4 c =
     let at-word-at2 = at-if2 .before in
     let at-if1 = at-word-at2 .before in
     let at-word-at = at-if1 .before in
-    rw (c .wide2 .ensures, at-leading-boxes2 .leading-boxes2 .ensures .0, at-word-at6 .word-at6 .ensures, at-word-at7 .word-at7 .ensures) (holds-shared _ _ _ _ (rw (at-word-at2 .word-at2 .ensures) at (at-if2 .if2 .left)) (sym (at-word-at .word-at .ensures) ∙ at-if1 .if1 .left) (sym (at-word-at3 .word-at3 .ensures) ∙ at-if4 .if4 .taken) (at-if5 .if5 .taken))
+    rw (c .index-of2 .ensures, at-leading-boxes2 .leading-boxes2 .ensures .0, at-word-at6 .word-at6 .ensures, at-word-at7 .word-at7 .ensures) (holds-shared _ _ _ _ (rw (at-word-at2 .word-at2 .ensures) at (at-if2 .if2 .left)) (sym (at-word-at .word-at .ensures) ∙ at-if1 .if1 .left) (sym (at-word-at3 .word-at3 .ensures) ∙ at-if4 .if4 .taken) (at-if5 .if5 .taken))
 
 returns-5 : tie.Need-returns-5
 returns-5 c = holds-shared-not _ _ _ _ (rw (c .before .before .before .before .before .word-at2 .ensures) at (c .before .before .before .before .if2 .left)) (sym (c .before .before .before .word-at3 .ensures) ∙ c .before .if4 .taken) (c .if5 .left)
@@ -94,12 +94,12 @@ holds-spec =
     word-at-requires-4
     leading-boxes-requires
     word-at-requires-5
-    wide-requires
+    index-of-requires
     returns-3
     word-at-requires-6
     leading-boxes-requires-2
     word-at-requires-7
-    wide-requires-2
+    index-of-requires-2
     returns-4
     returns-5
     returns-6)

@@ -14,8 +14,8 @@ word-at-requires c κs = search needs
 weight-requires : tie.Need-weight-requires
 weight-requires c κs = search needs
 
-wide-requires : tie.Need-wide-requires
-wide-requires c κs = search needs
+index-of-requires : tie.Need-index-of-requires
+index-of-requires c κs = search needs
 
 word-at-requires-2 : tie.Need-word-at-requires-2
 word-at-requires-2 c κs = search needs
@@ -23,13 +23,13 @@ word-at-requires-2 c κs = search needs
 add-env : tie.Need-add-env
 add-env c =
     let at-if2 = c .before .before in
-    let at-wide = at-if2 .before in
-    let at-weight = at-wide .before .before in
+    let at-index-of = at-if2 .before in
+    let at-weight = at-index-of .before .before in
     let at-root = at-weight .before .before in
     let start = at-root .before .before .before in
-    let is = at-weight .weight .ensures ∙ ap (λ r. weightOf (environmentOf (start .args .env .now) (start .args .x)) r) (sym (at-wide .wide .ensures)) in
-    let most = weight-most (environmentOf (start .args .env .now) (start .args .x)) (at-wide .wide .result) in
-    omega (arith, c .word-at2 .ensures, is, most, start .pre .2 (at-wide .wide .result) (at-if2 .if2 .taken))
+    let is = at-weight .weight .ensures ∙ ap (λ r. weightOf (environmentOf (start .args .env .now) (start .args .x)) r) (sym (at-index-of .index-of .ensures)) in
+    let most = weight-most (environmentOf (start .args .env .now) (start .args .x)) (at-index-of .index-of .result) in
+    omega (arith, c .word-at2 .ensures, is, most, start .pre .2 (at-index-of .index-of .result) (at-if2 .if2 .taken))
 
 mul-env : tie.Need-mul-env
 mul-env c = search needs
@@ -49,22 +49,22 @@ same-length c = search needs
 returns : tie.Need-returns
 returns c =
     let at-if2 = c .before .before in
-    let at-wide = at-if2 .before in
-    let at-weight = at-wide .before .before in
+    let at-index-of = at-if2 .before in
+    let at-weight = at-index-of .before .before in
     let at-root = at-weight .before .before in
     let start = at-root .before .before .before in
-    let is = at-weight .weight .ensures ∙ ap (λ r. weightOf (environmentOf (start .args .env .now) (start .args .x)) r) (sym (at-wide .wide .ensures)) in
-    rw (c .word-at2 .ensures) (noted _ _ _, counted (start .args .env .now) (start .args .variables) (start .args .x) (at-wide .wide .result) (at-wide .wide .ensures ∙ at-root .word-at .ensures) _ is (start .pre .0) (at-if2 .if2 .taken))
+    let is = at-weight .weight .ensures ∙ ap (λ r. weightOf (environmentOf (start .args .env .now) (start .args .x)) r) (sym (at-index-of .index-of .ensures)) in
+    rw (c .word-at2 .ensures) (noted _ _ _, counted (start .args .env .now) (start .args .variables) (start .args .x) (at-index-of .index-of .result) (at-index-of .index-of .ensures ∙ at-root .word-at .ensures) _ is (start .pre .0) (at-if2 .if2 .taken))
 
 same-length-2 : tie.Need-same-length-2
 same-length-2 c = search needs
 
 returns-2 : tie.Need-returns-2
 returns-2 c =
-    let at-wide = c .before in
-    let at-root = at-wide .before .before .before .before in
+    let at-index-of = c .before in
+    let at-root = at-index-of .before .before .before .before in
     let start = at-root .before .before .before in
-    (refl, not-counted (start .args .env .now) (start .args .variables) (start .args .x) (below-past (start .args .env .now) (start .args .variables) (start .args .x) _ (at-wide .wide .ensures ∙ at-root .word-at .ensures) (c .if2 .left)))
+    (refl, not-counted (start .args .env .now) (start .args .variables) (start .args .x) (below-past (start .args .env .now) (start .args .variables) (start .args .x) _ (at-index-of .index-of .ensures ∙ at-root .word-at .ensures) (c .if2 .left)))
 
 same-length-3 : tie.Need-same-length-3
 same-length-3 c = search needs
@@ -82,7 +82,7 @@ note-holder-spec =
     (tie.spec
     word-at-requires
     weight-requires
-    wide-requires
+    index-of-requires
     word-at-requires-2
     add-env
     mul-env

@@ -28,8 +28,8 @@ enum-known-located c = search needs
 enum-known-located-2 : tie.Need-enum-known-located-2
 enum-known-located-2 c = search needs
 
-wide-requires : tie.Need-wide-requires
-wide-requires c κs = search needs
+index-of-requires : tie.Need-index-of-requires
+index-of-requires c κs = search needs
 
 no-shared-requires : tie.Need-no-shared-requires
 no-shared-requires c κs = search needs
@@ -41,11 +41,11 @@ returns-2 : tie.Need-returns-2
 unfolding judgeAssign answered asValue valued need _>>=_
 returns-2 c =
     let at-no-shared = c .before in
-    let at-wide = at-no-shared .before in
-    let at-located2 = at-wide .before .before in
+    let at-index-of = at-no-shared .before in
+    let at-located2 = at-index-of .before .before in
     let at-judge-place = at-located2 .before .before in
     let at-inner = at-judge-place .before .before .before in
-    (found-in _ (at-judge-place .judge-place .ensures) (at-located2 .located2 .given .1) (λ l is chain after to. rw (at-inner .inner .given .1, is, chain, ← at-wide .wide .ensures, ← at-no-shared .no-shared .ensures, not-true (at-no-shared .no-shared .result) (c .if1 .taken))), c .before .before .before .before .before .before .before .before .before .before .before .before .pre)
+    (found-in _ (at-judge-place .judge-place .ensures) (at-located2 .located2 .given .1) (λ l is chain after to. rw (at-inner .inner .given .1, is, chain, ← at-index-of .index-of .ensures, ← at-no-shared .no-shared .ensures, not-true (at-no-shared .no-shared .result) (c .if1 .taken))), c .before .before .before .before .before .before .before .before .before .before .before .before .pre)
 
 same-length-2 : tie.Need-same-length-2
 same-length-2 c = search needs
@@ -55,11 +55,11 @@ unfolding judgeAssign answered asValue valued need _>>=_
 returns-3 c =
     let at-if1 = c .before .before in
     let at-no-shared = at-if1 .before in
-    let at-wide = at-no-shared .before in
-    let at-located2 = at-wide .before .before in
+    let at-index-of = at-no-shared .before in
+    let at-located2 = at-index-of .before .before in
     let at-judge-place = at-located2 .before .before in
     let at-inner = at-judge-place .before .before .before in
-    (found-in _ (at-judge-place .judge-place .ensures) (at-located2 .located2 .given .1) (λ l is chain after to. rw (at-inner .inner .given .1, is, chain, after, ← at-wide .wide .ensures, ← at-no-shared .no-shared .ensures, not-false (at-no-shared .no-shared .result) (at-if1 .if1 .left), same-links _ _, ne-eqb _ _ (c .if2 .taken))), c .before .before .before .before .before .before .before .before .before .before .before .before .before .before .pre)
+    (found-in _ (at-judge-place .judge-place .ensures) (at-located2 .located2 .given .1) (λ l is chain after to. rw (at-inner .inner .given .1, is, chain, after, ← at-index-of .index-of .ensures, ← at-no-shared .no-shared .ensures, not-false (at-no-shared .no-shared .result) (at-if1 .if1 .left), same-links _ _, ne-eqb _ _ (c .if2 .taken))), c .before .before .before .before .before .before .before .before .before .before .before .before .before .before .pre)
 
 level-at-requires : tie.Need-level-at-requires
 level-at-requires c κs = search needs
@@ -78,11 +78,11 @@ returns-4 c =
     let at-if2 = at-level-at .before .before in
     let at-if1 = at-if2 .before .before in
     let at-no-shared = at-if1 .before in
-    let at-wide = at-no-shared .before in
-    let at-located2 = at-wide .before .before in
+    let at-index-of = at-no-shared .before in
+    let at-located2 = at-index-of .before .before in
     let at-judge-place = at-located2 .before .before in
     let at-inner = at-judge-place .before .before .before in
-    (found-in _ (at-judge-place .judge-place .ensures) (at-located2 .located2 .given .1) (λ l is chain after to. rw (at-inner .inner .given .1, is, chain, after, to, ← at-wide .wide .ensures, ← at-no-shared .no-shared .ensures, not-false (at-no-shared .no-shared .result) (at-if1 .if1 .left), same-links _ _, eq-eqb _ _ (at-if2 .if2 .left), ← at-level-at .level-at .ensures, ← at-lives-at .lives-at .ensures, not-true (at-lives-at .lives-at .result) (c .if3 .taken))), c .before .before .before .before .before .before .before .before .before .before .before .before .before .before .before .before .before .before .before .pre)
+    (found-in _ (at-judge-place .judge-place .ensures) (at-located2 .located2 .given .1) (λ l is chain after to. rw (at-inner .inner .given .1, is, chain, after, to, ← at-index-of .index-of .ensures, ← at-no-shared .no-shared .ensures, not-false (at-no-shared .no-shared .result) (at-if1 .if1 .left), same-links _ _, eq-eqb _ _ (at-if2 .if2 .left), ← at-level-at .level-at .ensures, ← at-lives-at .lives-at .ensures, not-true (at-lives-at .lives-at .result) (c .if3 .taken))), c .before .before .before .before .before .before .before .before .before .before .before .before .before .before .before .before .before .before .before .pre)
 
 refill-requires : tie.Need-refill-requires
 refill-requires c κs = search needs
@@ -110,11 +110,11 @@ returns-5 c =
     let at-if2 = at-level-at .before .before in
     let at-if1 = at-if2 .before .before in
     let at-no-shared = at-if1 .before in
-    let at-wide = at-no-shared .before in
-    let at-located2 = at-wide .before .before in
+    let at-index-of = at-no-shared .before in
+    let at-located2 = at-index-of .before .before in
     let at-judge-place = at-located2 .before .before in
     let at-inner = at-judge-place .before .before .before in
-    (found-in _ (at-judge-place .judge-place .ensures) (at-located2 .located2 .given .1) (λ l is chain after to. rw (at-inner .inner .given .1, is, chain, after, to, ← at-refill .refill .ensures .0, ← at-write-barred .write-barred .ensures, ← at-wide .wide .ensures, ← at-no-shared .no-shared .ensures, not-false (at-no-shared .no-shared .result) (at-if1 .if1 .left), same-links _ _, eq-eqb _ _ (at-if2 .if2 .left), ← at-level-at .level-at .ensures, ← at-lives-at .lives-at .ensures, not-false (at-lives-at .lives-at .result) (at-if3 .if3 .left), c .if4 .taken)), at-refill .refill .ensures .1)
+    (found-in _ (at-judge-place .judge-place .ensures) (at-located2 .located2 .given .1) (λ l is chain after to. rw (at-inner .inner .given .1, is, chain, after, to, ← at-refill .refill .ensures .0, ← at-write-barred .write-barred .ensures, ← at-index-of .index-of .ensures, ← at-no-shared .no-shared .ensures, not-false (at-no-shared .no-shared .result) (at-if1 .if1 .left), same-links _ _, eq-eqb _ _ (at-if2 .if2 .left), ← at-level-at .level-at .ensures, ← at-lives-at .lives-at .ensures, not-false (at-lives-at .lives-at .result) (at-if3 .if3 .left), c .if4 .taken)), at-refill .refill .ensures .1)
 
 same-length-5 : tie.Need-same-length-5
 same-length-5 c = search needs
@@ -137,11 +137,11 @@ returns-7 c =
     let at-if2 = at-level-at .before .before in
     let at-if1 = at-if2 .before .before in
     let at-no-shared = at-if1 .before in
-    let at-wide = at-no-shared .before in
-    let at-located2 = at-wide .before .before in
+    let at-index-of = at-no-shared .before in
+    let at-located2 = at-index-of .before .before in
     let at-judge-place = at-located2 .before .before in
     let at-inner = at-judge-place .before .before .before in
-    (found-in _ (at-judge-place .judge-place .ensures) (at-located2 .located2 .given .1) (λ l is chain after to. rw (at-inner .inner .given .1, is, chain, after, to, ← at-refill .refill .ensures .0, ← at-write-barred .write-barred .ensures, ← at-wide .wide .ensures, ← at-no-shared .no-shared .ensures, not-false (at-no-shared .no-shared .result) (at-if1 .if1 .left), same-links _ _, eq-eqb _ _ (at-if2 .if2 .left), ← at-level-at .level-at .ensures, ← at-lives-at .lives-at .ensures, not-false (at-lives-at .lives-at .result) (at-if3 .if3 .left), c .if4 .left)), at-refill .refill .ensures .1)
+    (found-in _ (at-judge-place .judge-place .ensures) (at-located2 .located2 .given .1) (λ l is chain after to. rw (at-inner .inner .given .1, is, chain, after, to, ← at-refill .refill .ensures .0, ← at-write-barred .write-barred .ensures, ← at-index-of .index-of .ensures, ← at-no-shared .no-shared .ensures, not-false (at-no-shared .no-shared .result) (at-if1 .if1 .left), same-links _ _, eq-eqb _ _ (at-if2 .if2 .left), ← at-level-at .level-at .ensures, ← at-lives-at .lives-at .ensures, not-false (at-lives-at .lives-at .result) (at-if3 .if3 .left), c .if4 .left)), at-refill .refill .ensures .1)
 
 pub judge-assign-spec : {M : Type 1} → statement M
 judge-assign-spec =
@@ -153,7 +153,7 @@ judge-assign-spec =
     judge-place-requires
     enum-known-located
     enum-known-located-2
-    wide-requires
+    index-of-requires
     no-shared-requires
     same-length
     returns-2

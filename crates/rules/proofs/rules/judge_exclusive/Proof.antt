@@ -36,8 +36,8 @@ returns c =
     let at-judge-place = at-located2 .before .before in
     found-in _ (at-judge-place .judge-place .ensures) (at-located2 .located2 .given .1) λ l is chain after to. rw (is, chain, ← at-whole .whole-at .ensures, not-true (at-whole .whole-at .result) (c .if1 .taken))
 
-wide-requires : tie.Need-wide-requires
-wide-requires c κs = search needs
+index-of-requires : tie.Need-index-of-requires
+index-of-requires c κs = search needs
 
 no-shared-requires : tie.Need-no-shared-requires
 no-shared-requires c κs = search needs
@@ -46,12 +46,12 @@ returns-2 : tie.Need-returns-2
 unfolding judgeExclusive valueWhole answered need _>>=_
 returns-2 c =
     let at-no-shared = c .before in
-    let at-wide = at-no-shared .before in
-    let at-if1 = at-wide .before in
+    let at-index-of = at-no-shared .before in
+    let at-if1 = at-index-of .before in
     let at-whole = at-if1 .before in
     let at-located2 = at-whole .before .before in
     let at-judge-place = at-located2 .before .before in
-    found-in _ (at-judge-place .judge-place .ensures) (at-located2 .located2 .given .1) λ l is chain after to. rw (is, chain, ← at-whole .whole-at .ensures, not-false (at-whole .whole-at .result) (at-if1 .if1 .left), ← at-wide .wide .ensures, ← at-no-shared .no-shared .ensures, not-true (at-no-shared .no-shared .result) (c .if2 .taken))
+    found-in _ (at-judge-place .judge-place .ensures) (at-located2 .located2 .given .1) λ l is chain after to. rw (is, chain, ← at-whole .whole-at .ensures, not-false (at-whole .whole-at .result) (at-if1 .if1 .left), ← at-index-of .index-of .ensures, ← at-no-shared .no-shared .ensures, not-true (at-no-shared .no-shared .result) (c .if2 .taken))
 
 write-barred-requires : tie.Need-write-barred-requires
 write-barred-requires c κs =
@@ -67,12 +67,12 @@ returns-3 c =
     let at-write-barred = c .before in
     let at-if2 = at-write-barred .before in
     let at-no-shared = at-if2 .before in
-    let at-wide = at-no-shared .before in
-    let at-if1 = at-wide .before in
+    let at-index-of = at-no-shared .before in
+    let at-if1 = at-index-of .before in
     let at-whole = at-if1 .before in
     let at-located2 = at-whole .before .before in
     let at-judge-place = at-located2 .before .before in
-    found-in _ (at-judge-place .judge-place .ensures) (at-located2 .located2 .given .1) λ l is chain after to. rw (is, chain, ← at-write-barred .write-barred .ensures, ← at-whole .whole-at .ensures, not-false (at-whole .whole-at .result) (at-if1 .if1 .left), ← at-wide .wide .ensures, ← at-no-shared .no-shared .ensures, not-false (at-no-shared .no-shared .result) (at-if2 .if2 .left), c .if3 .taken)
+    found-in _ (at-judge-place .judge-place .ensures) (at-located2 .located2 .given .1) λ l is chain after to. rw (is, chain, ← at-write-barred .write-barred .ensures, ← at-whole .whole-at .ensures, not-false (at-whole .whole-at .result) (at-if1 .if1 .left), ← at-index-of .index-of .ensures, ← at-no-shared .no-shared .ensures, not-false (at-no-shared .no-shared .result) (at-if2 .if2 .left), c .if3 .taken)
 
 longer-value-requires : tie.Need-longer-value-requires
 longer-value-requires c κs = search needs
@@ -88,12 +88,12 @@ returns-5 c =
     let at-write-barred = at-if3 .before in
     let at-if2 = at-write-barred .before in
     let at-no-shared = at-if2 .before in
-    let at-wide = at-no-shared .before in
-    let at-if1 = at-wide .before in
+    let at-index-of = at-no-shared .before in
+    let at-if1 = at-index-of .before in
     let at-whole = at-if1 .before in
     let at-located2 = at-whole .before .before in
     let at-judge-place = at-located2 .before .before in
-    found-in _ (at-judge-place .judge-place .ensures) (at-located2 .located2 .given .1) λ l is chain after to. rw (is, chain, after, ← at-write-barred .write-barred .ensures, ← at-whole .whole-at .ensures, not-false (at-whole .whole-at .result) (at-if1 .if1 .left), ← at-wide .wide .ensures, ← at-no-shared .no-shared .ensures, not-false (at-no-shared .no-shared .result) (at-if2 .if2 .left), at-if3 .if3 .left, at-wide .wide .ensures) (c .longer-value .ensures _)
+    found-in _ (at-judge-place .judge-place .ensures) (at-located2 .located2 .given .1) λ l is chain after to. rw (is, chain, after, ← at-write-barred .write-barred .ensures, ← at-whole .whole-at .ensures, not-false (at-whole .whole-at .result) (at-if1 .if1 .left), ← at-index-of .index-of .ensures, ← at-no-shared .no-shared .ensures, not-false (at-no-shared .no-shared .result) (at-if2 .if2 .left), at-if3 .if3 .left, at-index-of .index-of .ensures) (c .longer-value .ensures _)
 
 pub judge-exclusive-spec : {M : Type 1} → statement M
 judge-exclusive-spec =
@@ -104,7 +104,7 @@ judge-exclusive-spec =
     enum-known-located-2
     whole-at-requires
     returns
-    wide-requires
+    index-of-requires
     no-shared-requires
     returns-2
     write-barred-requires

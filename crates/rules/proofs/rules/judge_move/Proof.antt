@@ -12,11 +12,11 @@ use Rattle.rules.proofs.EntryLaws.{slot-live, in-range, not-in-scope}
 use Rattle.rules.proofs.rules.judge_move.Statement.{statement}
 use Rattle.rules.proofs.rules.judge_move.Tie as tie
 
-wide-requires : tie.Need-wide-requires
-wide-requires c κs = search needs
+index-of-requires : tie.Need-index-of-requires
+index-of-requires c κs = search needs
 
-wide-requires-2 : tie.Need-wide-requires-2
-wide-requires-2 c κs = search needs
+index-of-requires-2 : tie.Need-index-of-requires-2
+index-of-requires-2 c κs = search needs
 
 load-requires : tie.Need-load-requires
 load-requires c κs = search needs
@@ -29,7 +29,7 @@ same-length c = search needs
 
 returns : tie.Need-returns
 unfolding judgeMove answered _>>=_
-returns c = (rw (← c .before .before .before .before .wide .ensures, not-in-scope _ _ _ (c .before .load .ensures) _ (c .match .keys2)), c .before .before .before .before .before .before .pre)
+returns c = (rw (← c .before .before .before .before .index-of .ensures, not-in-scope _ _ _ (c .before .load .ensures) _ (c .match .keys2)), c .before .before .before .before .before .before .pre)
 
 links-from-requires : tie.Need-links-from-requires
 links-from-requires c κs = search needs
@@ -49,10 +49,10 @@ returns-2 c =
     let at-links-from = c .before .before in
     let at-entry = at-links-from .before .before in
     let at-load = at-entry .before .before in
-    let at-wide2 = at-load .before .before in
-    let at-wide = at-wide2 .before in
-    let start = at-wide .before .before in
-    (rw (← at-wide .wide .ensures, ← at-wide2 .wide2 .ensures, slot-live _ _ _ (at-load .load .ensures) _ (at-entry .entry .given .1), lt-leb _ _ (rest-missing _ _ (at-links-from .links-from .ensures) (c .enum-told .given .1))), start .pre)
+    let at-index-of2 = at-load .before .before in
+    let at-index-of = at-index-of2 .before in
+    let start = at-index-of .before .before in
+    (rw (← at-index-of .index-of .ensures, ← at-index-of2 .index-of2 .ensures, slot-live _ _ _ (at-load .load .ensures) _ (at-entry .entry .given .1), lt-leb _ _ (rest-missing _ _ (at-links-from .links-from .ensures) (c .enum-told .given .1))), start .pre)
 
 leading-boxes-requires : tie.Need-leading-boxes-requires
 leading-boxes-requires c κs = search needs
@@ -68,10 +68,10 @@ returns-3 c =
     let at-links-from = at-after .before .before in
     let at-entry = at-links-from .before .before in
     let at-load = at-entry .before .before in
-    let at-wide2 = at-load .before .before in
-    let at-wide = at-wide2 .before in
-    let start = at-wide .before .before in
-    (rw (← at-wide .wide .ensures, ← at-wide2 .wide2 .ensures, slot-live _ _ _ (at-load .load .ensures) _ (at-entry .entry .given .1), le-leb _ _ (rest-there _ _ (at-links-from .links-from .ensures) (at-after .after .given .1) .0), ← at-leading-boxes .leading-boxes .ensures .0, lt-leb _ _ (c .if1 .taken)), start .pre)
+    let at-index-of2 = at-load .before .before in
+    let at-index-of = at-index-of2 .before in
+    let start = at-index-of .before .before in
+    (rw (← at-index-of .index-of .ensures, ← at-index-of2 .index-of2 .ensures, slot-live _ _ _ (at-load .load .ensures) _ (at-entry .entry .given .1), le-leb _ _ (rest-there _ _ (at-links-from .links-from .ensures) (at-after .after .given .1) .0), ← at-leading-boxes .leading-boxes .ensures .0, lt-leb _ _ (c .if1 .taken)), start .pre)
 
 value-whole-requires : tie.Need-value-whole-requires
 value-whole-requires c κs = search needs
@@ -89,18 +89,18 @@ returns-4 c =
     let at-links-from = at-after .before .before in
     let at-entry = at-links-from .before .before in
     let at-load = at-entry .before .before in
-    let at-wide2 = at-load .before .before in
-    let at-wide = at-wide2 .before in
-    let start = at-wide .before .before in
-    (rw (← at-wide .wide .ensures, ← at-wide2 .wide2 .ensures, slot-live _ _ _ (at-load .load .ensures) _ (at-entry .entry .given .1), ← at-value-whole .value-whole .ensures, le-leb _ _ (rest-there _ _ (at-links-from .links-from .ensures) (at-after .after .given .1) .0), ← at-leading-boxes .leading-boxes .ensures .0, le-leb _ _ (at-if1 .if1 .left), not-true (at-value-whole .value-whole .result) (c .if2 .taken)), start .pre)
+    let at-index-of2 = at-load .before .before in
+    let at-index-of = at-index-of2 .before in
+    let start = at-index-of .before .before in
+    (rw (← at-index-of .index-of .ensures, ← at-index-of2 .index-of2 .ensures, slot-live _ _ _ (at-load .load .ensures) _ (at-entry .entry .given .1), ← at-value-whole .value-whole .ensures, le-leb _ _ (rest-there _ _ (at-links-from .links-from .ensures) (at-after .after .given .1) .0), ← at-leading-boxes .leading-boxes .ensures .0, le-leb _ _ (at-if1 .if1 .left), not-true (at-value-whole .value-whole .result) (c .if2 .taken)), start .pre)
 
 write-barred-requires : tie.Need-write-barred-requires
 write-barred-requires c κs =
     let at-entry = c .before .before .before .before .before .before .before .before .before .before .before in
     let at-load = at-entry .before .before in
-    let at-wide = at-load .before .before .before in
-    let start = at-wide .before .before in
-    (start .pre, omega (arith, at-wide .wide .ensures, in-range _ _ _ (at-load .load .ensures) _ _ (start .pre) (at-entry .entry .given .1)))
+    let at-index-of = at-load .before .before .before in
+    let start = at-index-of .before .before in
+    (start .pre, omega (arith, at-index-of .index-of .ensures, in-range _ _ _ (at-load .load .ensures) _ _ (start .pre) (at-entry .entry .given .1)))
 
 same-length-5 : tie.Need-same-length-5
 same-length-5 c = search needs
@@ -117,10 +117,10 @@ returns-5 c =
     let at-links-from = at-after .before .before in
     let at-entry = at-links-from .before .before in
     let at-load = at-entry .before .before in
-    let at-wide2 = at-load .before .before in
-    let at-wide = at-wide2 .before in
-    let start = at-wide .before .before in
-    (rw (← at-write-barred .write-barred .ensures, ← at-wide .wide .ensures, ← at-wide2 .wide2 .ensures, slot-live _ _ _ (at-load .load .ensures) _ (at-entry .entry .given .1), ← at-value-whole .value-whole .ensures, le-leb _ _ (rest-there _ _ (at-links-from .links-from .ensures) (at-after .after .given .1) .0), ← at-leading-boxes .leading-boxes .ensures .0, le-leb _ _ (at-if1 .if1 .left), not-false (at-value-whole .value-whole .result) (at-if2 .if2 .left), c .if3 .taken), start .pre)
+    let at-index-of2 = at-load .before .before in
+    let at-index-of = at-index-of2 .before in
+    let start = at-index-of .before .before in
+    (rw (← at-write-barred .write-barred .ensures, ← at-index-of .index-of .ensures, ← at-index-of2 .index-of2 .ensures, slot-live _ _ _ (at-load .load .ensures) _ (at-entry .entry .given .1), ← at-value-whole .value-whole .ensures, le-leb _ _ (rest-there _ _ (at-links-from .links-from .ensures) (at-after .after .given .1) .0), ← at-leading-boxes .leading-boxes .ensures .0, le-leb _ _ (at-if1 .if1 .left), not-false (at-value-whole .value-whole .result) (at-if2 .if2 .left), c .if3 .taken), start .pre)
 
 move-away-requires : tie.Need-move-away-requires
 move-away-requires c κs =
@@ -149,17 +149,17 @@ returns-6 c =
     let at-links-from = at-after .before .before in
     let at-entry = at-links-from .before .before in
     let at-load = at-entry .before .before in
-    let at-wide2 = at-load .before .before in
-    let at-wide = at-wide2 .before in
+    let at-index-of2 = at-load .before .before in
+    let at-index-of = at-index-of2 .before in
     let there = rest-there _ _ (at-links-from .links-from .ensures) (at-after .after .given .1) in
-    (rw (← at-write-barred .write-barred .ensures, ← at-wide .wide .ensures, ← at-wide2 .wide2 .ensures, slot-live _ _ _ (at-load .load .ensures) _ (at-entry .entry .given .1), ← at-value-whole .value-whole .ensures, le-leb _ _ (there .0), ← at-leading-boxes .leading-boxes .ensures .0, le-leb _ _ (at-if1 .if1 .left), not-false (at-value-whole .value-whole .result) (at-if2 .if2 .left), at-if3 .if3 .left, there .1) (c .value-of .ensures _ ∙ rw (at-move-away .move-away .ensures .0, slot-live _ _ _ (at-load .load .ensures) _ (at-entry .entry .given .1), at-wide2 .wide2 .ensures)), at-move-away .move-away .ensures .1)
+    (rw (← at-write-barred .write-barred .ensures, ← at-index-of .index-of .ensures, ← at-index-of2 .index-of2 .ensures, slot-live _ _ _ (at-load .load .ensures) _ (at-entry .entry .given .1), ← at-value-whole .value-whole .ensures, le-leb _ _ (there .0), ← at-leading-boxes .leading-boxes .ensures .0, le-leb _ _ (at-if1 .if1 .left), not-false (at-value-whole .value-whole .result) (at-if2 .if2 .left), at-if3 .if3 .left, there .1) (c .value-of .ensures _ ∙ rw (at-move-away .move-away .ensures .0, slot-live _ _ _ (at-load .load .ensures) _ (at-entry .entry .given .1), at-index-of2 .index-of2 .ensures)), at-move-away .move-away .ensures .1)
 
 pub judge-move-spec : {M : Type 1} → statement M
 judge-move-spec =
     tie.close
     (tie.spec
-    wide-requires
-    wide-requires-2
+    index-of-requires
+    index-of-requires-2
     load-requires
     enum-known-entry
     same-length

@@ -1,9 +1,9 @@
--- `reader::kinds::boxes_with` meets its contract. Assumes nothing.
+-- `reader::opening::boxes_with` meets its contract. Assumes nothing.
 use borrow.Author.Needs.{needs}
 use borrow.Author.Tests.{eq-eqb, ne-eqb}
 use Rattle.reader.specs.Parts.{boxesWith}
-use Rattle.reader.proofs.kinds.boxes_with.Statement.{statement}
-use Rattle.reader.proofs.kinds.boxes_with.Tie as tie
+use Rattle.reader.proofs.opening.boxes_with.Statement.{statement}
+use Rattle.reader.proofs.opening.boxes_with.Tie as tie
 
 add-result : tie.Need-add-result
 add-result c = search needs
