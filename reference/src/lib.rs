@@ -1,7 +1,8 @@
 //! Independent reference program for room scripts, written apart, from the
-//! language's document alone: `LANGUAGE 3.19` cites a paragraph of
-//! `docs/LANGUAGE.md`. It is a second opinion on every answer and on what lent
-//! memory holds afterwards, and a rival in speed.
+//! requirement behind the language alone. `LANGUAGE 3.19` in a comment cites
+//! the paragraph of `docs/LANGUAGE.md` that states the rule. It is a second
+//! opinion on every answer and on what lent memory holds afterwards, and a
+//! rival in speed.
 //!
 //! | Layer | Function | Numbers |
 //! |---|---|---|

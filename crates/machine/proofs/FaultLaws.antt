@@ -1,15 +1,12 @@
 -- A fault that a run meets anywhere on its way is the run's own result, and a run's fault is met somewhere on its way.
 use Prim.Native.Nat.{ℕ}
 use mathlib.Core.Path.{_≡_, refl, sym, ap}
-use mathlib.Core.Bool.{Bool, true, false}
 use mathlib.Core.List.{List, [], _∷_}
-use Rattle.reader.specs.Result.{ok, err, _>>=_, pick}
-use Rattle.reader.specs.Script.{Place, Term, number, reading, copy, move, borrowShared, borrowExclusive, box, declare, assign, below, block, Terms, last, more}
-use Rattle.machine.specs.Values.{Value, Location, variable, closed}
-use Rattle.machine.specs.Store.{Store, put, isOpen, valueIn, State, withStore, Fault, Ran}
-use Rattle.machine.specs.Locate.{locate, numberIn}
-use Rattle.machine.specs.Drop.{dropValue, closeAll}
-use Rattle.machine.specs.Run.{Outcome, runLet, runAssign, runBox, runBlockEnd, entered, begun, run, runs, runScript}
+use Rattle.reader.specs.Result.{ok, err, _>>=_}
+use Rattle.reader.specs.Script.{Term, number, reading, copy, move, borrowShared, borrowExclusive, box, declare, assign, below, block, Terms, last, more}
+use Rattle.machine.specs.Store.{Store, State, Fault, Ran}
+use Rattle.machine.specs.Drop.{closeAll}
+use Rattle.machine.specs.Run.{runAssign, runBox, runBlockEnd, entered, begun, run, runs, runScript}
 use Rattle.machine.specs.Faults.{ClosingMeets, at-first, at-later, TermMeets, at-copy, at-move, at-shared, at-exclusive, at-below, in-box, in-let, at-let, in-assign, at-place, at-old, in-block, at-closing, TermsMeet, in-last, in-first, at-drop, in-rest, RunMeets, on-the-way, at-answer}
 use Rattle.reader.proofs.Answers.{after, stop, err-ok}
 

@@ -1,25 +1,22 @@
 -- `check`: what the reader and the judge answer make its answer.
 use Prim.Native.Nat.{ℕ}
 use native.Mathlib.Omega.{arith}
-use mathlib.Core.Path.{_≡_, sym, ap}
+use mathlib.Core.Path.{_≡_, ap}
 use mathlib.Core.Option.{some}
 use mathlib.Core.List.{List}
-use lib.Dec.{eqb}
-use lib.ListN.{length, getD}
+use lib.ListN.{getD}
 use mir.Val.{Fits}
 use mir.Syntax.{w32}
-use borrow.Author.Tests.{eqb-true}
-use Rattle.reader.specs.Result.{Result, ok, err, Refusal, need, _>>=_}
-use Rattle.reader.specs.Limits.{Limits, base, rowNumbers}
+use Rattle.reader.specs.Result.{Result, ok, err, Refusal, _>>=_}
+use Rattle.reader.specs.Limits.{Limits, base}
 use Rattle.reader.specs.Script.{Term}
-use Rattle.reader.specs.Reader.{decode}
 use Rattle.reader.specs.Measures.{size}
 use Rattle.reader.specs.Within.{Under}
 use Rattle.reader.specs.RowTrees.{IsTree, treeAt}
 use Rattle.reader.specs.Answers.{told, rowsTree, judgedOf}
 use Rattle.reader.specs.declared.Outcome.{Outcome}
 use Rattle.reader.specs.declared.Outcome.the-variants as outcome
-use Rattle.reader.proofs.Answers.{then, needed}
+use Rattle.reader.proofs.Answers.{then}
 use Rattle.reader.proofs.Lists.{under-all}
 use Rattle.reader.proofs.RowTrees.{tree-stands}
 use Rattle.reader.proofs.Promise.{tree-decoded}

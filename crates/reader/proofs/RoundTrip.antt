@@ -7,7 +7,7 @@ use mathlib.Core.List.{List, [], _∷_, _++_, append-nil}
 use lib.ListN.{length, length-append}
 use lib.Dec.{eqb}
 use borrow.Author.Tests.{eqb-true}
-use Rattle.reader.specs.Result.{Result, ok, need, Refusal, _>>=_ as _&_}
+use Rattle.reader.specs.Result.{ok, need, _>>=_ as _&_}
 use Rattle.reader.specs.Limits.{Limits, rowNumbers}
 use Rattle.reader.specs.Script.{Term}
 use Rattle.reader.specs.Layout.{Form, inBytes, inRows, zeros, lay, bytesOf, rowsOf}

@@ -1,4 +1,5 @@
--- The definition tried on the order of refusals at a kind byte (LANGUAGE 5.10): under limits so small that several are due at once, the definition gives the first.
+-- The definition tried on the order of refusals at a kind byte (LANGUAGE 5.10): under limits so small that several are due at once,
+-- it gives the first.
 use Prim.Native.Nat.{ℕ}
 use mathlib.Core.Path.{_≡_, refl}
 use mathlib.Core.List.{List, [], _∷_}

@@ -1,5 +1,6 @@
 // The answers of the term and block functions, each in one number: that is returned in a register, where an enum
-// goes through memory at every return. The answers are kept small, since telling them apart by a constant of over 32 bits costs time too.
+// goes through memory at every return. The answers are kept small, since telling them apart by a constant of over
+// 32 bits costs time too.
 ghost use mathlib.Core.Path.{_≡_};
 ghost use Prim.Native.Nat.{_+_, _*_, _-_, _/_, _%_, _<_, _≤_};
 

@@ -1,4 +1,5 @@
-// A whole script (LANGUAGE 2.1): mark and version, one block, and nothing after it. One reader goes from the mark to the end.
+// A whole script (LANGUAGE 2.1): mark and version, one block, and nothing after it. One reader goes from the mark to
+// the end.
 ghost use mathlib.Core.Path.{_≡_};
 ghost use mathlib.Core.List.{_++_};
 ghost use Prim.Native.Nat.{_-_, _≤_};

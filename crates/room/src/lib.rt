@@ -68,8 +68,8 @@ fn run_checked(terms: usize, rows: &[u32], readings: &[i32], store: &mut [u32]) 
     }
 }
 
-// A call (LANGUAGE 6.7). The caller's refusals (1 to 4) change nothing; those of the bytes (10 to 19) leave all rows 0; those of the
-// ownership rules (30 to 43) leave the rows of the script. In all of these the store is unchanged.
+// A call (LANGUAGE 6.7). The caller's refusals (1 to 4) change nothing; those of the bytes (10 to 19) leave all rows 0;
+// those of the ownership rules (30 to 43) leave the rows of the script. In all of these the store is unchanged.
 pub fn call(script: &[u8], readings: &[i32], rows: &mut [u32], store: &mut [u32]) -> Called
     ensures answered { λ r. ⌜ (toldCall r, (now (rows .exit), now (store .exit))) ≡ callOf base (now (script .entry)) (now (readings .entry)) (now (rows .entry)) (now (store .entry)) ⌝ }
     ensures safe { λ r. ⌜ SafeCall base (now (script .entry)) (now (readings .entry)) (toldCall r) (now (store .entry)) (now (store .exit)) ⌝ }
@@ -114,8 +114,8 @@ fn readings_of(input: &[u8]) -> [i32; 8]
     ]
 }
 
-// The program's work (LANGUAGE 6.8): the line for an input of eight readings and a script goes to the front of `line`, and the
-// answer is its length.
+// The program's work (LANGUAGE 6.8): the line for an input of eight readings and a script goes to the front of `line`,
+// and the answer is its length.
 pub fn report(input: &[u8], rows: &mut [u32], store: &mut [u32], line: &mut [u8; LINE]) -> usize
     ensures answered { λ r. ⌜ (r, (now (rows .exit), (now (store .exit), now (line .exit)))) ≡ reportOf base (now (input .entry)) (now (rows .entry)) (now (store .entry)) (now (line .entry)) ⌝ }
     ensures within { λ r. ⌜ r ≤ length (now (line .exit)) ⌝ }

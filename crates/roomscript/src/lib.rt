@@ -29,10 +29,10 @@ fn c_answer(outcome: Outcome) -> Answer
             number: 0,
             value: count as u64,
         },
-        Outcome::Refused(number, place) => Answer {
+        Outcome::Refused(number, offset_or_row) => Answer {
             refused: 1,
             number: number,
-            value: place as u64,
+            value: offset_or_row as u64,
         },
     }
 }
@@ -74,10 +74,10 @@ fn c_checked(checked: Checked) -> Answer
             number: 0,
             value: terms as u64,
         },
-        Checked::Refused(number, place) => Answer {
+        Checked::Refused(number, row_or_term) => Answer {
             refused: 1,
             number: number,
-            value: place as u64,
+            value: row_or_term as u64,
         },
     }
 }

@@ -3,7 +3,6 @@ use Rattle.machine.proofs.ScriptLaws.{rows-length, store-length, readin
 use Rattle.reader.specs.Answers.{told}
 use borrow.Author.Needs.{needs}
 use Rattle.reader.proofs.Promise.{rows-counted}
-use native.Mathlib.Omega.{arith}
 use mathlib.Core.Path.{sym, ap, _∙_}
 use Rattle.machine.proofs.run.Statement.{statement}
 use Rattle.machine.proofs.run.Tie as tie

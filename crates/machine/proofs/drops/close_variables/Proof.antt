@@ -1,6 +1,5 @@
 -- `machine::drops::close_variables` meets its contract. Assumes nothing.
 use Rattle.machine.proofs.CellLaws.{Closing, closing-starts, closing-stops, closing-goes, closing-ends}
-use borrow.Author.Needs.{needs}
 use native.Mathlib.Omega.{arith}
 use mathlib.Core.Path.{refl, sym, _∙_}
 use Prim.Native.Nat.{_-_}
