@@ -8,6 +8,7 @@ use mathlib.Core.Option.{none, some}
 use mathlib.Core.List.{List, []}
 use lib.IntN.{ℤ}
 use lib.ListN.{length}
+use Rattle.reader.specs.Limits.{Limits}
 use Rattle.reader.specs.Result.{ok, err, _>>=_}
 use Rattle.reader.specs.Script.{Term, Terms, block, last, more}
 use Rattle.reader.specs.Measures.{boxesIn, boxesAll}
@@ -123,215 +124,219 @@ module _ (readings : List ℤ) (i : ℕ) where
   rest-drop f zero at o b = absurd (omega arith)
   rest-drop f (suc n) at o b = rw sub-one
 
--- ---- a turn of the block's loop
-
--- Where the loop stands: `left` terms after the term whose outcome `last` tells.
-pub record Going (rows : List ℕ) (block levels : ℕ) (readings : List ℤ) (w₀ opened₀ : List ℕ) (n taken : ℕ) (w opened : List ℕ) (left : ℕ) (last : Standing) : Type 0 where
-  pub fine : last .fault ≡ 0
-  pub ready : Ready rows (last .next) readings w opened (last .opened) (last .taken)
-  pub sound : Sound (last .kind) (last .payload)
-  pub opens : Opened opened₀ opened n (last .opened) (block + 1) (last .next)
-  pub rest : IsRest (treeAt 64 levels rows) left (last .next)
-  pub cells : last .taken + boxesRest (treeAt 64 levels rows) left (last .next) ≤ 64
-  pub is : restRun readings (treeAt 64 levels rows) block left (last .next) (outcome w opened n last) ≡ restRun readings (treeAt 64 levels rows) block (fieldAt rows block 1) (block + 1) (stateAt w₀ taken [], empty)
-
-module _ (rows : List ℕ) (block levels : ℕ) (readings : List ℤ) (w₀ opened₀ : List ℕ) (n taken : ℕ) where
-  abbrev first : Standing
-  first = record { fault = 0; term = block; kind = 0; payload = 0; taken = taken; opened = n; next = block + 1 }
-
-  first-outcome : _≡_ {A = Outcome} (outcome w₀ opened₀ n first) (stateAt w₀ taken [], empty)
-  unfolding since
-  first-outcome = let z : n - n ≡ 0 = omega arith in rw (z, empty-is)
-
-  pub going-starts : BlockReady rows block levels readings w₀ opened₀ n taken
-      → Going rows block levels readings w₀ opened₀ n taken w₀ opened₀ (fieldAt rows block 1) (record { fault = 0; term = block; kind = 0; payload = 0; taken = taken; opened = n; next = block + 1 })
-  going-starts g = record {
-    fine = refl;
-    ready = g .ready;
-    sound = empty-sound;
-    opens = record { kept = λ k h. refl; more = omega arith; few = omega arith; listed = g .ready .listed; room = let z = g .room in omega arith };
-    rest = g .is;
-    cells = g .cells;
-    is = ap (restRun readings (treeAt 64 levels rows) block (fieldAt rows block 1) (block + 1)) first-outcome;
-  }
-
-  module _ (w opened : List ℕ) (left₁ : ℕ) (last : Standing) (g : Going rows block levels readings w₀ opened₀ n taken w opened left₁ last) where
-    pub going-ends : left₁ ≤ 0 → BlockRan rows block levels readings w₀ opened₀ n taken w opened last
-    unfolding restRun
-    going-ends h = record {
-      tidy = g .ready .tidy;
-      is =
-          stood-goes w opened n last (g .fine)
-          ∙ ap (λ (m : ℕ). restRun readings (treeAt 64 levels rows) block m (last .next) (outcome w opened n last)) (let z : 0 ≡ left₁ = omega arith in z)
-          ∙ g .is;
-      sound = λ z. g .sound;
-      opens = λ z. g .opens;
-    }
-
-    module _ (any : 0 < left₁) (w₁ : List ℕ) (m : ℕ) (d : Dropped w (last .kind) (last .payload) w₁ m) where
-      drop-is : left w₁ (last .taken) (since opened n (last .opened - n)) block m ≡ dropValue block (stateAt w (last .taken) (since opened n (last .opened - n))) (valueOf (last .kind) (last .payload))
-      drop-is = d .is block (last .taken) (since opened n (last .opened - n)) (g .ready .ordered)
-
-      turn : (seen (left w₁ (last .taken) (since opened n (last .opened - n)) block m) >>= λ s. runsAt readings block (severalAt (treeAt 64 levels rows) (left₁ - 1) (last .next)) s)
-          ≡ restRun readings (treeAt 64 levels rows) block (fieldAt rows block 1) (block + 1) (stateAt w₀ taken [], empty)
-      turn =
-          ap (λ (x : Ran State). seen x >>= λ s. runsAt readings block (severalAt (treeAt 64 levels rows) (left₁ - 1) (last .next)) s) drop-is
-          ∙ sym (rest-drop readings block (treeAt 64 levels rows) left₁ (last .next) (outcome w opened n last) any)
-          ∙ g .is
-
-      -- The drop faults.
-      pub going-drops : (m ≡ 0 → ⊥) → (r : Standing) → r ≡ withoutValue last m block → BlockRan rows block levels readings w₀ opened₀ n taken w₁ opened r
-      unfolding withoutValue stood seen _>>=_
-      going-drops z r e = record {
-        tidy = d .tidy;
-        is =
-            ap (stood w₁ opened n) e ∙ stood-stops w₁ opened n (withoutValue last m block) z
-            ∙ sym (ap (λ (x : Ran State). seen x >>= λ s. runsAt readings block (severalAt (treeAt 64 levels rows) (left₁ - 1) (last .next)) s) (left-stops w₁ (last .taken) (since opened n (last .opened - n)) block m z))
-            ∙ turn;
-        sound = λ y. absurd (z (sym (ap (λ (x : Standing). x .fault) e) ∙ y));
-        opens = λ y. absurd (z (sym (ap (λ (x : Standing). x .fault) e) ∙ y));
-      }
-
-      module _ (z : m ≡ 0) where
-        gone : runsAt readings block (severalAt (treeAt 64 levels rows) (left₁ - 1) (last .next)) (stateAt w₁ (last .taken) (since opened n (last .opened - n)))
-            ≡ restRun readings (treeAt 64 levels rows) block (fieldAt rows block 1) (block + 1) (stateAt w₀ taken [], empty)
-        unfolding seen _>>=_
-        gone =
-            sym (ap (λ (x : Ran State). seen x >>= λ s. runsAt readings block (severalAt (treeAt 64 levels rows) (left₁ - 1) (last .next)) s) (left-goes w₁ (last .taken) (since opened n (last .opened - n)) block m z))
-            ∙ turn
-
-        ordered₁ : InOrder (stateAt w₁ (last .taken) [])
-        ordered₁ = drop-ordered block (stateAt w (last .taken) (since opened n (last .opened - n))) (valueOf (last .kind) (last .payload)) (g .ready .ordered) (stateAt w₁ (last .taken) (since opened n (last .opened - n)))
-            (sym drop-is ∙ left-goes w₁ (last .taken) (since opened n (last .opened - n)) block m z)
-
-        cells-now : last .taken + (boxesAt (treeAt 64 levels rows (last .next)) + boxesRest (treeAt 64 levels rows) (left₁ - 1) (endOf (treeAt 64 levels rows (last .next)))) ≤ 64
-        cells-now = let a = g .cells in let b = rest-cells (treeAt 64 levels rows) left₁ (last .next) any (g .rest) in omega arith
-
-        pub turn-ready : TermReady rows (last .next) levels readings w₁ opened (last .opened) (last .taken)
-        turn-ready = record {
-          ready = record { long = g .ready .long; eight = g .ready .eight; many = g .ready .many; tidy = d .tidy; ordered = ordered₁; few = g .ready .few; listed = g .ready .listed };
-          is = rest-first (treeAt 64 levels rows) left₁ (last .next) any (g .rest);
-          cells = let a = cells-now in omega arith;
-        }
-
-        module _ (w₂ opened₂ : List ℕ) (r : Standing) (t : TermRan rows (last .next) levels readings w₁ opened (last .opened) (last .taken) w₂ opened₂ r) where
-          stood-is : stood w₂ opened₂ n r ≡ runAt readings (treeAt 64 levels rows (last .next)) (stateAt w₁ (last .taken) (since opened n (last .opened - n)))
-          stood-is = t .is n (g .opens .more)
-
-          -- The term faults.
-          pub going-stops : (r .fault ≡ 0 → ⊥) → BlockRan rows block levels readings w₀ opened₀ n taken w₂ opened₂ r
-          going-stops y = record {
-            tidy = t .tidy;
-            is =
-                stood-stops w₂ opened₂ n r y
-                ∙ rest-stop readings block (stateAt w₁ (last .taken) (since opened n (last .opened - n))) (treeAt 64 levels rows) left₁ (last .next) _ any (g .rest) (sym (stood-stops w₂ opened₂ n r y) ∙ stood-is)
-                ∙ gone;
-            sound = λ x. absurd (y x);
-            opens = λ x. absurd (y x);
-          }
-
-          -- The term has an outcome.
-          pub going-goes : r .fault ≡ 0 → length opened₂ ≡ 512 → Going rows block levels readings w₀ opened₀ n taken w₂ opened₂ (left₁ - 1) r
-          going-goes y long =
-              let o = t .opens y in
-              let x = went-well readings (treeAt 64 levels rows (last .next)) (stateAt w₁ (last .taken) (since opened n (last .opened - n))) w₂ opened₂ n r y stood-is in
-              let f = term-fine rows (last .next) levels readings w₁ opened (last .opened) (last .taken) turn-ready w₂ opened₂ r t y in
-              let k = term-taken rows (last .next) levels readings w₁ opened (last .opened) (last .taken) turn-ready w₂ opened₂ r t y in
-              let c = cells-now in
-              let a = g .opens in
-              let a₁ = a .more in
-              let a₂ = a .few in
-              let o₁ = o .more in
-              let o₂ = o .few in
-              let b = g .ready .few in
-              record {
-                fine = y;
-                ready = record { long = g .ready .long; eight = g .ready .eight; many = long; tidy = t .tidy; ordered = f .ordered; few = omega arith; listed = o .listed };
-                sound = f .sound;
-                opens = record { kept = λ j h. o .kept j (omega arith) ∙ a .kept j h; more = omega arith; few = omega arith; listed = o .listed; room = o .room };
-                rest = rw (x .end) (rest-asks (treeAt 64 levels rows) left₁ (last .next) any (g .rest));
-                cells = rw (x .end) (omega arith);
-                is =
-                    ap (λ (j : ℕ). restRun readings (treeAt 64 levels rows) block (left₁ - 1) j (outcome w₂ opened₂ n r)) (x .end)
-                    ∙ rest-go readings block (stateAt w₁ (last .taken) (since opened n (last .opened - n))) (treeAt 64 levels rows) left₁ (last .next) (outcome w₂ opened₂ n r) any (g .rest) (x .ran)
-                    ∙ gone;
-              }
-
-pub going-enters : (rows : List ℕ) (i levels : ℕ) (readings : List ℤ) (w opened : List ℕ) (n taken : ℕ) → BlockReady rows i levels readings w opened n taken → (l : ℕ) → l ≡ fieldAt rows i 1 → (a : Standing) → a ≡ enteredAt i n taken → Going rows i levels readings w opened n taken w opened l a
-unfolding enteredAt
-going-enters rows i levels readings w opened n taken g l el a ea = rw (el, ea) (going-starts rows i levels readings w opened n taken g)
-
--- ---- the block as a term
-
--- Its first term drops no value.
+-- The first term of a block drops no value.
 terms-run : (readings : List ℤ) (f : ℕ → RowTree Term) (i n at : ℕ) (s : State) → IsTree (termsAt f n at) → restRun readings f i n at (s, empty) ≡ runsAt readings i (termsAt f n at) s
 unfolding restRun termsAt seen _>>=_
 terms-run readings f i zero at s h = absurd h
 terms-run readings f i (suc n) at s h = rw (drop-empty i s)
 
--- After a fault no rule counts.
-any-rule : (w opened : List ℕ) (begin : ℕ) (r : Standing) (f g : Outcome → Ran Outcome) → (r .fault ≡ 0 → ⊥) → sequel (stood w opened begin r) f ≡ sequel (stood w opened begin r) g
-unfolding sequel
-any-rule w opened begin r f g n = rw (stood-stops w opened begin r n)
+module _ (set : Limits) where
+  -- ---- a turn of the block's loop
 
-module _ (rows : List ℕ) (i levels : ℕ) (readings : List ℤ) (w opened : List ℕ) (n taken : ℕ) (g : TermReady rows i levels readings w opened n taken)
-    (e : fieldAt rows i 0 ≡ 11) where
-  abbrev terms : RowTree Terms
-  terms = termsAt (treeAt 64 (levels - 1) rows) (fieldAt rows i 1) (i + 1)
+  -- Where the loop stands: `left` terms after the term whose outcome `last` tells.
+  pub record Going (rows : List ℕ) (block levels : ℕ) (readings : List ℤ) (w₀ opened₀ : List ℕ) (n taken : ℕ) (w opened : List ℕ) (left : ℕ) (last : Standing) : Type 0 where
+    pub fine : last .fault ≡ 0
+    pub same : length opened ≡ length opened₀
+    pub ready : Ready set rows (last .next) readings w opened (last .opened) (last .taken)
+    pub sound : Sound set (last .kind) (last .payload)
+    pub opens : Opened set opened₀ opened n (last .opened) (block + 1) (last .next)
+    pub rest : IsRest (treeAt (set .variables) levels rows) left (last .next)
+    pub cells : last .taken + boxesRest (treeAt (set .variables) levels rows) left (last .next) ≤ set .boxes
+    pub is : restRun readings (treeAt (set .variables) levels rows) block left (last .next) (outcome set w opened n last) ≡ restRun readings (treeAt (set .variables) levels rows) block (fieldAt rows block 1) (block + 1) (stateAt set w₀ taken [], empty)
 
-  asks : IsTree terms
-  asks = block-inner 64 levels rows i (g .is) e
+  module _ (rows : List ℕ) (block levels : ℕ) (readings : List ℤ) (w₀ opened₀ : List ℕ) (n taken : ℕ) where
+    abbrev first : Standing
+    first = record { fault = 0; term = block; kind = 0; payload = 0; taken = taken; opened = n; next = block + 1 }
 
-  is-block : treeAt 64 levels rows i ≡ around (block i) terms
-  is-block = block-is 64 levels rows i (g .is) e
+    first-outcome : _≡_ {A = Outcome} (outcome set w₀ opened₀ n first) (stateAt set w₀ taken [], empty)
+    unfolding since
+    first-outcome = let z : n - n ≡ 0 = omega arith in rw (z, (empty-is set))
 
-  pub block-ready : BlockReady rows i (levels - 1) readings w opened n taken
-  unfolding boxesIn
-  block-ready = record {
-    ready = next-ready rows i readings w opened n taken (g .ready);
-    room = omega (arith, term-room rows i levels readings w opened n taken g);
-    is = block-rest 64 levels rows i (g .is) e (fieldAt rows i 1) refl;
-    cells = omega (arith, g .cells, ap boxesAt is-block, around-cells (block i) boxesAll boxesIn 0 (λ ts. omega arith) terms asks);
-  }
-
-  module _ (w₁ opened₁ : List ℕ) (inner : Standing) (t : BlockRan rows i (levels - 1) readings w opened n taken w₁ opened₁ inner) where
-    runs-is : stood w₁ opened₁ n inner ≡ runsAt readings i terms (stateAt w taken [])
-    runs-is = t .is ∙ terms-run readings (treeAt 64 (levels - 1) rows) i (fieldAt rows i 1) (i + 1) (stateAt w taken []) asks
-
-    runs-fine : (ds : RowTree Terms) → IsTree ds → inner .fault ≡ 0 → stood w₁ opened₁ n inner ≡ runsAt readings i ds (stateAt w taken []) → InOrder (stateAt w₁ (inner .taken) [])
-    unfolding stoodOn ranOn endOf
-    runs-fine none h z q = absurd h
-    runs-fine (some r) h z q =
-        keeps-ok (runs-ordered (bitsOf readings) (r .0) i (stateAt w taken []) (g .ready .ordered)) (outcome w₁ opened₁ n inner) (same-ran (runs (bitsOf readings) (r .0) i (stateAt w taken [])) (outcome w₁ opened₁ n inner) (inner .next) (r .1) (sym (stood-goes w₁ opened₁ n inner z) ∙ q) .0)
-
-    pub block-ending : length opened₁ ≡ 512 → EndReady w₁ opened₁ n inner
-    block-ending long = record {
-      ready = record { tidy = t .tidy; fine = λ z. record { sound = t .sound z; ordered = runs-fine terms asks z runs-is } };
-      listed = λ z. t .opens z .listed;
-      begun = λ z. t .opens z .more;
-      few = λ z. let o = t .opens z in let a = o .few in let b = o .room in let c = g .ready .few in omega arith;
+    pub going-starts : BlockReady set rows block levels readings w₀ opened₀ n taken
+        → Going rows block levels readings w₀ opened₀ n taken w₀ opened₀ (fieldAt rows block 1) (record { fault = 0; term = block; kind = 0; payload = 0; taken = taken; opened = n; next = block + 1 })
+    going-starts g = record {
+      fine = refl;
+      same = refl;
+      ready = g .ready;
+      sound = (empty-sound set);
+      opens = record { kept = λ k h. refl; more = omega arith; few = omega arith; listed = g .ready .listed; room = let z = g .room in omega arith };
+      rest = g .is;
+      cells = g .cells;
+      is = ap (restRun readings (treeAt (set .variables) levels rows) block (fieldAt rows block 1) (block + 1)) first-outcome;
     }
 
-    pub block-returns : (w₂ : List ℕ) (r : Standing) → BlockClosed w₁ opened₁ i n inner w₂ r → TermRan rows i levels readings w opened n taken w₂ opened₁ r
-    unfolding run
-    block-returns w₂ r b = record {
-      tidy = b .tidy;
-      is = λ begin h.
-          b .is begin ∙ same-rule begin h (ℕ-discrete (inner .fault) 0)
-          ∙ ap (λ (m : Stood). sequel m (λ o. runBlockEnd i (since opened begin (n - begin)) o)) runs-is
-          ∙ around-run readings (block i) (λ ts. runs (bitsOf readings) ts i) (λ o. runBlockEnd i (since opened begin (n - begin)) o) (stateAt w taken (since opened begin (n - begin))) (stateAt w taken []) (λ ts. refl) terms asks
-          ∙ ap (λ (d : RowTree Term). runAt readings d (stateAt w taken (since opened begin (n - begin)))) (sym is-block);
-      sound = λ z. b .went z .sound;
-      opens = λ z.
-          let o = t .opens (b .went z .fine) in
-          let a = o .few in
-          let m = o .more in
-          let c = b .count z in
-          let q = b .went z .next in
-          record { kept = o .kept; more = omega arith; few = omega arith; listed = λ k h. o .listed k (omega arith); room = rw q (o .room) };
+    module _ (w opened : List ℕ) (left₁ : ℕ) (last : Standing) (g : Going rows block levels readings w₀ opened₀ n taken w opened left₁ last) where
+      pub going-ends : left₁ ≤ 0 → BlockRan set rows block levels readings w₀ opened₀ n taken w opened last
+      unfolding restRun
+      going-ends h = record {
+        tidy = g .ready .tidy;
+        is =
+            stood-goes set w opened n last (g .fine)
+            ∙ ap (λ (m : ℕ). restRun readings (treeAt (set .variables) levels rows) block m (last .next) (outcome set w opened n last)) (let z : 0 ≡ left₁ = omega arith in z)
+            ∙ g .is;
+        sound = λ z. g .sound;
+        opens = λ z. g .opens;
+      }
+
+      module _ (any : 0 < left₁) (w₁ : List ℕ) (m : ℕ) (d : Dropped set w (last .kind) (last .payload) w₁ m) where
+        drop-is : left set w₁ (last .taken) (since opened n (last .opened - n)) block m ≡ dropValue block (stateAt set w (last .taken) (since opened n (last .opened - n))) (valueOf set (last .kind) (last .payload))
+        drop-is = d .is block (last .taken) (since opened n (last .opened - n)) (g .ready .ordered)
+
+        turn : (seen (left set w₁ (last .taken) (since opened n (last .opened - n)) block m) >>= λ s. runsAt readings block (severalAt (treeAt (set .variables) levels rows) (left₁ - 1) (last .next)) s)
+            ≡ restRun readings (treeAt (set .variables) levels rows) block (fieldAt rows block 1) (block + 1) (stateAt set w₀ taken [], empty)
+        turn =
+            ap (λ (x : Ran State). seen x >>= λ s. runsAt readings block (severalAt (treeAt (set .variables) levels rows) (left₁ - 1) (last .next)) s) drop-is
+            ∙ sym (rest-drop readings block (treeAt (set .variables) levels rows) left₁ (last .next) (outcome set w opened n last) any)
+            ∙ g .is
+
+        -- The drop faults.
+        pub going-drops : (m ≡ 0 → ⊥) → (r : Standing) → r ≡ withoutValue last m block → BlockRan set rows block levels readings w₀ opened₀ n taken w₁ opened r
+        unfolding withoutValue stood seen _>>=_
+        going-drops z r e = record {
+          tidy = d .tidy;
+          is =
+              ap (stood set w₁ opened n) e ∙ stood-stops set w₁ opened n (withoutValue last m block) z
+              ∙ sym (ap (λ (x : Ran State). seen x >>= λ s. runsAt readings block (severalAt (treeAt (set .variables) levels rows) (left₁ - 1) (last .next)) s) (left-stops set w₁ (last .taken) (since opened n (last .opened - n)) block m z))
+              ∙ turn;
+          sound = λ y. absurd (z (sym (ap (λ (x : Standing). x .fault) e) ∙ y));
+          opens = λ y. absurd (z (sym (ap (λ (x : Standing). x .fault) e) ∙ y));
+        }
+
+        module _ (z : m ≡ 0) where
+          gone : runsAt readings block (severalAt (treeAt (set .variables) levels rows) (left₁ - 1) (last .next)) (stateAt set w₁ (last .taken) (since opened n (last .opened - n)))
+              ≡ restRun readings (treeAt (set .variables) levels rows) block (fieldAt rows block 1) (block + 1) (stateAt set w₀ taken [], empty)
+          unfolding seen _>>=_
+          gone =
+              sym (ap (λ (x : Ran State). seen x >>= λ s. runsAt readings block (severalAt (treeAt (set .variables) levels rows) (left₁ - 1) (last .next)) s) (left-goes set w₁ (last .taken) (since opened n (last .opened - n)) block m z))
+              ∙ turn
+
+          ordered₁ : InOrder (stateAt set w₁ (last .taken) [])
+          ordered₁ = drop-ordered block (stateAt set w (last .taken) (since opened n (last .opened - n))) (valueOf set (last .kind) (last .payload)) (g .ready .ordered) (stateAt set w₁ (last .taken) (since opened n (last .opened - n)))
+              (sym drop-is ∙ left-goes set w₁ (last .taken) (since opened n (last .opened - n)) block m z)
+
+          cells-now : last .taken + (boxesAt (treeAt (set .variables) levels rows (last .next)) + boxesRest (treeAt (set .variables) levels rows) (left₁ - 1) (endOf (treeAt (set .variables) levels rows (last .next)))) ≤ set .boxes
+          cells-now = let a = g .cells in let b = rest-cells (treeAt (set .variables) levels rows) left₁ (last .next) any (g .rest) in omega arith
+
+          pub turn-ready : TermReady set rows (last .next) levels readings w₁ opened (last .opened) (last .taken)
+          turn-ready = record {
+            ready = record { long = g .ready .long; eight = g .ready .eight; many = g .ready .many; tidy = d .tidy; ordered = ordered₁; few = g .ready .few; listed = g .ready .listed };
+            is = rest-first (treeAt (set .variables) levels rows) left₁ (last .next) any (g .rest);
+            cells = let a = cells-now in omega arith;
+          }
+
+          module _ (w₂ opened₂ : List ℕ) (r : Standing) (t : TermRan set rows (last .next) levels readings w₁ opened (last .opened) (last .taken) w₂ opened₂ r) where
+            stood-is : stood set w₂ opened₂ n r ≡ runAt readings (treeAt (set .variables) levels rows (last .next)) (stateAt set w₁ (last .taken) (since opened n (last .opened - n)))
+            stood-is = t .is n (g .opens .more)
+
+            -- The term faults.
+            pub going-stops : (r .fault ≡ 0 → ⊥) → BlockRan set rows block levels readings w₀ opened₀ n taken w₂ opened₂ r
+            going-stops y = record {
+              tidy = t .tidy;
+              is =
+                  stood-stops set w₂ opened₂ n r y
+                  ∙ rest-stop readings block (stateAt set w₁ (last .taken) (since opened n (last .opened - n))) (treeAt (set .variables) levels rows) left₁ (last .next) _ any (g .rest) (sym (stood-stops set w₂ opened₂ n r y) ∙ stood-is)
+                  ∙ gone;
+              sound = λ x. absurd (y x);
+              opens = λ x. absurd (y x);
+            }
+
+            -- The term has an outcome.
+            pub going-goes : r .fault ≡ 0 → length opened₂ ≡ length opened → Going rows block levels readings w₀ opened₀ n taken w₂ opened₂ (left₁ - 1) r
+            going-goes y long =
+                let o = t .opens y in
+                let x = went-well set readings (treeAt (set .variables) levels rows (last .next)) (stateAt set w₁ (last .taken) (since opened n (last .opened - n))) w₂ opened₂ n r y stood-is in
+                let f = term-fine set rows (last .next) levels readings w₁ opened (last .opened) (last .taken) turn-ready w₂ opened₂ r t y in
+                let k = term-taken set rows (last .next) levels readings w₁ opened (last .opened) (last .taken) turn-ready w₂ opened₂ r t y in
+                let c = cells-now in
+                let a = g .opens in
+                let a₁ = a .more in
+                let a₂ = a .few in
+                let o₁ = o .more in
+                let o₂ = o .few in
+                let b = g .ready .few in
+                record {
+                  fine = y;
+                  same = long ∙ g .same;
+                  ready = record { long = g .ready .long; eight = g .ready .eight; many = omega (arith, g .ready .many); tidy = t .tidy; ordered = f .ordered; few = omega arith; listed = o .listed };
+                  sound = f .sound;
+                  opens = record { kept = λ j h. o .kept j (omega arith) ∙ a .kept j h; more = omega arith; few = omega arith; listed = o .listed; room = o .room };
+                  rest = rw (x .end) (rest-asks (treeAt (set .variables) levels rows) left₁ (last .next) any (g .rest));
+                  cells = rw (x .end) (omega arith);
+                  is =
+                      ap (λ (j : ℕ). restRun readings (treeAt (set .variables) levels rows) block (left₁ - 1) j (outcome set w₂ opened₂ n r)) (x .end)
+                      ∙ rest-go readings block (stateAt set w₁ (last .taken) (since opened n (last .opened - n))) (treeAt (set .variables) levels rows) left₁ (last .next) (outcome set w₂ opened₂ n r) any (g .rest) (x .ran)
+                      ∙ gone;
+                }
+
+  pub going-enters : (rows : List ℕ) (i levels : ℕ) (readings : List ℤ) (w opened : List ℕ) (n taken : ℕ) → BlockReady set rows i levels readings w opened n taken → (l : ℕ) → l ≡ fieldAt rows i 1 → (a : Standing) → a ≡ enteredAt i n taken → Going rows i levels readings w opened n taken w opened l a
+  unfolding enteredAt
+  going-enters rows i levels readings w opened n taken g l el a ea = rw (el, ea) (going-starts rows i levels readings w opened n taken g)
+
+  -- ---- the block as a term
+
+  -- After a fault no rule counts.
+  any-rule : (w opened : List ℕ) (begin : ℕ) (r : Standing) (f g : Outcome → Ran Outcome) → (r .fault ≡ 0 → ⊥) → sequel (stood set w opened begin r) f ≡ sequel (stood set w opened begin r) g
+  unfolding sequel
+  any-rule w opened begin r f g n = rw (stood-stops set w opened begin r n)
+
+  module _ (rows : List ℕ) (i levels : ℕ) (readings : List ℤ) (w opened : List ℕ) (n taken : ℕ) (g : TermReady set rows i levels readings w opened n taken)
+      (e : fieldAt rows i 0 ≡ 11) where
+    abbrev terms : RowTree Terms
+    terms = termsAt (treeAt (set .variables) (levels - 1) rows) (fieldAt rows i 1) (i + 1)
+
+    asks : IsTree terms
+    asks = block-inner (set .variables) levels rows i (g .is) e
+
+    is-block : treeAt (set .variables) levels rows i ≡ around (block i) terms
+    is-block = block-is (set .variables) levels rows i (g .is) e
+
+    pub block-ready : BlockReady set rows i (levels - 1) readings w opened n taken
+    unfolding boxesIn
+    block-ready = record {
+      ready = next-ready set rows i readings w opened n taken (g .ready);
+      room = omega (arith, term-room set rows i levels readings w opened n taken g);
+      is = block-rest (set .variables) levels rows i (g .is) e (fieldAt rows i 1) refl;
+      cells = omega (arith, g .cells, ap boxesAt is-block, around-cells (block i) boxesAll boxesIn 0 (λ ts. omega arith) terms asks);
     }
-      where
-        same-rule : (begin : ℕ) → begin ≤ n → Dec (inner .fault ≡ 0)
-            → sequel (stood w₁ opened₁ n inner) (λ o. runBlockEnd i (since opened₁ begin (n - begin)) o) ≡ sequel (stood w₁ opened₁ n inner) (λ o. runBlockEnd i (since opened begin (n - begin)) o)
-        same-rule begin h (yes z) = ap (λ (l : List ℕ). sequel (stood w₁ opened₁ n inner) (λ o. runBlockEnd i l o)) (since-kept opened₁ opened begin n h (t .opens z .kept))
-        same-rule begin h (no z) = any-rule w₁ opened₁ n inner _ _ z
+
+    module _ (w₁ opened₁ : List ℕ) (inner : Standing) (t : BlockRan set rows i (levels - 1) readings w opened n taken w₁ opened₁ inner) where
+      runs-is : stood set w₁ opened₁ n inner ≡ runsAt readings i terms (stateAt set w taken [])
+      runs-is = t .is ∙ terms-run readings (treeAt (set .variables) (levels - 1) rows) i (fieldAt rows i 1) (i + 1) (stateAt set w taken []) asks
+
+      runs-fine : (ds : RowTree Terms) → IsTree ds → inner .fault ≡ 0 → stood set w₁ opened₁ n inner ≡ runsAt readings i ds (stateAt set w taken []) → InOrder (stateAt set w₁ (inner .taken) [])
+      unfolding stoodOn ranOn endOf
+      runs-fine none h z q = absurd h
+      runs-fine (some r) h z q =
+          keeps-ok (runs-ordered (bitsOf readings) (r .0) i (stateAt set w taken []) (g .ready .ordered)) (outcome set w₁ opened₁ n inner) (same-ran (runs (bitsOf readings) (r .0) i (stateAt set w taken [])) (outcome set w₁ opened₁ n inner) (inner .next) (r .1) (sym (stood-goes set w₁ opened₁ n inner z) ∙ q) .0)
+
+      pub block-ending : length opened₁ ≡ length opened → EndReady set w₁ opened₁ n inner
+      block-ending long = record {
+        ready = record { tidy = t .tidy; fine = λ z. record { sound = t .sound z; ordered = runs-fine terms asks z runs-is } };
+        listed = λ z. t .opens z .listed;
+        begun = λ z. t .opens z .more;
+        few = λ z. let o = t .opens z in let a = o .few in let b = o .room in let c = g .ready .few in let d = g .ready .many in omega arith;
+      }
+
+      pub block-returns : (w₂ : List ℕ) (r : Standing) → BlockClosed set w₁ opened₁ i n inner w₂ r → TermRan set rows i levels readings w opened n taken w₂ opened₁ r
+      unfolding run
+      block-returns w₂ r b = record {
+        tidy = b .tidy;
+        is = λ begin h.
+            b .is begin ∙ same-rule begin h (ℕ-discrete (inner .fault) 0)
+            ∙ ap (λ (m : Stood). sequel m (λ o. runBlockEnd i (since opened begin (n - begin)) o)) runs-is
+            ∙ around-run readings (block i) (λ ts. runs (bitsOf readings) ts i) (λ o. runBlockEnd i (since opened begin (n - begin)) o) (stateAt set w taken (since opened begin (n - begin))) (stateAt set w taken []) (λ ts. refl) terms asks
+            ∙ ap (λ (d : RowTree Term). runAt readings d (stateAt set w taken (since opened begin (n - begin)))) (sym is-block);
+        sound = λ z. b .went z .sound;
+        opens = λ z.
+            let o = t .opens (b .went z .fine) in
+            let a = o .few in
+            let m = o .more in
+            let c = b .count z in
+            let q = b .went z .next in
+            record { kept = o .kept; more = omega arith; few = omega arith; listed = λ k h. o .listed k (omega arith); room = rw q (o .room) };
+      }
+        where
+          same-rule : (begin : ℕ) → begin ≤ n → Dec (inner .fault ≡ 0)
+              → sequel (stood set w₁ opened₁ n inner) (λ o. runBlockEnd i (since opened₁ begin (n - begin)) o) ≡ sequel (stood set w₁ opened₁ n inner) (λ o. runBlockEnd i (since opened begin (n - begin)) o)
+          same-rule begin h (yes z) = ap (λ (l : List ℕ). sequel (stood set w₁ opened₁ n inner) (λ o. runBlockEnd i l o)) (since-kept opened₁ opened begin n h (t .opens z .kept))
+          same-rule begin h (no z) = any-rule w₁ opened₁ n inner _ _ z

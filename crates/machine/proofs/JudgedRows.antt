@@ -5,7 +5,7 @@ use mathlib.Core.Option.{some}
 use mathlib.Core.List.{List}
 use lib.ListN.{length, getD}
 use Rattle.reader.specs.Result.{ok}
-use Rattle.reader.specs.Limits.{base, rowNumbers}
+use Rattle.reader.specs.Limits.{Limits, rowNumbers}
 use Rattle.reader.specs.Script.{Term}
 use Rattle.reader.specs.Kinds.{byteOf}
 use Rattle.reader.specs.Reader.{decode}
@@ -19,18 +19,18 @@ use Rattle.reader.proofs.RowTrees.{tree-stands}
 use Rattle.reader.proofs.Lists.{under-all}
 
 -- What the machine's code may rely on.
-pub record Runnable (rows : List ℕ) (t : Term) : Type 0 where
-  pub is : treeAt 64 16 rows 0 ≡ some (t, size t)
-  pub cells : boxesIn t ≤ 64
+pub record Runnable (set : Limits) (rows : List ℕ) (t : Term) : Type 0 where
+  pub is : treeAt (set .variables) (set .levels) rows 0 ≡ some (t, size t)
+  pub cells : boxesIn t ≤ set .boxes
   pub root : fieldAt rows 0 0 ≡ 11
 
-pub judged : (rows : List ℕ) (t : Term) → ((j : ℕ) → getD rows j 0 < 4294967296) → length rows ≡ 2560 → decode base rows ≡ ok t → Runnable rows t
-unfolding rowNumbers base byteOf
-judged rows t w e h =
+pub judged : (set : Limits) (rows : List ℕ) (t : Term) → ((j : ℕ) → getD rows j 0 < 4294967296) → length rows ≡ rowNumbers set → decode set rows ≡ ok t → Runnable set rows t
+unfolding byteOf
+judged set rows t w e h =
     let u : Under 4294967296 rows = under-all 4294967296 rows w in
-    let q = decoded base rows t u e h .1 in
+    let q = decoded set rows t u e h .1 in
     record {
-      is = tree-stands base rows t u e h;
+      is = tree-stands set rows t u e h;
       cells = q .boxes;
-      root = row rows 0 t (stands base rows t u e h) .kind ∙ ap byteOf (q .outermost);
+      root = row rows 0 t (stands set rows t u e h) .kind ∙ ap byteOf (q .outermost);
     }

@@ -8,6 +8,7 @@ use mathlib.Core.List.{List}
 use lib.Dec.{ltb}
 use lib.IntN.{ℤ}
 use borrow.Author.Tests.{ltb-true}
+use Rattle.reader.specs.Limits.{Limits}
 use Rattle.reader.specs.Script.{Term, reading, copy, move, below, block}
 use Rattle.reader.specs.Kinds.{Kind, kNumber, kReading, kCopy, kMove, kShared, kExclusive, kBox, kLet, kAssign, kBelow, kBlock, byteOf, kindOf}
 use Rattle.reader.specs.RowParts.{fieldAt}
@@ -22,151 +23,152 @@ use Rattle.machine.specs.Parts.{stateAt, Copied, Moved, Borrowed, Compar
 use Rattle.machine.specs.declared.locate.Gave.{Gave}
 use Rattle.machine.proofs.LeafLaws.{Numbers, numbers-sound, numbers-gave}
 
--- Such a kind asks nothing of what is inside.
-pub leaf-is : (l : ℕ) (rows : List ℕ) (i k : ℕ) → IsTree (treeAt 64 l rows i) → k ≡ fieldAt rows i 0 → (k ≡ 7 → ⊥) × (k ≡ 8 → ⊥) × (k ≡ 9 → ⊥) → (k ≡ 11 → ⊥) → treeAt 64 l rows i ≡ leafAt rows i
-unfolding leafAt kindAt byteOf
-leaf-is l rows i k good ek n d = tree-kind 64 l rows i (kindOf 1 (fieldAt rows i 0)) good refl ∙ go (kindOf 1 (fieldAt rows i 0)) (ap (kindOf 1) ek)
-  where
-    go : (o : Option Kind) → kindOf 1 k ≡ o → kindAt o 64 (treeAt 64 (l - 1) rows) rows i ≡ kindAt o 64 (λ j. none) rows i
-    go none h = refl
-    go (some kNumber) h = refl
-    go (some kReading) h = refl
-    go (some kCopy) h = refl
-    go (some kMove) h = refl
-    go (some kShared) h = refl
-    go (some kExclusive) h = refl
-    go (some kBox) h = absurd (n .0 (sym (found 1 k kBox h)))
-    go (some kLet) h = absurd (n .1 (sym (found 1 k kLet h)))
-    go (some kAssign) h = absurd (n .2 (sym (found 1 k kAssign h)))
-    go (some kBelow) h = refl
-    go (some kBlock) h = absurd (d (sym (found 1 k kBlock h)))
-
 -- No block stands where no term does.
 no-block : (i n j : ℕ) → IsTree (around (block i) (termsAt (λ k. none) n j)) → ⊥
 unfolding termsAt
 no-block i zero j h = h
 no-block i (suc n) j h = rest-first (λ k. none) (suc n) j (omega arith) (around-inner (block i) (severalAt (λ k. none) n j) h)
 
--- Each leaf is one row.
-pub leaf-end : (rows : List ℕ) (i : ℕ) → IsTree (leafAt rows i) → endOf (leafAt rows i) ≡ i + 1
-unfolding leafAt kindAt endOf
-leaf-end rows i good = go (kindOf 1 (fieldAt rows i 0)) good
-  where
-    one : (b : Bool) (t : Term) → IsTree (onlyIf b (some (t, i + 1))) → endOf (onlyIf b (some (t, i + 1))) ≡ i + 1
-    one b t h = ap endOf (only-is b (some (t, i + 1)) h)
+module _ (set : Limits) where
+  -- Such a kind asks nothing of what is inside.
+  pub leaf-is : (l : ℕ) (rows : List ℕ) (i k : ℕ) → IsTree (treeAt (set .variables) l rows i) → k ≡ fieldAt rows i 0 → (k ≡ 7 → ⊥) × (k ≡ 8 → ⊥) × (k ≡ 9 → ⊥) → (k ≡ 11 → ⊥) → treeAt (set .variables) l rows i ≡ leafAt set rows i
+  unfolding leafAt kindAt byteOf
+  leaf-is l rows i k good ek n d = tree-kind (set .variables) l rows i (kindOf 1 (fieldAt rows i 0)) good refl ∙ go (kindOf 1 (fieldAt rows i 0)) (ap (kindOf 1) ek)
+    where
+      go : (o : Option Kind) → kindOf 1 k ≡ o → kindAt o (set .variables) (treeAt (set .variables) (l - 1) rows) rows i ≡ kindAt o (set .variables) (λ j. none) rows i
+      go none h = refl
+      go (some kNumber) h = refl
+      go (some kReading) h = refl
+      go (some kCopy) h = refl
+      go (some kMove) h = refl
+      go (some kShared) h = refl
+      go (some kExclusive) h = refl
+      go (some kBox) h = absurd (n .0 (sym (found 1 k kBox h)))
+      go (some kLet) h = absurd (n .1 (sym (found 1 k kLet h)))
+      go (some kAssign) h = absurd (n .2 (sym (found 1 k kAssign h)))
+      go (some kBelow) h = refl
+      go (some kBlock) h = absurd (d (sym (found 1 k kBlock h)))
 
-    go : (o : Option Kind) → IsTree (kindAt o 64 (λ j. none) rows i) → endOf (kindAt o 64 (λ j. none) rows i) ≡ i + 1
-    go none h = absurd h
-    go (some kNumber) h = refl
-    go (some kReading) h = one (ltb (fieldAt rows i 1) 8) _ h
-    go (some kCopy) h = one (ltb (fieldAt rows i 1) 64) _ h
-    go (some kMove) h = one (ltb (fieldAt rows i 1) 64) _ h
-    go (some kShared) h = one (ltb (fieldAt rows i 1) 64) _ h
-    go (some kExclusive) h = one (ltb (fieldAt rows i 1) 64) _ h
-    go (some kBox) h = absurd h
-    go (some kLet) h = absurd (only-in (ltb (fieldAt rows i 1) 64) none h)
-    go (some kAssign) h = absurd (only-in (ltb (fieldAt rows i 1) 64) none h)
-    go (some kBelow) h = rw (only-if (ltb (fieldAt rows i 1) 64) _ h) (one (ltb (fieldAt rows i 3) 64) _ (only-in (ltb (fieldAt rows i 1) 64) _ h))
-    go (some kBlock) h = absurd (no-block i (fieldAt rows i 1) (i + 1) h)
+  -- Each leaf is one row.
+  pub leaf-end : (rows : List ℕ) (i : ℕ) → IsTree (leafAt set rows i) → endOf (leafAt set rows i) ≡ i + 1
+  unfolding leafAt kindAt endOf
+  leaf-end rows i good = go (kindOf 1 (fieldAt rows i 0)) good
+    where
+      one : (b : Bool) (t : Term) → IsTree (onlyIf b (some (t, i + 1))) → endOf (onlyIf b (some (t, i + 1))) ≡ i + 1
+      one b t h = ap endOf (only-is b (some (t, i + 1)) h)
 
-module _ (rows : List ℕ) (i : ℕ) (good : IsTree (leafAt rows i)) where
-  by-kind : (k : Kind) → fieldAt rows i 0 ≡ byteOf k → leafAt rows i ≡ kindAt (some k) 64 (λ j. none) rows i
-  unfolding leafAt
-  by-kind k e = ap (λ (o : Option Kind). kindAt o 64 (λ j. none) rows i) (ap (kindOf 1) e ∙ has 1 k)
+      go : (o : Option Kind) → IsTree (kindAt o (set .variables) (λ j. none) rows i) → endOf (kindAt o (set .variables) (λ j. none) rows i) ≡ i + 1
+      go none h = absurd h
+      go (some kNumber) h = refl
+      go (some kReading) h = one (ltb (fieldAt rows i 1) 8) _ h
+      go (some kCopy) h = one (ltb (fieldAt rows i 1) (set .variables)) _ h
+      go (some kMove) h = one (ltb (fieldAt rows i 1) (set .variables)) _ h
+      go (some kShared) h = one (ltb (fieldAt rows i 1) (set .variables)) _ h
+      go (some kExclusive) h = one (ltb (fieldAt rows i 1) (set .variables)) _ h
+      go (some kBox) h = absurd h
+      go (some kLet) h = absurd (only-in (ltb (fieldAt rows i 1) (set .variables)) none h)
+      go (some kAssign) h = absurd (only-in (ltb (fieldAt rows i 1) (set .variables)) none h)
+      go (some kBelow) h = rw (only-if (ltb (fieldAt rows i 1) (set .variables)) _ h) (one (ltb (fieldAt rows i 3) (set .variables)) _ (only-in (ltb (fieldAt rows i 1) (set .variables)) _ h))
+      go (some kBlock) h = absurd (no-block i (fieldAt rows i 1) (i + 1) h)
 
-  -- A field that the row is tested for is below its bound.
-  tested : (x n : ℕ) (d : RowTree Term) → leafAt rows i ≡ onlyIf (ltb x n) d → (x < n) × (leafAt rows i ≡ d)
-  tested x n d e =
-      let t : IsTree (onlyIf (ltb x n) d) = rw e at good in
-      (ltb-true x n (only-if (ltb x n) d t), e ∙ only-is (ltb x n) d t)
+  module _ (rows : List ℕ) (i : ℕ) (good : IsTree (leafAt set rows i)) where
+    by-kind : (k : Kind) → fieldAt rows i 0 ≡ byteOf k → leafAt set rows i ≡ kindAt (some k) (set .variables) (λ j. none) rows i
+    unfolding leafAt
+    by-kind k e = ap (λ (o : Option Kind). kindAt o (set .variables) (λ j. none) rows i) (ap (kindOf 1) e ∙ has 1 k)
 
-  pub reading-leaf : fieldAt rows i 0 ≡ 2 → (fieldAt rows i 1 < 8) × (leafAt rows i ≡ some (reading i (fieldAt rows i 1), i + 1))
-  unfolding kindAt byteOf
-  reading-leaf e = tested (fieldAt rows i 1) 8 _ (by-kind kReading e)
+    -- A field that the row is tested for is below its bound.
+    tested : (x n : ℕ) (d : RowTree Term) → leafAt set rows i ≡ onlyIf (ltb x n) d → (x < n) × (leafAt set rows i ≡ d)
+    tested x n d e =
+        let t : IsTree (onlyIf (ltb x n) d) = rw e at good in
+        (ltb-true x n (only-if (ltb x n) d t), e ∙ only-is (ltb x n) d t)
 
-  pub copy-leaf : fieldAt rows i 0 ≡ 3 → (fieldAt rows i 1 < 64) × (leafAt rows i ≡ some (copy i (placeAt rows i 1), i + 1))
-  unfolding kindAt byteOf
-  copy-leaf e = tested (fieldAt rows i 1) 64 _ (by-kind kCopy e)
+    pub reading-leaf : fieldAt rows i 0 ≡ 2 → (fieldAt rows i 1 < 8) × (leafAt set rows i ≡ some (reading i (fieldAt rows i 1), i + 1))
+    unfolding kindAt byteOf
+    reading-leaf e = tested (fieldAt rows i 1) 8 _ (by-kind kReading e)
 
-  pub move-leaf : fieldAt rows i 0 ≡ 4 → (fieldAt rows i 1 < 64) × (leafAt rows i ≡ some (move i (placeAt rows i 1), i + 1))
-  unfolding kindAt byteOf
-  move-leaf e = tested (fieldAt rows i 1) 64 _ (by-kind kMove e)
+    pub copy-leaf : fieldAt rows i 0 ≡ 3 → (fieldAt rows i 1 < set .variables) × (leafAt set rows i ≡ some (copy i (placeAt rows i 1), i + 1))
+    unfolding kindAt byteOf
+    copy-leaf e = tested (fieldAt rows i 1) (set .variables) _ (by-kind kCopy e)
 
-  pub below-leaf : fieldAt rows i 0 ≡ 10 → (fieldAt rows i 1 < 64) × (fieldAt rows i 3 < 64) × (leafAt rows i ≡ some (below i (placeAt rows i 1) (placeAt rows i 3), i + 1))
-  unfolding kindAt byteOf
-  below-leaf e =
-      let first = tested (fieldAt rows i 1) 64 _ (by-kind kBelow e) in
-      let second = tested (fieldAt rows i 3) 64 _ (first .1) in
-      (first .0, second .0, second .1)
+    pub move-leaf : fieldAt rows i 0 ≡ 4 → (fieldAt rows i 1 < set .variables) × (leafAt set rows i ≡ some (move i (placeAt rows i 1), i + 1))
+    unfolding kindAt byteOf
+    move-leaf e = tested (fieldAt rows i 1) (set .variables) _ (by-kind kMove e)
 
-  -- ---- borrows, which are the kinds left
+    pub below-leaf : fieldAt rows i 0 ≡ 10 → (fieldAt rows i 1 < set .variables) × (fieldAt rows i 3 < set .variables) × (leafAt set rows i ≡ some (below i (placeAt rows i 1) (placeAt rows i 3), i + 1))
+    unfolding kindAt byteOf
+    below-leaf e =
+        let first = tested (fieldAt rows i 1) (set .variables) _ (by-kind kBelow e) in
+        let second = tested (fieldAt rows i 3) (set .variables) _ (first .1) in
+        (first .0, second .0, second .1)
 
-  module _ (k : ℕ) (ek : k ≡ fieldAt rows i 0) (a : k ≡ 1 → ⊥) (b : k ≡ 2 → ⊥) (c : k ≡ 3 → ⊥) (d : k ≡ 4 → ⊥) (e : k ≡ 10 → ⊥) where
-    pub borrow-leaf : (fieldAt rows i 1 < 64) × ((readings : List ℤ) (s : State) → runOn readings (leafAt rows i) s ≡ runBorrow s i (placeAt rows i 1))
-    unfolding leafAt kindAt byteOf ranOn run
-    borrow-leaf = go (kindOf 1 (fieldAt rows i 0)) (ap (kindOf 1) ek) good
-      where
-        go : (o : Option Kind) → kindOf 1 k ≡ o → IsTree (kindAt o 64 (λ j. none) rows i) → (fieldAt rows i 1 < 64) × ((readings : List ℤ) (s : State) → runOn readings (kindAt o 64 (λ j. none) rows i) s ≡ runBorrow s i (placeAt rows i 1))
-        go none h t = absurd t
-        go (some kNumber) h t = absurd (a (sym (found 1 k kNumber h)))
-        go (some kReading) h t = absurd (b (sym (found 1 k kReading h)))
-        go (some kCopy) h t = absurd (c (sym (found 1 k kCopy h)))
-        go (some kMove) h t = absurd (d (sym (found 1 k kMove h)))
-        go (some kShared) h t = let v = only-if (ltb (fieldAt rows i 1) 64) _ t in (ltb-true _ _ v, λ readings s. rw v)
-        go (some kExclusive) h t = let v = only-if (ltb (fieldAt rows i 1) 64) _ t in (ltb-true _ _ v, λ readings s. rw v)
-        go (some kBox) h t = absurd t
-        go (some kLet) h t = absurd (only-in (ltb (fieldAt rows i 1) 64) none t)
-        go (some kAssign) h t = absurd (only-in (ltb (fieldAt rows i 1) 64) none t)
-        go (some kBelow) h t = absurd (e (sym (found 1 k kBelow h)))
-        go (some kBlock) h t = absurd (no-block i (fieldAt rows i 1) (i + 1) t)
+    -- ---- borrows, which are the kinds left
 
-  -- ---- the run of each
+    module _ (k : ℕ) (ek : k ≡ fieldAt rows i 0) (a : k ≡ 1 → ⊥) (b : k ≡ 2 → ⊥) (c : k ≡ 3 → ⊥) (d : k ≡ 4 → ⊥) (e : k ≡ 10 → ⊥) where
+      pub borrow-leaf : (fieldAt rows i 1 < set .variables) × ((readings : List ℤ) (s : State) → runOn readings (leafAt set rows i) s ≡ runBorrow s i (placeAt rows i 1))
+      unfolding leafAt kindAt byteOf ranOn run
+      borrow-leaf = go (kindOf 1 (fieldAt rows i 0)) (ap (kindOf 1) ek) good
+        where
+          go : (o : Option Kind) → kindOf 1 k ≡ o → IsTree (kindAt o (set .variables) (λ j. none) rows i) → (fieldAt rows i 1 < set .variables) × ((readings : List ℤ) (s : State) → runOn readings (kindAt o (set .variables) (λ j. none) rows i) s ≡ runBorrow s i (placeAt rows i 1))
+          go none h t = absurd t
+          go (some kNumber) h t = absurd (a (sym (found 1 k kNumber h)))
+          go (some kReading) h t = absurd (b (sym (found 1 k kReading h)))
+          go (some kCopy) h t = absurd (c (sym (found 1 k kCopy h)))
+          go (some kMove) h t = absurd (d (sym (found 1 k kMove h)))
+          go (some kShared) h t = let v = only-if (ltb (fieldAt rows i 1) (set .variables)) _ t in (ltb-true _ _ v, λ readings s. rw v)
+          go (some kExclusive) h t = let v = only-if (ltb (fieldAt rows i 1) (set .variables)) _ t in (ltb-true _ _ v, λ readings s. rw v)
+          go (some kBox) h t = absurd t
+          go (some kLet) h t = absurd (only-in (ltb (fieldAt rows i 1) (set .variables)) none t)
+          go (some kAssign) h t = absurd (only-in (ltb (fieldAt rows i 1) (set .variables)) none t)
+          go (some kBelow) h t = absurd (e (sym (found 1 k kBelow h)))
+          go (some kBlock) h t = absurd (no-block i (fieldAt rows i 1) (i + 1) t)
 
-  module _ (readings : List ℤ) (w : List ℕ) where
-    pub leaf-number : fieldAt rows i 0 ≡ 1 → Tidy w → (n : ℕ) → n ≡ fieldAt rows i 1 → (g : Gave) → Numbers n g → LeafRan rows i readings w w g
-    unfolding kindAt byteOf ranOn run
-    leaf-number e t n q g s = record {
-      tidy = t;
-      sound = numbers-sound n g s;
-      is = λ taken opened. numbers-gave n g s w taken opened i ∙ rw q (sym (rw (by-kind kNumber e)));
-    }
+    -- ---- the run of each
 
-    pub leaf-reading : fieldAt rows i 0 ≡ 2 → Tidy w → (x n : ℕ) → x ≡ fieldAt rows i 1 → n ≡ bitsOf readings x → (g : Gave) → Numbers n g → LeafRan rows i readings w w g
-    unfolding ranOn run
-    leaf-reading e t x n p q g s = record {
-      tidy = t;
-      sound = numbers-sound n g s;
-      is = λ taken opened. numbers-gave n g s w taken opened i ∙ rw (q, p) (sym (rw (reading-leaf e .1)));
-    }
-
-    module _ (root follows : ℕ) (p : root ≡ fieldAt rows i 1) (q : follows ≡ fieldAt rows i 2) where
-      pub leaf-copy : fieldAt rows i 0 ≡ 3 → Tidy w → (g : Gave) → Copied w root follows g → LeafRan rows i readings w w g
-      unfolding ranOn run
-      leaf-copy e t g c = record {
+    module _ (readings : List ℤ) (w : List ℕ) where
+      pub leaf-number : fieldAt rows i 0 ≡ 1 → Tidy set w → (n : ℕ) → n ≡ fieldAt rows i 1 → (g : Gave) → Numbers n g → LeafRan set rows i readings w w g
+      unfolding kindAt byteOf ranOn run
+      leaf-number e t n q g s = record {
         tidy = t;
-        sound = c .sound;
-        is = λ taken opened. c .is i taken opened ∙ rw (p, q) (sym (rw (copy-leaf e .1)));
+        sound = numbers-sound set n g s;
+        is = λ taken opened. numbers-gave set n g s w taken opened i ∙ rw q (sym (rw (by-kind kNumber e)));
       }
 
-      pub leaf-move : fieldAt rows i 0 ≡ 4 → (w′ : List ℕ) (g : Gave) → Moved w root follows w′ g → LeafRan rows i readings w w′ g
+      pub leaf-reading : fieldAt rows i 0 ≡ 2 → Tidy set w → (x n : ℕ) → x ≡ fieldAt rows i 1 → n ≡ bitsOf readings x → (g : Gave) → Numbers n g → LeafRan set rows i readings w w g
       unfolding ranOn run
-      leaf-move e w′ g c = record {
-        tidy = c .tidy;
-        sound = c .sound;
-        is = λ taken opened. c .is i taken opened ∙ rw (p, q) (sym (rw (move-leaf e .1)));
+      leaf-reading e t x n p q g s = record {
+        tidy = t;
+        sound = numbers-sound set n g s;
+        is = λ taken opened. numbers-gave set n g s w taken opened i ∙ rw (q, p) (sym (rw (reading-leaf e .1)));
       }
 
-      pub leaf-below : fieldAt rows i 0 ≡ 10 → Tidy w → (other others : ℕ) → other ≡ fieldAt rows i 3 → others ≡ fieldAt rows i 4 → (g : Gave) → Compared w root follows other others g → LeafRan rows i readings w w g
-      unfolding ranOn run
-      leaf-below e t other others r s g c = record {
-        tidy = t;
-        sound = c .sound;
-        is = λ taken opened. c .is i taken opened ∙ rw (p, q, r, s) (sym (rw (below-leaf e .2)));
-      }
+      module _ (root follows : ℕ) (p : root ≡ fieldAt rows i 1) (q : follows ≡ fieldAt rows i 2) where
+        pub leaf-copy : fieldAt rows i 0 ≡ 3 → Tidy set w → (g : Gave) → Copied set w root follows g → LeafRan set rows i readings w w g
+        unfolding ranOn run
+        leaf-copy e t g c = record {
+          tidy = t;
+          sound = c .sound;
+          is = λ taken opened. c .is i taken opened ∙ rw (p, q) (sym (rw (copy-leaf e .1)));
+        }
 
-      pub leaf-borrow : (k : ℕ) → k ≡ fieldAt rows i 0 → (k ≡ 1 → ⊥) → (k ≡ 2 → ⊥) → (k ≡ 3 → ⊥) → (k ≡ 4 → ⊥) → (k ≡ 10 → ⊥) → Tidy w → (g : Gave) → Borrowed w root follows g → LeafRan rows i readings w w g
-      leaf-borrow k ek a b c d e t g x = record {
-        tidy = t;
-        sound = x .sound;
-        is = λ taken opened. x .is i taken opened ∙ rw (p, q) (sym (borrow-leaf k ek a b c d e .1 readings (stateAt w taken opened)));
-      }
+        pub leaf-move : fieldAt rows i 0 ≡ 4 → (w′ : List ℕ) (g : Gave) → Moved set w root follows w′ g → LeafRan set rows i readings w w′ g
+        unfolding ranOn run
+        leaf-move e w′ g c = record {
+          tidy = c .tidy;
+          sound = c .sound;
+          is = λ taken opened. c .is i taken opened ∙ rw (p, q) (sym (rw (move-leaf e .1)));
+        }
+
+        pub leaf-below : fieldAt rows i 0 ≡ 10 → Tidy set w → (other others : ℕ) → other ≡ fieldAt rows i 3 → others ≡ fieldAt rows i 4 → (g : Gave) → Compared set w root follows other others g → LeafRan set rows i readings w w g
+        unfolding ranOn run
+        leaf-below e t other others r s g c = record {
+          tidy = t;
+          sound = c .sound;
+          is = λ taken opened. c .is i taken opened ∙ rw (p, q, r, s) (sym (rw (below-leaf e .2)));
+        }
+
+        pub leaf-borrow : (k : ℕ) → k ≡ fieldAt rows i 0 → (k ≡ 1 → ⊥) → (k ≡ 2 → ⊥) → (k ≡ 3 → ⊥) → (k ≡ 4 → ⊥) → (k ≡ 10 → ⊥) → Tidy set w → (g : Gave) → Borrowed set w root follows g → LeafRan set rows i readings w w g
+        leaf-borrow k ek a b c d e t g x = record {
+          tidy = t;
+          sound = x .sound;
+          is = λ taken opened. x .is i taken opened ∙ rw (p, q) (sym (borrow-leaf k ek a b c d e .1 readings (stateAt set w taken opened)));
+        }

@@ -1,7 +1,8 @@
--- A whole run: what `run_judged` and `run` answer.
-use Prim.Native.Nat.{ℕ, _-_, _<_}
+-- A whole run: what `run_script`, `run_judged` and `run` answer.
+use Prim.Native.Nat.{ℕ, _-_, _≤_, _<_}
 use native.Mathlib.Omega.{arith}
 use mathlib.Core.Path.{_≡_, refl, sym, ap, _∙_}
+use mathlib.Core.Bool.{true, false}
 use mathlib.Core.Option.{none, some}
 use mathlib.Core.List.{List, []}
 use lib.IntN.{ℤ}
@@ -10,7 +11,7 @@ use mir.Syntax.{w32}
 use mir.Val.{toZ}
 use borrow.Author.Tests.{eq-eqb, ne-eqb}
 use Rattle.reader.specs.Result.{Result, ok, err, Refusal, need, _>>=_}
-use Rattle.reader.specs.Limits.{base, rowNumbers}
+use Rattle.reader.specs.Limits.{Limits, inRanges, rowNumbers, storeRows, storeNumbers}
 use Rattle.reader.specs.Script.{Term}
 use Rattle.reader.specs.Layout.{zeros}
 use Rattle.reader.specs.Measures.{size}
@@ -19,7 +20,8 @@ use Rattle.reader.specs.RowTrees.{RowTree, IsTree, treeAt}
 use Rattle.reader.specs.Answers.{told, rowsTree, judgedOf}
 use Rattle.reader.specs.declared.Outcome.the-variants as judgement
 use Rattle.reader.proofs.Answers.{then}
-use Rattle.reader.proofs.Promise.{tree-decoded}
+use Rattle.reader.proofs.Promise.{Decoded, tree-decoded}
+use Rattle.reader.proofs.Ranges.{Ranged, ranged}
 use Rattle.machine.specs.Values.{cell, closed}
 use Rattle.machine.specs.Store.{Store, State, Ran}
 use Rattle.machine.specs.Locate.{numberIn}
@@ -38,191 +40,206 @@ use Rattle.machine.proofs.TermLaws.{same-ran}
 use Rattle.machine.proofs.BlockRunLaws.{block-ready, block-ending, block-returns}
 use Rattle.machine.proofs.JudgedRows.{Runnable, judged}
 
--- ---- the end of a run
-
+-- The state in which a run begins.
 abbrev start : State
 start = record { store = λ l. closed; taken = 0; opened = [] }
-
--- What is left in the store after a fault.
-abbrev stopped : Stop → AnswerAndStore
-stopped s = (faulted (s .number) (s .term), encode 64 128 (s .store))
-
-module _ (readings : List ℤ) (t : Term) (w : List ℕ) (words : encode 64 128 (storeOf w) ≡ w) where
-  fault-ends : (m : Ran Outcome) (n i j : ℕ) → run (bitsOf readings) t start ≡ m → _≡_ {A = Stood} (err (record { number = n; term = i; store = storeOf w })) (atRow j (seen m))
-      → _≡_ {A = AnswerAndStore} (faulted n i, w) (ranInto base (runScript (bitsOf readings) t (λ x. closed)))
-  unfolding atRow seen runScript ranInto base _>>=_
-  fault-ends (ok o) n i j q e = let z : _≡_ {A = ℕ} 0 1 = cc in absurd (omega arith)
-  fault-ends (err f) n i j q e =
-      let p : _≡_ {A = Stop} (record { number = n; term = i; store = storeOf w }) (record { number = f .number; term = f .term; store = f .state .store }) = cc in
-      ap (λ (x : List ℕ). (faulted n i, x)) (sym words) ∙ ap stopped p ∙ sym (rw q)
-
-  module _ (taken : ℕ) (opened : List ℕ) (k p : ℕ) (q : run (bitsOf readings) t start ≡ ok (stateAt w taken opened, valueOf k p)) where
-    wrong-ends : (k ≡ 1 → ⊥) → _≡_ {A = AnswerAndStore} (faulted 61 0, w) (ranInto base (runScript (bitsOf readings) t (λ x. closed)))
-    unfolding runScript ranInto base _>>=_
-    wrong-ends n = ap (λ (x : List ℕ). (faulted 61 0, x)) (sym words) ∙ sym (rw (q, no-number (stateAt w taken opened) 0 k p n))
-
-    number-ends : k ≡ 1 → _≡_ {A = AnswerAndStore} (answered (toZ w32 p) taken, w) (ranInto base (runScript (bitsOf readings) t (λ x. closed)))
-    unfolding runScript ranInto base numberIn _>>=_
-    number-ends n = ap (λ (x : List ℕ). (answered (toZ w32 p) taken, x)) (sym words) ∙ sym (rw (q, value-number k p n))
-
--- The same of a term that stands in rows.
-module _ (readings : List ℤ) (w : List ℕ) (words : encode 64 128 (storeOf w) ≡ w) where
-  tree-faults : (d : RowTree Term) → IsTree d → (n i : ℕ) → _≡_ {A = Stood} (err (record { number = n; term = i; store = storeOf w })) (runAt readings d start) → _≡_ {A = AnswerAndStore} (faulted n i, w) (scriptOn readings d)
-  unfolding stoodOn ranOn endOf scriptOn
-  tree-faults none h n i q = absurd h
-  tree-faults (some t) h n i q = fault-ends readings (t .0) w words (run (bitsOf readings) (t .0) start) n i (t .1) refl q
-
-  module _ (opened : List ℕ) (r : Standing) where
-    tree-ran : (t : Term × ℕ) → _≡_ {A = Stood} (ok (outcome w opened 0 r, r .next)) (runAt readings (some t) start) → run (bitsOf readings) (t .0) start ≡ ok (outcome w opened 0 r)
-    unfolding stoodOn ranOn endOf
-    tree-ran t q = same-ran (run (bitsOf readings) (t .0) start) (outcome w opened 0 r) (r .next) (t .1) q .0
-
-    tree-wrong : (d : RowTree Term) → IsTree d → _≡_ {A = Stood} (ok (outcome w opened 0 r, r .next)) (runAt readings d start) → (r .kind ≡ 1 → ⊥) → _≡_ {A = AnswerAndStore} (faulted 61 0, w) (scriptOn readings d)
-    unfolding scriptOn
-    tree-wrong none h q k = absurd h
-    tree-wrong (some t) h q k = wrong-ends readings (t .0) w words (r .taken) (since opened 0 (r .opened - 0)) (r .kind) (r .payload) (tree-ran t q) k
-
-    tree-answers : (d : RowTree Term) → IsTree d → _≡_ {A = Stood} (ok (outcome w opened 0 r, r .next)) (runAt readings d start) → r .kind ≡ 1 → _≡_ {A = AnswerAndStore} (answered (toZ w32 (r .payload)) (r .taken), w) (scriptOn readings d)
-    unfolding scriptOn
-    tree-answers none h q k = absurd h
-    tree-answers (some t) h q k = number-ends readings (t .0) w words (r .taken) (since opened 0 (r .opened - 0)) (r .kind) (r .payload) (tree-ran t q) k
-
--- ---- what the lengths and the reader make of the answer
-
-refused-rows : (readings : List ℤ) (w : List ℕ) (m : Result Refusal Term) (n p : ℕ) → _≡_ {A = Result Refusal ℕ} (err (n, p)) (m >>= λ t. ok (size t)) → _≡_ {A = AnswerAndStore} (refused n p, w) (runInto base readings w m)
-unfolding runInto _>>=_
-refused-rows readings w (ok t) n p q = let z : _≡_ {A = ℕ} 0 1 = cc in absurd (omega arith)
-refused-rows readings w (err e) n p q = let z : _≡_ {A = Refusal} (n, p) e = cc in ap (λ (x : Refusal). (refused (x .0) (x .1), w)) z
 
 accepted-rows : (m : Result Refusal Term) (n : ℕ) → _≡_ {A = Result Refusal ℕ} (ok n) (m >>= λ t. ok (size t)) → (t : Term) × (m ≡ ok t)
 unfolding _>>=_
 accepted-rows (ok t) n q = (t, refl)
 accepted-rows (err e) n q = let z : _≡_ {A = ℕ} 0 1 = cc in absurd (omega arith)
 
-module _ (rows : List ℕ) (readings : List ℤ) (w : List ℕ) where
-  pub rows-length : (length rows ≡ 2560 → ⊥) → _≡_ {A = AnswerAndStore} (toldRun (out.Refused 2 0), w) (runOf base rows readings w)
-  unfolding toldRun runOf runInto runnable runFits rowNumbers base need _>>=_
-  rows-length n = rw (ne-eqb (length rows) 2560 n)
+module _ (set : Limits) where
+  -- ---- the end of a run
 
-  module _ (a : length rows ≡ 2560) where
-    pub store-length : (length w ≡ 384 → ⊥) → _≡_ {A = AnswerAndStore} (toldRun (out.Refused 3 0), w) (runOf base rows readings w)
-    unfolding toldRun runOf runInto runnable runFits rowNumbers base need _>>=_
-    store-length n = rw (eq-eqb (length rows) 2560 a, ne-eqb (length w) 384 n)
+  -- What is left in the store after a fault.
+  abbrev stopped : Stop → AnswerAndStore
+  stopped s = (faulted (s .number) (s .term), encode (set .variables) (storeRows set) (s .store))
 
-    module _ (b : length w ≡ 384) where
-      pub readings-length : (length readings ≡ 8 → ⊥) → _≡_ {A = AnswerAndStore} (toldRun (out.Refused 4 0), w) (runOf base rows readings w)
-      unfolding toldRun runOf runInto runnable runFits rowNumbers base need _>>=_
-      readings-length n = rw (eq-eqb (length rows) 2560 a, eq-eqb (length w) 384 b, ne-eqb (length readings) 8 n)
+  module _ (readings : List ℤ) (t : Term) (w : List ℕ) (words : encode (set .variables) (storeRows set) (storeOf set w) ≡ w) where
+    fault-ends : (m : Ran Outcome) (n i j : ℕ) → run (bitsOf readings) t start ≡ m → _≡_ {A = Stood} (err (record { number = n; term = i; store = storeOf set w })) (atRow j (seen m))
+        → _≡_ {A = AnswerAndStore} (faulted n i, w) (ranInto set (runScript (bitsOf readings) t (λ x. closed)))
+    unfolding atRow seen runScript ranInto _>>=_
+    fault-ends (ok o) n i j q e = let z : _≡_ {A = ℕ} 0 1 = cc in absurd (omega arith)
+    fault-ends (err f) n i j q e =
+        let p : _≡_ {A = Stop} (record { number = n; term = i; store = storeOf set w }) (record { number = f .number; term = f .term; store = f .state .store }) = cc in
+        ap (λ (x : List ℕ). (faulted n i, x)) (sym words) ∙ ap stopped p ∙ sym (rw q)
 
-      module _ (c : length readings ≡ 8) where
-        runs-decoded : runnable base rows readings w ≡ decode base rows
-        unfolding runnable runFits rowNumbers base need _>>=_
-        runs-decoded = rw (eq-eqb (length rows) 2560 a, eq-eqb (length w) 384 b, eq-eqb (length readings) 8 c)
+    module _ (taken : ℕ) (opened : List ℕ) (k p : ℕ) (q : run (bitsOf readings) t start ≡ ok (stateAt set w taken opened, valueOf set k p)) where
+      wrong-ends : (k ≡ 1 → ⊥) → _≡_ {A = AnswerAndStore} (faulted 61 0, w) (ranInto set (runScript (bitsOf readings) t (λ x. closed)))
+      unfolding runScript ranInto _>>=_
+      wrong-ends n = ap (λ (x : List ℕ). (faulted 61 0, x)) (sym words) ∙ sym (rw (q, no-number set (stateAt set w taken opened) 0 k p n))
 
-        judged-decoded : judgedOf base rows ≡ (decode base rows >>= λ t. ok (size t))
-        unfolding judgedOf rowsTree rowNumbers base need _>>=_
-        judged-decoded = rw (eq-eqb (length rows) 2560 a)
+      number-ends : k ≡ 1 → _≡_ {A = AnswerAndStore} (answered (toZ w32 p) taken, w) (ranInto set (runScript (bitsOf readings) t (λ x. closed)))
+      unfolding runScript ranInto numberIn _>>=_
+      number-ends n = ap (λ (x : List ℕ). (answered (toZ w32 p) taken, x)) (sym words) ∙ sym (rw (q, value-number set k p n))
 
-        -- The rows are refused.
-        pub rows-refused : (n p : ℕ) → told (judgement.Refused n p) ≡ judgedOf base rows → _≡_ {A = AnswerAndStore} (toldRun (out.Refused n p), w) (runOf base rows readings w)
-        unfolding toldRun runOf told
-        rows-refused n p q = go (decode base rows) (q ∙ judged-decoded) ∙ ap (runInto base readings w) (sym runs-decoded)
-          where
-            go : (m : Result Refusal Term) → _≡_ {A = Result Refusal ℕ} (err (n, p)) (m >>= λ t. ok (size t)) → _≡_ {A = AnswerAndStore} (refused n p, w) (runInto base readings w m)
-            go m q = refused-rows readings w m n p q
+  -- The same of a term that stands in rows.
+  module _ (readings : List ℤ) (w : List ℕ) (words : encode (set .variables) (storeRows set) (storeOf set w) ≡ w) where
+    tree-faults : (d : RowTree Term) → IsTree d → (n i : ℕ) → _≡_ {A = Stood} (err (record { number = n; term = i; store = storeOf set w })) (runAt readings d start) → _≡_ {A = AnswerAndStore} (faulted n i, w) (scriptOn set readings d)
+    unfolding stoodOn ranOn endOf scriptOn
+    tree-faults none h n i q = absurd h
+    tree-faults (some t) h n i q = fault-ends readings (t .0) w words (run (bitsOf readings) (t .0) start) n i (t .1) refl q
 
-        -- They are accepted.
-        module _ (words : (j : ℕ) → getD rows j 0 < 4294967296) (terms : ℕ) (q : ok terms ≡ judgedOf base rows) where
-          script : (t : Term) × (decode base rows ≡ ok t)
-          script = accepted-rows (decode base rows) terms (q ∙ judged-decoded)
+    module _ (opened : List ℕ) (r : Standing) where
+      tree-ran : (t : Term × ℕ) → _≡_ {A = Stood} (ok (outcome set w opened 0 r, r .next)) (runAt readings (some t) start) → run (bitsOf readings) (t .0) start ≡ ok (outcome set w opened 0 r)
+      unfolding stoodOn ranOn endOf
+      tree-ran t q = same-ran (run (bitsOf readings) (t .0) start) (outcome set w opened 0 r) (r .next) (t .1) q .0
 
-          runs : Runnable rows (script .0)
-          runs = judged rows (script .0) words a (script .1)
+      tree-wrong : (d : RowTree Term) → IsTree d → _≡_ {A = Stood} (ok (outcome set w opened 0 r, r .next)) (runAt readings d start) → (r .kind ≡ 1 → ⊥) → _≡_ {A = AnswerAndStore} (faulted 61 0, w) (scriptOn set readings d)
+      unfolding scriptOn
+      tree-wrong none h q k = absurd h
+      tree-wrong (some t) h q k = wrong-ends readings (t .0) w words (r .taken) (since opened 0 (r .opened - 0)) (r .kind) (r .payload) (tree-ran t q) k
 
-          script-judged : ScriptReady rows readings w
-          unfolding boxesBy
-          script-judged = record {
-            long = a;
-            eight = c;
-            size = b;
-            root = runs .root;
-            is = rw (runs .is) tt;
-            cells = rw (runs .is) (runs .cells);
-          }
+      tree-answers : (d : RowTree Term) → IsTree d → _≡_ {A = Stood} (ok (outcome set w opened 0 r, r .next)) (runAt readings d start) → r .kind ≡ 1 → _≡_ {A = AnswerAndStore} (answered (toZ w32 (r .payload)) (r .taken), w) (scriptOn set readings d)
+      unfolding scriptOn
+      tree-answers none h q k = absurd h
+      tree-answers (some t) h q k = number-ends readings (t .0) w words (r .taken) (since opened 0 (r .opened - 0)) (r .kind) (r .payload) (tree-ran t q) k
 
-          script-is : scriptRan rows readings ≡ runOf base rows readings w
-          unfolding scriptRan scriptOn runOf runInto
-          script-is = rw (runs .is) (sym (ap (runInto base readings w) (runs-decoded ∙ script .1)))
+  -- ---- what the lengths and the reader make of the answer
 
--- The reader's word for the rows, and the lengths, are all that the run asks.
-module _ (rows : List ℕ) (readings : List ℤ) (w : List ℕ) (g : RunReady rows readings w) (words : (j : ℕ) → getD rows j 0 < 4294967296) where
-  rows-long : length rows ≡ 2560
-  unfolding judgedOf rowNumbers base
-  rows-long =
-      let q = then (rowsTree base rows) (λ t. ok (size t)) (g .terms) (g .judged) in
-      tree-decoded base rows (q .0) (q .1) .0
+  refused-rows : (readings : List ℤ) (w : List ℕ) (m : Result Refusal Term) (n p : ℕ) → _≡_ {A = Result Refusal ℕ} (err (n, p)) (m >>= λ t. ok (size t)) → _≡_ {A = AnswerAndStore} (refused n p, w) (runInto set readings w m)
+  unfolding runInto _>>=_
+  refused-rows readings w (ok t) n p q = let z : _≡_ {A = ℕ} 0 1 = cc in absurd (omega arith)
+  refused-rows readings w (err e) n p q = let z : _≡_ {A = Refusal} (n, p) e = cc in ap (λ (x : Refusal). (refused (x .0) (x .1), w)) z
 
-  run-ready : ScriptReady rows readings w
-  run-ready = script-judged rows readings w rows-long (g .size) (g .eight) words (g .terms) (sym (g .judged))
+  module _ (rows : List ℕ) (readings : List ℤ) (w : List ℕ) where
+    pub set-outside : inRanges set ≡ false → _≡_ {A = AnswerAndStore} (toldRun (out.Refused 74 0), w) (runOf set rows readings w)
+    unfolding toldRun runOf runInto runnable runFits need _>>=_
+    set-outside o = rw o
 
-  run-is : scriptRan rows readings ≡ runOf base rows readings w
-  run-is = script-is rows readings w rows-long (g .size) (g .eight) words (g .terms) (sym (g .judged))
+    module _ (i : inRanges set ≡ true) where
+      pub rows-length : (length rows ≡ rowNumbers set → ⊥) → _≡_ {A = AnswerAndStore} (toldRun (out.Refused 2 0), w) (runOf set rows readings w)
+      unfolding toldRun runOf runInto runnable runFits need _>>=_
+      rows-length n = rw (i, ne-eqb (length rows) (rowNumbers set) n)
 
--- ---- the run of judged rows
+      module _ (a : length rows ≡ rowNumbers set) where
+        pub store-length : (length w ≡ storeNumbers set → ⊥) → _≡_ {A = AnswerAndStore} (toldRun (out.Refused 3 0), w) (runOf set rows readings w)
+        unfolding toldRun runOf runInto runnable runFits need _>>=_
+        store-length n = rw (i, eq-eqb (length rows) (rowNumbers set) a, ne-eqb (length w) (storeNumbers set) n)
 
-module _ (rows : List ℕ) (readings : List ℤ) (w : List ℕ) (ready : RunReady rows readings w) (words : (j : ℕ) → getD rows j 0 < 4294967296) (w₁ : List ℕ) (e : w₁ ≡ zeros (length w)) where
-  g : ScriptReady rows readings w
-  g = run-ready rows readings w ready words
+        module _ (b : length w ≡ storeNumbers set) where
+          pub readings-length : (length readings ≡ 8 → ⊥) → _≡_ {A = AnswerAndStore} (toldRun (out.Refused 4 0), w) (runOf set rows readings w)
+          unfolding toldRun runOf runInto runnable runFits need _>>=_
+          readings-length n = rw (i, eq-eqb (length rows) (rowNumbers set) a, eq-eqb (length w) (storeNumbers set) b, ne-eqb (length readings) 8 n)
 
-  zeroed : w₁ ≡ zeros 384
-  zeroed = e ∙ ap zeros (g .size)
+          module _ (c : length readings ≡ 8) where
+            runs-decoded : runnable set rows readings w ≡ decode set rows
+            unfolding runnable runFits need _>>=_
+            runs-decoded = rw (i, eq-eqb (length rows) (rowNumbers set) a, eq-eqb (length w) (storeNumbers set) b, eq-eqb (length readings) 8 c)
 
-  closed-now : storeOf w₁ ≡ (λ l. closed)
-  closed-now = cleared-store w₁ zeroed
+            judged-decoded : judgedOf set rows ≡ (decode set rows >>= λ t. ok (size t))
+            unfolding judgedOf rowsTree need _>>=_
+            judged-decoded = rw (i, eq-eqb (length rows) (rowNumbers set) a)
 
-  script-ready : (opened : List ℕ) → length opened ≡ 512 → TermReady rows 0 16 readings w₁ opened 0 0
-  script-ready opened h = record {
-    ready = record {
-      long = g .long;
-      eight = g .eight;
-      many = h;
-      tidy = cleared-tidy w₁ zeroed;
-      ordered = λ c l. ap (λ (S : Store). S (cell c)) closed-now;
-      few = omega arith;
-      listed = λ k l. absurd (omega arith);
-    };
-    is = g .is;
-    cells = let a = g .cells in omega arith;
-  }
+            -- The rows are refused.
+            pub rows-refused : (n p : ℕ) → told (judgement.Refused n p) ≡ judgedOf set rows → _≡_ {A = AnswerAndStore} (toldRun (out.Refused n p), w) (runOf set rows readings w)
+            unfolding toldRun runOf told
+            rows-refused n p q = go (decode set rows) (q ∙ judged-decoded) ∙ ap (runInto set readings w) (sym runs-decoded)
+              where
+                go : (m : Result Refusal Term) → _≡_ {A = Result Refusal ℕ} (err (n, p)) (m >>= λ t. ok (size t)) → _≡_ {A = AnswerAndStore} (refused n p, w) (runInto set readings w m)
+                go m q = refused-rows readings w m n p q
 
-  module _ (opened : List ℕ) (h : length opened ≡ 512) where
-    pub script-begins : BlockReady rows 0 15 readings w₁ opened 0 0
-    script-begins = block-ready rows 0 16 readings w₁ opened 0 0 (script-ready opened h) (g .root)
+            -- They are accepted.
+            module _ (words : (j : ℕ) → getD rows j 0 < 4294967296) (terms : ℕ) (q : ok terms ≡ judgedOf set rows) where
+              script : (t : Term) × (decode set rows ≡ ok t)
+              script = accepted-rows (decode set rows) terms (q ∙ judged-decoded)
 
-    module _ (w₂ opened₂ : List ℕ) (inner : Standing) (t : BlockRan rows 0 15 readings w₁ opened 0 0 w₂ opened₂ inner) where
-      pub script-closes : length opened₂ ≡ 512 → EndReady w₂ opened₂ 0 inner
-      script-closes long = block-ending rows 0 16 readings w₁ opened 0 0 (script-ready opened h) (g .root) w₂ opened₂ inner t long
+              runs : Runnable set rows (script .0)
+              runs = judged set rows (script .0) words a (script .1)
 
-      module _ (w₃ : List ℕ) (r : Standing) (b : BlockClosed w₂ opened₂ 0 0 inner w₃ r) where
-        term-ran : TermRan rows 0 16 readings w₁ opened 0 0 w₃ opened₂ r
-        term-ran = block-returns rows 0 16 readings w₁ opened 0 0 (script-ready opened h) (g .root) w₂ opened₂ inner t w₃ r b
+              script-judged : ScriptReady set rows readings w
+              unfolding boxesBy
+              script-judged = record {
+                ranges = i;
+                long = a;
+                eight = c;
+                size = b;
+                root = runs .root;
+                is = rw (runs .is) tt;
+                cells = rw (runs .is) (runs .cells);
+              }
 
-        ran : stood w₃ opened₂ 0 r ≡ runAt readings (treeAt 64 16 rows 0) start
-        unfolding since
-        ran = term-ran .is 0 (omega arith) ∙ ap (λ (S : Store). runAt readings (treeAt 64 16 rows 0) (record { store = S; taken = 0; opened = [] })) closed-now
+              script-is : scriptRan set rows readings ≡ runOf set rows readings w
+              unfolding scriptRan scriptOn runOf runInto
+              script-is = rw (runs .is) (sym (ap (runInto set readings w) (runs-decoded ∙ script .1)))
 
-        -- A fault of a term.
-        pub script-faults : (r .fault ≡ 0 → ⊥) → _≡_ {A = AnswerAndStore} (toldRun (out.Faulted (r .fault) (r .term)), w₃) (runOf base rows readings w)
-        unfolding scriptRan toldRun
-        script-faults n = tree-faults readings w₃ (b .tidy .words) (treeAt 64 16 rows 0) (g .is) (r .fault) (r .term) (sym (stood-stops w₃ opened₂ 0 r n) ∙ ran) ∙ run-is rows readings w ready words
+  -- The reader's word for the rows, and the lengths, are all that the run asks.
+  module _ (rows : List ℕ) (readings : List ℤ) (w : List ℕ) (g : RunReady set rows readings w) where
+    decoded : (t : Term) × Decoded set rows t
+    unfolding judgedOf
+    decoded =
+        let q = then (rowsTree set rows) (λ t. ok (size t)) (g .terms) (g .judged) in
+        (q .0, tree-decoded set rows (q .0) (q .1))
 
-        module _ (n : r .fault ≡ 0) where
-          -- The answer is no number.
-          pub script-wrong : (r .kind ≡ 1 → ⊥) → _≡_ {A = AnswerAndStore} (toldRun (out.Faulted 61 0), w₃) (runOf base rows readings w)
+    pub run-inside : inRanges set ≡ true
+    run-inside = decoded .1 .ranges
+
+    pub run-ranged : Ranged set
+    run-ranged = ranged set run-inside
+
+    module _ (words : (j : ℕ) → getD rows j 0 < 4294967296) where
+      run-ready : ScriptReady set rows readings w
+      run-ready = script-judged rows readings w (decoded .1 .ranges) (decoded .1 .length) (g .size) (g .eight) words (g .terms) (sym (g .judged))
+
+      run-is : scriptRan set rows readings ≡ runOf set rows readings w
+      run-is = script-is rows readings w (decoded .1 .ranges) (decoded .1 .length) (g .size) (g .eight) words (g .terms) (sym (g .judged))
+
+  -- ---- the run of judged rows
+
+  module _ (rows : List ℕ) (readings : List ℤ) (w : List ℕ) (ready : RunReady set rows readings w) (words : (j : ℕ) → getD rows j 0 < 4294967296) (w₁ : List ℕ) (e : w₁ ≡ zeros (length w)) where
+    g : ScriptReady set rows readings w
+    g = run-ready rows readings w ready words
+
+    zeroed : w₁ ≡ zeros (storeNumbers set)
+    zeroed = e ∙ ap zeros (g .size)
+
+    closed-now : storeOf set w₁ ≡ (λ l. closed)
+    closed-now = cleared-store set w₁ zeroed
+
+    script-ready : (opened : List ℕ) → set .terms ≤ length opened → TermReady set rows 0 (set .levels) readings w₁ opened 0 0
+    script-ready opened h = record {
+      ready = record {
+        long = g .long;
+        eight = g .eight;
+        many = h;
+        tidy = cleared-tidy set w₁ (g .ranges) zeroed;
+        ordered = λ c l. ap (λ (S : Store). S (cell c)) closed-now;
+        few = omega arith;
+        listed = λ k l. absurd (omega arith);
+      };
+      is = g .is;
+      cells = let a = g .cells in omega arith;
+    }
+
+    module _ (opened : List ℕ) (h : set .terms ≤ length opened) where
+      pub script-begins : BlockReady set rows 0 (set .levels - 1) readings w₁ opened 0 0
+      script-begins = block-ready set rows 0 (set .levels) readings w₁ opened 0 0 (script-ready opened h) (g .root)
+
+      module _ (w₂ opened₂ : List ℕ) (inner : Standing) (t : BlockRan set rows 0 (set .levels - 1) readings w₁ opened 0 0 w₂ opened₂ inner) where
+        pub script-closes : length opened₂ ≡ length opened → EndReady set w₂ opened₂ 0 inner
+        script-closes long = block-ending set rows 0 (set .levels) readings w₁ opened 0 0 (script-ready opened h) (g .root) w₂ opened₂ inner t long
+
+        module _ (w₃ : List ℕ) (r : Standing) (b : BlockClosed set w₂ opened₂ 0 0 inner w₃ r) where
+          term-ran : TermRan set rows 0 (set .levels) readings w₁ opened 0 0 w₃ opened₂ r
+          term-ran = block-returns set rows 0 (set .levels) readings w₁ opened 0 0 (script-ready opened h) (g .root) w₂ opened₂ inner t w₃ r b
+
+          ran : stood set w₃ opened₂ 0 r ≡ runAt readings (treeAt (set .variables) (set .levels) rows 0) start
+          unfolding since
+          ran = term-ran .is 0 (omega arith) ∙ ap (λ (S : Store). runAt readings (treeAt (set .variables) (set .levels) rows 0) (record { store = S; taken = 0; opened = [] })) closed-now
+
+          -- A fault of a term.
+          pub script-faults : (r .fault ≡ 0 → ⊥) → _≡_ {A = AnswerAndStore} (toldRun (out.Faulted (r .fault) (r .term)), w₃) (runOf set rows readings w)
           unfolding scriptRan toldRun
-          script-wrong k = tree-wrong readings w₃ (b .tidy .words) opened₂ r (treeAt 64 16 rows 0) (g .is) (sym (stood-goes w₃ opened₂ 0 r n) ∙ ran) k ∙ run-is rows readings w ready words
+          script-faults n = tree-faults readings w₃ (b .tidy .words) (treeAt (set .variables) (set .levels) rows 0) (g .is) (r .fault) (r .term) (sym (stood-stops set w₃ opened₂ 0 r n) ∙ ran) ∙ run-is rows readings w ready words
 
-          -- The answer.
-          pub script-answers : r .kind ≡ 1 → (a : ℤ) → a ≡ toZ w32 (r .payload) → _≡_ {A = AnswerAndStore} (toldRun (out.Answered a (r .taken)), w₃) (runOf base rows readings w)
-          unfolding scriptRan toldRun
-          script-answers k a ea = rw ea ((tree-answers readings w₃ (b .tidy .words) opened₂ r (treeAt 64 16 rows 0) (g .is) (sym (stood-goes w₃ opened₂ 0 r n) ∙ ran) k) ∙ run-is rows readings w ready words)
+          module _ (n : r .fault ≡ 0) where
+            -- The answer is no number.
+            pub script-wrong : (r .kind ≡ 1 → ⊥) → _≡_ {A = AnswerAndStore} (toldRun (out.Faulted 61 0), w₃) (runOf set rows readings w)
+            unfolding scriptRan toldRun
+            script-wrong k = tree-wrong readings w₃ (b .tidy .words) opened₂ r (treeAt (set .variables) (set .levels) rows 0) (g .is) (sym (stood-goes set w₃ opened₂ 0 r n) ∙ ran) k ∙ run-is rows readings w ready words
+
+            -- The answer.
+            pub script-answers : r .kind ≡ 1 → (a : ℤ) → a ≡ toZ w32 (r .payload) → _≡_ {A = AnswerAndStore} (toldRun (out.Answered a (r .taken)), w₃) (runOf set rows readings w)
+            unfolding scriptRan toldRun
+            script-answers k a ea = rw ea ((tree-answers readings w₃ (b .tidy .words) opened₂ r (treeAt (set .variables) (set .levels) rows 0) (g .is) (sym (stood-goes set w₃ opened₂ 0 r n) ∙ ran) k) ∙ run-is rows readings w ready words)

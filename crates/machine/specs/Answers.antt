@@ -1,5 +1,5 @@
 -- What `run` answers, and what it leaves in the store, on every input (LANGUAGE 6.6).
-use Prim.Native.Nat.{ℕ, _+_, _*_}
+use Prim.Native.Nat.{ℕ}
 use mathlib.Core.List.{List}
 use lib.Dec.{eqb}
 use lib.IntN.{ℤ, pos}
@@ -7,10 +7,10 @@ use lib.ListN.{length, getD}
 use mir.Syntax.{w32}
 use mir.Val.{ofZ, toZ}
 use Rattle.reader.specs.Result.{Result, ok, err, Refusal, need, _>>=_}
-use Rattle.reader.specs.Limits.{Limits}
+use Rattle.reader.specs.Limits.{Limits, storeRows, storeNumbers}
 use Rattle.reader.specs.Script.{Term}
 use Rattle.reader.specs.Reader.{decode}
-use Rattle.reader.specs.Answers.{rowsFit}
+use Rattle.reader.specs.Answers.{setFits, rowsFit}
 use Rattle.machine.specs.Values.{closed}
 use Rattle.machine.specs.Store.{State, Ran}
 use Rattle.machine.specs.Run.{runScript}
@@ -33,14 +33,15 @@ toldRun (Faulted n i) = faulted n i
 abbrev pub AnswerAndStore : Type 0
 AnswerAndStore = Answer × List ℕ
 
--- 2, 3 and 4: the lengths of rows, store and readings (LANGUAGE 5.3), the lowest first (5.8).
+-- 74 for the set, then 2, 3 and 4: the lengths of rows, store and readings (LANGUAGE 5.3), the lowest first (5.8).
 unfoldable pub runFits : Limits → List ℕ → List ℤ → List ℕ → Result Refusal (Unit {0})
 runFits l rows readings store =
+    setFits l >>= λ _.
     rowsFit l rows >>= λ _.
-    need (eqb (length store) (3 * (l .variables + l .boxes))) (3, 0) >>= λ _.
+    need (eqb (length store) (storeNumbers l)) (3, 0) >>= λ _.
     need (eqb (length readings) 8) (4, 0)
 
--- The script that is to run: 2 to 4, then 12 to 19 (LANGUAGE 5.7).
+-- The script that is to run: 74, 2 to 4, then 12 to 19 (LANGUAGE 5.7).
 unfoldable pub runnable : Limits → List ℕ → List ℤ → List ℕ → Result Refusal Term
 runnable l rows readings store =
     runFits l rows readings store >>= λ _.
@@ -52,8 +53,8 @@ bitsOf readings n = ofZ w32 (getD readings n (pos 0))
 
 -- The store as the run left it, after a fault too (LANGUAGE 4.21, 6.6).
 unfoldable pub ranInto : Limits → Ran (State × ℕ) → AnswerAndStore
-ranInto l (ok e) = (answered (toZ w32 (e .1)) (e .0 .taken), encode (l .variables) (l .variables + l .boxes) (e .0 .store))
-ranInto l (err f) = (faulted (f .number) (f .term), encode (l .variables) (l .variables + l .boxes) (f .state .store))
+ranInto l (ok e) = (answered (toZ w32 (e .1)) (e .0 .taken), encode (l .variables) (storeRows l) (e .0 .store))
+ranInto l (err f) = (faulted (f .number) (f .term), encode (l .variables) (storeRows l) (f .state .store))
 
 -- A refusal leaves the store as it was (LANGUAGE 6.6). A run first clears it (4.4), so that what it held does not count: any may be named.
 unfoldable pub runInto : Limits → List ℤ → List ℕ → Result Refusal Term → AnswerAndStore

@@ -1,5 +1,5 @@
 -- What the parts of the machine's code answer: each the run rule it is for, on the store that the lent numbers stand for. No rule of the
--- language is stated here. A fault number 0 is no fault.
+-- language is stated here. `set` is the set of limits (LANGUAGE 2.8). A fault number 0 is no fault.
 use Prim.Native.Nat.{ℕ, zero, suc, _+_, _-_, _*_, _≤_, _<_}
 use mathlib.Core.Path.{_≡_}
 use mathlib.Core.Bool.{true}
@@ -7,10 +7,10 @@ use mathlib.Core.Option.{none, some}
 use mathlib.Core.List.{List, [], _∷_}
 use lib.Dec.{eqb}
 use lib.IntN.{ℤ}
-use lib.ListN.{length, getD, set}
+use lib.ListN.{length, getD, set as replaced}
 use Rattle.reader.specs.Kinds.{kindOf, wrapsOf}
 use Rattle.reader.specs.Result.{Result, ok, err, pick, _>>=_}
-use Rattle.reader.specs.Limits.{base}
+use Rattle.reader.specs.Limits.{Limits, inRanges, rowNumbers, storeRows, storeNumbers}
 use Rattle.reader.specs.Script.{Place, Term, Terms, number}
 use Rattle.reader.specs.Measures.{boxesIn, boxesAll}
 use Rattle.reader.specs.Answers.{judgedOf}
@@ -29,8 +29,8 @@ use Rattle.machine.specs.declared.locate.Gave.{Gave}
 use Rattle.machine.specs.declared.around.Standing.{Standing}
 
 -- The state in the lent numbers.
-abbrev pub stateAt : List ℕ → ℕ → List ℕ → State
-stateAt w taken opened = record { store = storeOf w; taken = taken; opened = opened }
+abbrev pub stateAt : Limits → List ℕ → ℕ → List ℕ → State
+stateAt set w taken opened = record { store = storeOf set w; taken = taken; opened = opened }
 
 abbrev pub placeOf : ℕ → ℕ → Place
 placeOf root follows = record { root = root; follows = follows }
@@ -38,55 +38,55 @@ placeOf root follows = record { root = root; follows = follows }
 -- ---- locating and reading
 
 -- What an answer of the code says: the row, or the fault of term i in the state s.
-unfoldable pub found : State → ℕ → Found → Ran Location
-found s i f = pick (eqb (f .fault) 0) (ok (locationOf 64 (f .row))) (fault (f .fault) i s)
+unfoldable pub found : Limits → State → ℕ → Found → Ran Location
+found set s i f = pick (eqb (f .fault) 0) (ok (locationOf (set .variables) (f .row))) (fault (f .fault) i s)
 
-pub record Followed (w : List ℕ) (row : ℕ) (f : Found) : Type 0 where
-  pub inside : f .row < 128
-  pub is : (s : State) (i : ℕ) → found s i f ≡ followed s i (storeOf w (locationOf 64 row))
+pub record Followed (set : Limits) (w : List ℕ) (row : ℕ) (f : Found) : Type 0 where
+  pub inside : f .row < storeRows set
+  pub is : (s : State) (i : ℕ) → found set s i f ≡ followed s i (storeOf set w (locationOf (set .variables) row))
 
-pub record Located (w : List ℕ) (root follows : ℕ) (f : Found) : Type 0 where
-  pub inside : f .row < 128
-  pub is : (i taken : ℕ) (opened : List ℕ) → found (stateAt w taken opened) i f ≡ locateFrom (stateAt w taken opened) i (variable root) follows
+pub record Located (set : Limits) (w : List ℕ) (root follows : ℕ) (f : Found) : Type 0 where
+  pub inside : f .row < storeRows set
+  pub is : (i taken : ℕ) (opened : List ℕ) → found set (stateAt set w taken opened) i f ≡ locateFrom (stateAt set w taken opened) i (variable root) follows
 
 -- Likewise: the value read.
-unfoldable pub held : State → ℕ → Gave → Ran Value
-held s i g = pick (eqb (g .fault) 0) (ok (valueOf (g .kind) (g .payload))) (fault (g .fault) i s)
+unfoldable pub held : Limits → State → ℕ → Gave → Ran Value
+held set s i g = pick (eqb (g .fault) 0) (ok (valueOf set (g .kind) (g .payload))) (fault (g .fault) i s)
 
-pub record Filled (w : List ℕ) (row : ℕ) (g : Gave) : Type 0 where
-  pub sound : Sound (g .kind) (g .payload)
-  pub is : (s : State) (i : ℕ) → held s i g ≡ filled s i (storeOf w (locationOf 64 row))
+pub record Filled (set : Limits) (w : List ℕ) (row : ℕ) (g : Gave) : Type 0 where
+  pub sound : Sound set (g .kind) (g .payload)
+  pub is : (s : State) (i : ℕ) → held set s i g ≡ filled s i (storeOf set w (locationOf (set .variables) row))
 
 -- ---- the terms without an inner term
 
 -- Likewise: the state afterwards and the term's value. i is the term that acts, here and below.
-unfoldable pub gave : List ℕ → ℕ → List ℕ → ℕ → Gave → Ran Outcome
-gave w taken opened i g = pick (eqb (g .fault) 0) (ok (stateAt w taken opened, valueOf (g .kind) (g .payload))) (fault (g .fault) i (stateAt w taken opened))
+unfoldable pub gave : Limits → List ℕ → ℕ → List ℕ → ℕ → Gave → Ran Outcome
+gave set w taken opened i g = pick (eqb (g .fault) 0) (ok (stateAt set w taken opened, valueOf set (g .kind) (g .payload))) (fault (g .fault) i (stateAt set w taken opened))
 
-pub record Copied (w : List ℕ) (root follows : ℕ) (g : Gave) : Type 0 where
-  pub sound : Sound (g .kind) (g .payload)
-  pub is : (i taken : ℕ) (opened : List ℕ) → gave w taken opened i g ≡ runCopy (stateAt w taken opened) i (placeOf root follows)
+pub record Copied (set : Limits) (w : List ℕ) (root follows : ℕ) (g : Gave) : Type 0 where
+  pub sound : Sound set (g .kind) (g .payload)
+  pub is : (i taken : ℕ) (opened : List ℕ) → gave set w taken opened i g ≡ runCopy (stateAt set w taken opened) i (placeOf root follows)
 
-pub record Moved (w : List ℕ) (root follows : ℕ) (w′ : List ℕ) (g : Gave) : Type 0 where
-  pub tidy : Tidy w′
-  pub sound : Sound (g .kind) (g .payload)
-  pub is : (i taken : ℕ) (opened : List ℕ) → gave w′ taken opened i g ≡ runMove (stateAt w taken opened) i (placeOf root follows)
+pub record Moved (set : Limits) (w : List ℕ) (root follows : ℕ) (w′ : List ℕ) (g : Gave) : Type 0 where
+  pub tidy : Tidy set w′
+  pub sound : Sound set (g .kind) (g .payload)
+  pub is : (i taken : ℕ) (opened : List ℕ) → gave set w′ taken opened i g ≡ runMove (stateAt set w taken opened) i (placeOf root follows)
 
-pub record Borrowed (w : List ℕ) (root follows : ℕ) (g : Gave) : Type 0 where
-  pub sound : Sound (g .kind) (g .payload)
-  pub is : (i taken : ℕ) (opened : List ℕ) → gave w taken opened i g ≡ runBorrow (stateAt w taken opened) i (placeOf root follows)
+pub record Borrowed (set : Limits) (w : List ℕ) (root follows : ℕ) (g : Gave) : Type 0 where
+  pub sound : Sound set (g .kind) (g .payload)
+  pub is : (i taken : ℕ) (opened : List ℕ) → gave set w taken opened i g ≡ runBorrow (stateAt set w taken opened) i (placeOf root follows)
 
 -- Likewise: the number read.
 unfoldable pub counted : State → ℕ → Gave → Ran ℕ
 counted s i g = pick (eqb (g .fault) 0) (ok (g .payload)) (fault (g .fault) i s)
 
-pub record Numbered (w : List ℕ) (root follows : ℕ) (g : Gave) : Type 0 where
-  pub sound : Sound (g .kind) (g .payload)
-  pub is : (i taken : ℕ) (opened : List ℕ) → counted (stateAt w taken opened) i g ≡ runNumber (stateAt w taken opened) i (placeOf root follows)
+pub record Numbered (set : Limits) (w : List ℕ) (root follows : ℕ) (g : Gave) : Type 0 where
+  pub sound : Sound set (g .kind) (g .payload)
+  pub is : (i taken : ℕ) (opened : List ℕ) → counted (stateAt set w taken opened) i g ≡ runNumber (stateAt set w taken opened) i (placeOf root follows)
 
-pub record Compared (w : List ℕ) (root follows other others : ℕ) (g : Gave) : Type 0 where
-  pub sound : Sound (g .kind) (g .payload)
-  pub is : (i taken : ℕ) (opened : List ℕ) → gave w taken opened i g ≡ runBelow (stateAt w taken opened) i (placeOf root follows) (placeOf other others)
+pub record Compared (set : Limits) (w : List ℕ) (root follows other others : ℕ) (g : Gave) : Type 0 where
+  pub sound : Sound set (g .kind) (g .payload)
+  pub is : (i taken : ℕ) (opened : List ℕ) → gave set w taken opened i g ≡ runBelow (stateAt set w taken opened) i (placeOf root follows) (placeOf other others)
 
 -- The run of what stands in rows, by the run rule for it; and of a term.
 unfoldable pub ranOn : {A : Type 0} → (A → State → Ran Outcome) → RowTree A → State → Ran Outcome
@@ -97,37 +97,37 @@ abbrev pub runOn : List ℤ → RowTree Term → State → Ran Outcome
 runOn readings d s = ranOn (run (bitsOf readings)) d s
 
 -- The term at row i, if it has no inner term.
-unfoldable pub leafAt : List ℕ → ℕ → RowTree Term
-leafAt rows i = kindAt (kindOf 1 (fieldAt rows i 0)) 64 (λ j. none) rows i
+unfoldable pub leafAt : Limits → List ℕ → ℕ → RowTree Term
+leafAt set rows i = kindAt (kindOf 1 (fieldAt rows i 0)) (set .variables) (λ j. none) rows i
 
-pub record LeafReady (rows : List ℕ) (i : ℕ) (readings : List ℤ) (w : List ℕ) : Type 0 where
+pub record LeafReady (set : Limits) (rows : List ℕ) (i : ℕ) (readings : List ℤ) (w : List ℕ) : Type 0 where
   pub room : 5 * i + 5 ≤ length rows
-  pub leaf : IsTree (leafAt rows i)
+  pub leaf : IsTree (leafAt set rows i)
   pub eight : length readings ≡ 8
-  pub tidy : Tidy w
+  pub tidy : Tidy set w
 
-pub record LeafRan (rows : List ℕ) (i : ℕ) (readings : List ℤ) (w w′ : List ℕ) (g : Gave) : Type 0 where
-  pub tidy : Tidy w′
-  pub sound : Sound (g .kind) (g .payload)
-  pub is : (taken : ℕ) (opened : List ℕ) → gave w′ taken opened i g ≡ runOn readings (leafAt rows i) (stateAt w taken opened)
+pub record LeafRan (set : Limits) (rows : List ℕ) (i : ℕ) (readings : List ℤ) (w w′ : List ℕ) (g : Gave) : Type 0 where
+  pub tidy : Tidy set w′
+  pub sound : Sound set (g .kind) (g .payload)
+  pub is : (taken : ℕ) (opened : List ℕ) → gave set w′ taken opened i g ≡ runOn readings (leafAt set rows i) (stateAt set w taken opened)
 
 -- ---- dropping and closing
 
 -- Likewise: the state that dropping or closing leaves, or its fault n.
-unfoldable pub left : List ℕ → ℕ → List ℕ → ℕ → ℕ → Ran State
-left w taken opened i n = pick (eqb n 0) (ok (stateAt w taken opened)) (fault n i (stateAt w taken opened))
+unfoldable pub left : Limits → List ℕ → ℕ → List ℕ → ℕ → ℕ → Ran State
+left set w taken opened i n = pick (eqb n 0) (ok (stateAt set w taken opened)) (fault n i (stateAt set w taken opened))
 
-pub record Dropped (w : List ℕ) (k p : ℕ) (w′ : List ℕ) (n : ℕ) : Type 0 where
-  pub tidy : Tidy w′
-  pub is : (i taken : ℕ) (opened : List ℕ) → InOrder (stateAt w taken opened) → left w′ taken opened i n ≡ dropValue i (stateAt w taken opened) (valueOf k p)
+pub record Dropped (set : Limits) (w : List ℕ) (k p : ℕ) (w′ : List ℕ) (n : ℕ) : Type 0 where
+  pub tidy : Tidy set w′
+  pub is : (i taken : ℕ) (opened : List ℕ) → InOrder (stateAt set w taken opened) → left set w′ taken opened i n ≡ dropValue i (stateAt set w taken opened) (valueOf set k p)
 
 -- The variable x closed.
 abbrev pub closeOne : ℕ → State → ℕ → Ran State
 closeOne i s x = closeAll i s (x ∷ [])
 
-pub record ClosedOne (w : List ℕ) (x : ℕ) (w′ : List ℕ) (n : ℕ) : Type 0 where
-  pub tidy : Tidy w′
-  pub is : (i taken : ℕ) (opened : List ℕ) → InOrder (stateAt w taken opened) → left w′ taken opened i n ≡ closeOne i (stateAt w taken opened) x
+pub record ClosedOne (set : Limits) (w : List ℕ) (x : ℕ) (w′ : List ℕ) (n : ℕ) : Type 0 where
+  pub tidy : Tidy set w′
+  pub is : (i taken : ℕ) (opened : List ℕ) → InOrder (stateAt set w taken opened) → left set w′ taken opened i n ≡ closeOne i (stateAt set w taken opened) x
 
 -- The variables that were opened from `begin` on, n of them, last opened first.
 unfoldable pub since : List ℕ → ℕ → ℕ → List ℕ
@@ -135,24 +135,24 @@ since opened begin zero = []
 since opened begin (suc n) = getD opened (begin + n) 0 ∷ since opened begin n
 
 -- The first n that were opened are variables.
-abbrev pub Listed : List ℕ → ℕ → Type 0
-Listed opened n = (k : ℕ) → k < n → getD opened k 0 < 64
+abbrev pub Listed : Limits → List ℕ → ℕ → Type 0
+Listed set opened n = (k : ℕ) → k < n → getD opened k 0 < set .variables
 
-pub record ClosedAll (w opened : List ℕ) (begin end : ℕ) (w′ : List ℕ) (n : ℕ) : Type 0 where
-  pub tidy : Tidy w′
-  pub is : (i taken : ℕ) (around : List ℕ) → InOrder (stateAt w taken around) → left w′ taken around i n ≡ closeAll i (stateAt w taken around) (since opened begin (end - begin))
+pub record ClosedAll (set : Limits) (w opened : List ℕ) (begin end : ℕ) (w′ : List ℕ) (n : ℕ) : Type 0 where
+  pub tidy : Tidy set w′
+  pub is : (i taken : ℕ) (around : List ℕ) → InOrder (stateAt set w taken around) → left set w′ taken around i n ≡ closeAll i (stateAt set w taken around) (since opened begin (end - begin))
 
-pub record Wrote (w : List ℕ) (row k p : ℕ) (w′ : List ℕ) : Type 0 where
-  pub tidy : Tidy w′
-  pub is : storeOf w′ ≡ pick (isOpen (storeOf w (locationOf 64 row))) (put (storeOf w) (locationOf 64 row) (openWith (valueOf k p))) (storeOf w)
+pub record Wrote (set : Limits) (w : List ℕ) (row k p : ℕ) (w′ : List ℕ) : Type 0 where
+  pub tidy : Tidy set w′
+  pub is : storeOf set w′ ≡ pick (isOpen (storeOf set w (locationOf (set .variables) row))) (put (storeOf set w) (locationOf (set .variables) row) (openWith (valueOf set k p))) (storeOf set w)
 
 -- Likewise: the state that an assign leaves, or its fault n.
-unfoldable pub assigned : List ℕ → ℕ → List ℕ → ℕ → ℕ → Ran Outcome
-assigned w taken opened i n = pick (eqb n 0) (ok (stateAt w taken opened, empty)) (fault n i (stateAt w taken opened))
+unfoldable pub assigned : Limits → List ℕ → ℕ → List ℕ → ℕ → ℕ → Ran Outcome
+assigned set w taken opened i n = pick (eqb n 0) (ok (stateAt set w taken opened, empty)) (fault n i (stateAt set w taken opened))
 
-pub record PlaceAssigned (w : List ℕ) (root follows k p : ℕ) (w′ : List ℕ) (n : ℕ) : Type 0 where
-  pub tidy : Tidy w′
-  pub is : (i taken : ℕ) (opened : List ℕ) → InOrder (stateAt w taken opened) → assigned w′ taken opened i n ≡ runAssign (stateAt w taken opened) i (placeOf root follows) (valueOf k p)
+pub record PlaceAssigned (set : Limits) (w : List ℕ) (root follows k p : ℕ) (w′ : List ℕ) (n : ℕ) : Type 0 where
+  pub tidy : Tidy set w′
+  pub is : (i taken : ℕ) (opened : List ℕ) → InOrder (stateAt set w taken opened) → assigned set w′ taken opened i n ≡ runAssign (stateAt set w taken opened) i (placeOf root follows) (valueOf set k p)
 
 -- ---- where a run stands
 
@@ -174,13 +174,13 @@ unfoldable pub atRow : ℕ → Result Stop Outcome → Stood
 atRow j (ok o) = ok (o, j)
 atRow j (err e) = err e
 
-abbrev pub outcome : List ℕ → List ℕ → ℕ → Standing → Outcome
-outcome w opened begin r = (stateAt w (r .taken) (since opened begin (r .opened - begin)), valueOf (r .kind) (r .payload))
+abbrev pub outcome : Limits → List ℕ → List ℕ → ℕ → Standing → Outcome
+outcome set w opened begin r = (stateAt set w (r .taken) (since opened begin (r .opened - begin)), valueOf set (r .kind) (r .payload))
 
 -- What is known where a run stands: the outcome and the next row, or the fault.
-unfoldable pub stood : List ℕ → List ℕ → ℕ → Standing → Stood
-stood w opened begin r =
-    pick (eqb (r .fault) 0) (ok (outcome w opened begin r, r .next)) (err (record { number = r .fault; term = r .term; store = storeOf w }))
+unfoldable pub stood : Limits → List ℕ → List ℕ → ℕ → Standing → Stood
+stood set w opened begin r =
+    pick (eqb (r .fault) 0) (ok (outcome set w opened begin r, r .next)) (err (record { number = r .fault; term = r .term; store = storeOf set w }))
 
 -- What follows an inner term: the row after it stays.
 unfoldable pub sequel : Stood → (Outcome → Ran Outcome) → Stood
@@ -196,94 +196,94 @@ unfoldable pub enteredAt : ℕ → ℕ → ℕ → Standing
 enteredAt block n taken = record { fault = 0; term = block; kind = 0; payload = 0; taken = taken; opened = n; next = block + 1 }
 
 -- What holds after an inner term that meets no fault.
-pub record Fine (w : List ℕ) (r : Standing) : Type 0 where
-  pub sound : Sound (r .kind) (r .payload)
-  pub ordered : InOrder (stateAt w (r .taken) [])
+pub record Fine (set : Limits) (w : List ℕ) (r : Standing) : Type 0 where
+  pub sound : Sound set (r .kind) (r .payload)
+  pub ordered : InOrder (stateAt set w (r .taken) [])
 
 -- What a rule after an inner term asks.
-pub record InnerReady (w : List ℕ) (inner : Standing) : Type 0 where
-  pub tidy : Tidy w
-  pub fine : inner .fault ≡ 0 → Fine w inner
+pub record InnerReady (set : Limits) (w : List ℕ) (inner : Standing) : Type 0 where
+  pub tidy : Tidy set w
+  pub fine : inner .fault ≡ 0 → Fine set w inner
 
 -- What a rule after an inner term passes on.
-pub record Went (inner r : Standing) : Type 0 where
+pub record Went (set : Limits) (inner r : Standing) : Type 0 where
   pub fine : inner .fault ≡ 0
-  pub sound : Sound (r .kind) (r .payload)
+  pub sound : Sound set (r .kind) (r .payload)
   pub next : r .next ≡ inner .next
 
-pub record BoxReady (w : List ℕ) (inner : Standing) : Type 0 where
-  pub ready : InnerReady w inner
-  pub few : inner .fault ≡ 0 → inner .taken < 64
+pub record BoxReady (set : Limits) (w : List ℕ) (inner : Standing) : Type 0 where
+  pub ready : InnerReady set w inner
+  pub few : inner .fault ≡ 0 → inner .taken < set .boxes
 
-pub record Boxed (w : List ℕ) (inner : Standing) (w′ : List ℕ) (r : Standing) : Type 0 where
-  pub tidy : Tidy w′
-  pub is : (opened : List ℕ) (begin : ℕ) → stood w′ opened begin r ≡ sequel (stood w opened begin inner) (λ o. runBox (o .0) (o .1))
-  pub went : r .fault ≡ 0 → Went inner r
+pub record Boxed (set : Limits) (w : List ℕ) (inner : Standing) (w′ : List ℕ) (r : Standing) : Type 0 where
+  pub tidy : Tidy set w′
+  pub is : (opened : List ℕ) (begin : ℕ) → stood set w′ opened begin r ≡ sequel (stood set w opened begin inner) (λ o. runBox (o .0) (o .1))
+  pub went : r .fault ≡ 0 → Went set inner r
   pub count : r .fault ≡ 0 → r .opened ≡ inner .opened
 
-pub record LetReady (w opened : List ℕ) (x : ℕ) (inner : Standing) : Type 0 where
-  pub ready : InnerReady w inner
-  pub variable : x < 64
+pub record LetReady (set : Limits) (w opened : List ℕ) (x : ℕ) (inner : Standing) : Type 0 where
+  pub ready : InnerReady set w inner
+  pub variable : x < set .variables
   pub few : inner .fault ≡ 0 → inner .opened < length opened
 
 -- The variable x, opened last.
 pub record Pushed (opened : List ℕ) (x : ℕ) (inner : Standing) (opened′ : List ℕ) (r : Standing) : Type 0 where
   pub count : r .opened ≡ suc (inner .opened)
-  pub is : opened′ ≡ set opened (inner .opened) x
+  pub is : opened′ ≡ replaced opened (inner .opened) x
 
-pub record Declared (w opened : List ℕ) (i x : ℕ) (inner : Standing) (w′ opened′ : List ℕ) (r : Standing) : Type 0 where
-  pub tidy : Tidy w′
-  pub is : (begin : ℕ) → (inner .fault ≡ 0 → begin ≤ inner .opened) → stood w′ opened′ begin r ≡ sequel (stood w opened begin inner) (λ o. runLet (o .0) i x (o .1))
-  pub went : r .fault ≡ 0 → Went inner r
+pub record Declared (set : Limits) (w opened : List ℕ) (i x : ℕ) (inner : Standing) (w′ opened′ : List ℕ) (r : Standing) : Type 0 where
+  pub tidy : Tidy set w′
+  pub is : (begin : ℕ) → (inner .fault ≡ 0 → begin ≤ inner .opened) → stood set w′ opened′ begin r ≡ sequel (stood set w opened begin inner) (λ o. runLet (o .0) i x (o .1))
+  pub went : r .fault ≡ 0 → Went set inner r
   pub pushed : r .fault ≡ 0 → Pushed opened x inner opened′ r
 
-pub record Assigned (w : List ℕ) (i root follows : ℕ) (inner : Standing) (w′ : List ℕ) (r : Standing) : Type 0 where
-  pub tidy : Tidy w′
-  pub is : (opened : List ℕ) (begin : ℕ) → stood w′ opened begin r ≡ sequel (stood w opened begin inner) (λ o. runAssign (o .0) i (placeOf root follows) (o .1))
-  pub went : r .fault ≡ 0 → Went inner r
+pub record Assigned (set : Limits) (w : List ℕ) (i root follows : ℕ) (inner : Standing) (w′ : List ℕ) (r : Standing) : Type 0 where
+  pub tidy : Tidy set w′
+  pub is : (opened : List ℕ) (begin : ℕ) → stood set w′ opened begin r ≡ sequel (stood set w opened begin inner) (λ o. runAssign (o .0) i (placeOf root follows) (o .1))
+  pub went : r .fault ≡ 0 → Went set inner r
   pub count : r .fault ≡ 0 → r .opened ≡ inner .opened
 
-pub record EndReady (w opened : List ℕ) (begin : ℕ) (inner : Standing) : Type 0 where
-  pub ready : InnerReady w inner
-  pub listed : inner .fault ≡ 0 → Listed opened (inner .opened)
+pub record EndReady (set : Limits) (w opened : List ℕ) (begin : ℕ) (inner : Standing) : Type 0 where
+  pub ready : InnerReady set w inner
+  pub listed : inner .fault ≡ 0 → Listed set opened (inner .opened)
   pub begun : inner .fault ≡ 0 → begin ≤ inner .opened
   pub few : inner .fault ≡ 0 → inner .opened ≤ length opened
 
 -- `around` is where the block around this one began.
-pub record BlockClosed (w opened : List ℕ) (i begin : ℕ) (inner : Standing) (w′ : List ℕ) (r : Standing) : Type 0 where
-  pub tidy : Tidy w′
-  pub is : (around : ℕ) → stood w′ opened around r ≡ sequel (stood w opened begin inner) (λ o. runBlockEnd i (since opened around (begin - around)) o)
-  pub went : r .fault ≡ 0 → Went inner r
+pub record BlockClosed (set : Limits) (w opened : List ℕ) (i begin : ℕ) (inner : Standing) (w′ : List ℕ) (r : Standing) : Type 0 where
+  pub tidy : Tidy set w′
+  pub is : (around : ℕ) → stood set w′ opened around r ≡ sequel (stood set w opened begin inner) (λ o. runBlockEnd i (since opened around (begin - around)) o)
+  pub went : r .fault ≡ 0 → Went set inner r
   pub count : r .fault ≡ 0 → r .opened ≡ begin
 
 -- What follows the inner term of a term around one, which is at row i, by its kind.
-pub record AfterReady (rows : List ℕ) (i : ℕ) (w opened : List ℕ) (inner : Standing) : Type 0 where
+pub record AfterReady (set : Limits) (rows : List ℕ) (i : ℕ) (w opened : List ℕ) (inner : Standing) : Type 0 where
   pub room : 5 * i + 5 ≤ length rows
   pub wraps : wrapsOf (fieldAt rows i 0) ≡ true
-  pub box : fieldAt rows i 0 ≡ 7 → BoxReady w inner
-  pub bind : fieldAt rows i 0 ≡ 8 → LetReady w opened (fieldAt rows i 1) inner
-  pub assign : fieldAt rows i 0 ≡ 9 → InnerReady w inner × (fieldAt rows i 1 < 64)
+  pub box : fieldAt rows i 0 ≡ 7 → BoxReady set w inner
+  pub bind : fieldAt rows i 0 ≡ 8 → LetReady set w opened (fieldAt rows i 1) inner
+  pub assign : fieldAt rows i 0 ≡ 9 → InnerReady set w inner × (fieldAt rows i 1 < set .variables)
 
-pub record AfterRan (rows : List ℕ) (i : ℕ) (w opened : List ℕ) (inner : Standing) (w′ opened′ : List ℕ) (r : Standing) : Type 0 where
-  pub box : fieldAt rows i 0 ≡ 7 → Boxed w inner w′ r × (opened′ ≡ opened)
-  pub bind : fieldAt rows i 0 ≡ 8 → Declared w opened i (fieldAt rows i 1) inner w′ opened′ r
-  pub assign : fieldAt rows i 0 ≡ 9 → Assigned w i (fieldAt rows i 1) (fieldAt rows i 2) inner w′ r × (opened′ ≡ opened)
+pub record AfterRan (set : Limits) (rows : List ℕ) (i : ℕ) (w opened : List ℕ) (inner : Standing) (w′ opened′ : List ℕ) (r : Standing) : Type 0 where
+  pub box : fieldAt rows i 0 ≡ 7 → Boxed set w inner w′ r × (opened′ ≡ opened)
+  pub bind : fieldAt rows i 0 ≡ 8 → Declared set w opened i (fieldAt rows i 1) inner w′ opened′ r
+  pub assign : fieldAt rows i 0 ≡ 9 → Assigned set w i (fieldAt rows i 1) (fieldAt rows i 2) inner w′ r × (opened′ ≡ opened)
 
 -- ---- terms and blocks
 
 -- A term without an inner term, after n variables opened and so many cells taken.
-pub record PlainRan (rows : List ℕ) (i : ℕ) (readings : List ℤ) (w : List ℕ) (n taken : ℕ) (w′ : List ℕ) (r : Standing) : Type 0 where
+pub record PlainRan (set : Limits) (rows : List ℕ) (i : ℕ) (readings : List ℤ) (w : List ℕ) (n taken : ℕ) (w′ : List ℕ) (r : Standing) : Type 0 where
   pub gives : Gave
-  pub ran : LeafRan rows i readings w w′ gives
+  pub ran : LeafRan set rows i readings w w′ gives
   pub is : r ≡ record { fault = gives .fault; term = i; kind = gives .kind; payload = gives .payload; taken = taken; opened = n; next = i + 1 }
 
 -- The variables opened, n before and m after rows i to j: those before stay, and each row opened one at most.
-pub record Opened (before after : List ℕ) (n m i j : ℕ) : Type 0 where
+pub record Opened (set : Limits) (before after : List ℕ) (n m i j : ℕ) : Type 0 where
   pub kept : (k : ℕ) → k < n → getD after k 0 ≡ getD before k 0
   pub more : n ≤ m
   pub few : m + i ≤ n + j
-  pub listed : Listed after m
-  pub room : j ≤ 512
+  pub listed : Listed set after m
+  pub room : j ≤ set .terms
 
 -- The row after what stands in rows.
 unfoldable pub endOf : {A : Type 0} → RowTree A → ℕ
@@ -309,25 +309,25 @@ abbrev pub runAt : List ℤ → RowTree Term → State → Stood
 runAt readings d s = stoodOn (run (bitsOf readings)) d s
 
 -- What terms and blocks ask of the lent memory.
-pub record Ready (rows : List ℕ) (i : ℕ) (readings : List ℤ) (w opened : List ℕ) (n taken : ℕ) : Type 0 where
-  pub long : length rows ≡ 2560
+pub record Ready (set : Limits) (rows : List ℕ) (i : ℕ) (readings : List ℤ) (w opened : List ℕ) (n taken : ℕ) : Type 0 where
+  pub long : length rows ≡ rowNumbers set
   pub eight : length readings ≡ 8
-  pub many : length opened ≡ 512
-  pub tidy : Tidy w
-  pub ordered : InOrder (stateAt w taken [])
+  pub many : set .terms ≤ length opened
+  pub tidy : Tidy set w
+  pub ordered : InOrder (stateAt set w taken [])
   pub few : n ≤ i
-  pub listed : Listed opened n
+  pub listed : Listed set opened n
 
-pub record TermReady (rows : List ℕ) (i levels : ℕ) (readings : List ℤ) (w opened : List ℕ) (n taken : ℕ) : Type 0 where
-  pub ready : Ready rows i readings w opened n taken
-  pub is : IsTree (treeAt 64 levels rows i)
-  pub cells : taken + boxesAt (treeAt 64 levels rows i) ≤ 64
+pub record TermReady (set : Limits) (rows : List ℕ) (i levels : ℕ) (readings : List ℤ) (w opened : List ℕ) (n taken : ℕ) : Type 0 where
+  pub ready : Ready set rows i readings w opened n taken
+  pub is : IsTree (treeAt (set .variables) levels rows i)
+  pub cells : taken + boxesAt (treeAt (set .variables) levels rows i) ≤ set .boxes
 
-pub record TermRan (rows : List ℕ) (i levels : ℕ) (readings : List ℤ) (w opened : List ℕ) (n taken : ℕ) (w′ opened′ : List ℕ) (r : Standing) : Type 0 where
-  pub tidy : Tidy w′
-  pub is : (begin : ℕ) → begin ≤ n → stood w′ opened′ begin r ≡ runAt readings (treeAt 64 levels rows i) (stateAt w taken (since opened begin (n - begin)))
-  pub sound : r .fault ≡ 0 → Sound (r .kind) (r .payload)
-  pub opens : r .fault ≡ 0 → Opened opened opened′ n (r .opened) i (r .next)
+pub record TermRan (set : Limits) (rows : List ℕ) (i levels : ℕ) (readings : List ℤ) (w opened : List ℕ) (n taken : ℕ) (w′ opened′ : List ℕ) (r : Standing) : Type 0 where
+  pub tidy : Tidy set w′
+  pub is : (begin : ℕ) → begin ≤ n → stood set w′ opened′ begin r ≡ runAt readings (treeAt (set .variables) levels rows i) (stateAt set w taken (since opened begin (n - begin)))
+  pub sound : r .fault ≡ 0 → Sound set (r .kind) (r .payload)
+  pub opens : r .fault ≡ 0 → Opened set opened opened′ n (r .opened) i (r .next)
 
 -- Likewise of block i's terms.
 abbrev pub runsAt : List ℤ → ℕ → RowTree Terms → State → Stood
@@ -339,38 +339,39 @@ restRun readings f i zero j o = ok (o, j)
 restRun readings f i (suc n) j o = seen (dropValue i (o .0) (o .1)) >>= λ s. runsAt readings i (severalAt f n j) s
 
 -- The terms of the block at row i, from the next row on.
-pub record BlockReady (rows : List ℕ) (i levels : ℕ) (readings : List ℤ) (w opened : List ℕ) (n taken : ℕ) : Type 0 where
-  pub ready : Ready rows (i + 1) readings w opened n taken
-  pub room : i < 512
-  pub is : IsRest (treeAt 64 levels rows) (fieldAt rows i 1) (i + 1)
-  pub cells : taken + boxesRest (treeAt 64 levels rows) (fieldAt rows i 1) (i + 1) ≤ 64
+pub record BlockReady (set : Limits) (rows : List ℕ) (i levels : ℕ) (readings : List ℤ) (w opened : List ℕ) (n taken : ℕ) : Type 0 where
+  pub ready : Ready set rows (i + 1) readings w opened n taken
+  pub room : i < set .terms
+  pub is : IsRest (treeAt (set .variables) levels rows) (fieldAt rows i 1) (i + 1)
+  pub cells : taken + boxesRest (treeAt (set .variables) levels rows) (fieldAt rows i 1) (i + 1) ≤ set .boxes
 
-pub record BlockRan (rows : List ℕ) (i levels : ℕ) (readings : List ℤ) (w opened : List ℕ) (n taken : ℕ) (w′ opened′ : List ℕ) (r : Standing) : Type 0 where
-  pub tidy : Tidy w′
-  pub is : stood w′ opened′ n r ≡ restRun readings (treeAt 64 levels rows) i (fieldAt rows i 1) (i + 1) (stateAt w taken [], empty)
-  pub sound : r .fault ≡ 0 → Sound (r .kind) (r .payload)
-  pub opens : r .fault ≡ 0 → Opened opened opened′ n (r .opened) (i + 1) (r .next)
+pub record BlockRan (set : Limits) (rows : List ℕ) (i levels : ℕ) (readings : List ℤ) (w opened : List ℕ) (n taken : ℕ) (w′ opened′ : List ℕ) (r : Standing) : Type 0 where
+  pub tidy : Tidy set w′
+  pub is : stood set w′ opened′ n r ≡ restRun readings (treeAt (set .variables) levels rows) i (fieldAt rows i 1) (i + 1) (stateAt set w taken [], empty)
+  pub sound : r .fault ≡ 0 → Sound set (r .kind) (r .payload)
+  pub opens : r .fault ≡ 0 → Opened set opened opened′ n (r .opened) (i + 1) (r .next)
 
 -- ---- a whole script
 
-pub record ScriptReady (rows : List ℕ) (readings : List ℤ) (w : List ℕ) : Type 0 where
-  pub long : length rows ≡ 2560
+pub record ScriptReady (set : Limits) (rows : List ℕ) (readings : List ℤ) (w : List ℕ) : Type 0 where
+  pub ranges : inRanges set ≡ true
+  pub long : length rows ≡ rowNumbers set
   pub eight : length readings ≡ 8
-  pub size : length w ≡ 384
+  pub size : length w ≡ storeNumbers set
   pub root : fieldAt rows 0 0 ≡ 11
-  pub is : IsTree (treeAt 64 16 rows 0)
-  pub cells : boxesAt (treeAt 64 16 rows 0) ≤ 64
+  pub is : IsTree (treeAt (set .variables) (set .levels) rows 0)
+  pub cells : boxesAt (treeAt (set .variables) (set .levels) rows 0) ≤ set .boxes
 
-unfoldable pub scriptOn : List ℤ → RowTree Term → AnswerAndStore
-scriptOn readings none = ranInto base (runScript (bitsOf readings) (number 0 0) (λ x. closed))
-scriptOn readings (some r) = ranInto base (runScript (bitsOf readings) (r .0) (λ x. closed))
+unfoldable pub scriptOn : Limits → List ℤ → RowTree Term → AnswerAndStore
+scriptOn set readings none = ranInto set (runScript (bitsOf readings) (number 0 0) (λ x. closed))
+scriptOn set readings (some r) = ranInto set (runScript (bitsOf readings) (r .0) (λ x. closed))
 
-unfoldable pub scriptRan : List ℕ → List ℤ → AnswerAndStore
-scriptRan rows readings = scriptOn readings (treeAt 64 16 rows 0)
+unfoldable pub scriptRan : Limits → List ℕ → List ℤ → AnswerAndStore
+scriptRan set rows readings = scriptOn set readings (treeAt (set .variables) (set .levels) rows 0)
 
 -- What the run of judged rows asks: the reader's word for the rows, and the lengths of the rest.
-pub record RunReady (rows : List ℕ) (readings : List ℤ) (w : List ℕ) : Type 0 where
+pub record RunReady (set : Limits) (rows : List ℕ) (readings : List ℤ) (w : List ℕ) : Type 0 where
   pub terms : ℕ
-  pub judged : judgedOf base rows ≡ ok terms
+  pub judged : judgedOf set rows ≡ ok terms
   pub eight : length readings ≡ 8
-  pub size : length w ≡ 384
+  pub size : length w ≡ storeNumbers set

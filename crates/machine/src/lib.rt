@@ -1,6 +1,7 @@
 // The store machine (LANGUAGE 4): running a script that is given as term rows.
 ghost use mathlib.Core.Path.{_≡_};
-ghost use Rattle.reader.specs.Limits.{base};
+ghost use Prim.Native.Nat.{_≤_};
+ghost use lib.ListN.{length};
 ghost use Rattle.machine.specs.Answers.{toldRun, runOf};
 ghost use Rattle.machine.specs.Parts.{RunReady};
 
@@ -18,6 +19,13 @@ use crate::signed::number_of;
 use crate::store::clear;
 use crate::terms::run_block;
 use reader::limits;
+use reader::limits::Limits;
+
+// The lengths of a list of the variables opened, which has a number for each term: for a set of at most so many terms,
+// and for any set (LANGUAGE 2.8).
+const SHORT: usize = 512;
+
+const LONG: usize = limits::MOST_TERMS as usize;
 
 // The answer (LANGUAGE 4.20) and the cells taken (4.22); or a refusal and its place; or a fault and its term (5.2).
 pub enum RunOutcome {
@@ -26,17 +34,23 @@ pub enum RunOutcome {
     Faulted(u32, usize),
 }
 
-// The run (LANGUAGE 4.4) and its answer (4.20), of rows that the reader accepts, with memory of the right lengths: for
-// callers that have the reader's word for it.
-pub fn run_judged(rows: &[u32], readings: &[i32], store: &mut [u32]) -> RunOutcome
-    requires { ⌜ RunReady (now rows) (now readings) (now store) ⌝ }
-    ensures { λ r. ⌜ (toldRun r, now (store .exit)) ≡ runOf base (now (rows .entry)) (now (readings .entry)) (now (store .entry)) ⌝ }
+// The run (LANGUAGE 4.4) and its answer (4.20), of rows that the reader accepts under the set (2.8), with memory of the
+// right lengths. `opened` has room for a variable of each term. The set goes down as one number, in a register.
+fn run_script(
+    set: Limits,
+    rows: &[u32],
+    readings: &[i32],
+    store: &mut [u32],
+    opened: &mut [u8],
+) -> RunOutcome
+    requires { ⌜ RunReady set (now rows) (now readings) (now store) × (set .terms ≤ length (now opened)) ⌝ }
+    ensures { λ r. ⌜ (toldRun r, now (store .exit)) ≡ runOf set (now (rows .entry)) (now (readings .entry)) (now (store .entry)) ⌝ }
 {
     clear(store);
-    let mut opened: [u8; limits::TERMS] = [0; limits::TERMS];
-    let deeper = limits::LEVELS - 1;
-    let inner = run_block(rows, 0, deeper, readings, store, &mut opened, 0, 0);
-    let ran = close_block(store, &opened, 0, 0, inner);
+    let sizes = limits::packed(set);
+    let deeper = set.levels as usize - 1;
+    let inner = run_block(sizes, rows, 0, deeper, readings, store, opened, 0, 0);
+    let ran = close_block(sizes, store, opened, 0, 0, inner);
     if ran.fault != numbers::NO_FAULT {
         return RunOutcome::Faulted(ran.fault, ran.term);
     }
@@ -46,23 +60,40 @@ pub fn run_judged(rows: &[u32], readings: &[i32], store: &mut [u32]) -> RunOutco
     RunOutcome::Answered(number_of(ran.payload), ran.taken)
 }
 
-// Run (LANGUAGE 6.6): the script of the term rows, unchecked, with the readings. A refusal leaves the store unchanged;
-// a fault leaves it as the run rules had it (4.21).
-pub fn run(rows: &[u32], readings: &[i32], store: &mut [u32]) -> RunOutcome
-    ensures { λ r. ⌜ (toldRun r, now (store .exit)) ≡ runOf base (now (rows .entry)) (now (readings .entry)) (now (store .entry)) ⌝ }
+// The same, for callers that have the reader's word for the rows. A set of few terms has a short list of the variables
+// opened, so that its runs do not clear a long one.
+pub fn run_judged(set: Limits, rows: &[u32], readings: &[i32], store: &mut [u32]) -> RunOutcome
+    requires { ⌜ RunReady set (now rows) (now readings) (now store) ⌝ }
+    ensures { λ r. ⌜ (toldRun r, now (store .exit)) ≡ runOf set (now (rows .entry)) (now (readings .entry)) (now (store .entry)) ⌝ }
 {
-    if rows.len() != limits::ROW_NUMBERS {
+    if set.terms as usize <= SHORT {
+        let mut short: [u8; SHORT] = [0; SHORT];
+        return run_script(set, rows, readings, store, &mut short);
+    }
+    let mut long: [u8; LONG] = [0; LONG];
+    run_script(set, rows, readings, store, &mut long)
+}
+
+// Run (LANGUAGE 6.6): the script of the term rows, unchecked, with the readings, under the set (2.8). A refusal leaves
+// the store unchanged; a fault leaves it as the run rules had it (4.21).
+pub fn run(set: Limits, rows: &[u32], readings: &[i32], store: &mut [u32]) -> RunOutcome
+    ensures { λ r. ⌜ (toldRun r, now (store .exit)) ≡ runOf set (now (rows .entry)) (now (readings .entry)) (now (store .entry)) ⌝ }
+{
+    if !limits::in_ranges(set) {
+        return RunOutcome::Refused(limits::SET_OUTSIDE, 0);
+    }
+    if rows.len() != limits::row_numbers(set) {
         return RunOutcome::Refused(limits::ROWS_LENGTH, 0);
     }
-    if store.len() != limits::STORE_NUMBERS {
+    if store.len() != limits::store_numbers(set) {
         return RunOutcome::Refused(limits::STORE_LENGTH, 0);
     }
     if readings.len() != limits::READINGS as usize {
         return RunOutcome::Refused(limits::READINGS_LENGTH, 0);
     }
-    let judged = reader::judge_rows(rows);
+    let judged = reader::judge_rows(set, rows);
     match judged {
         reader::Outcome::Refused(number, row) => RunOutcome::Refused(number, row),
-        reader::Outcome::Count(terms) => run_judged(rows, readings, store),
+        reader::Outcome::Count(terms) => run_judged(set, rows, readings, store),
     }
 }

@@ -1,9 +1,11 @@
 // Locating a place (LANGUAGE 4.6), and reading the row that it leads to (4.7).
 ghost use Prim.Native.Nat.{_<_};
+ghost use Rattle.reader.specs.Limits.{storeRows, unpacked};
 ghost use Rattle.machine.specs.Words.{Tidy};
 ghost use Rattle.machine.specs.Parts.{Followed, Located, Filled};
 use crate::numbers;
 use crate::store::load;
+use reader::limits;
 
 // A row, or a fault: 0 for none.
 pub struct Found {
@@ -19,11 +21,11 @@ pub struct Gave {
 }
 
 // One follow (LANGUAGE 4.6): the row that an owner or a reference leads to; 60 at a row without value, 61 at a number.
-pub fn follow(store: &[u32], row: usize) -> Found
-    requires { ⌜ Tidy (now store) × (row < 128) ⌝ }
-    ensures { λ r. ⌜ Followed (now (store .entry)) row r ⌝ }
+pub fn follow(sizes: usize, store: &[u32], row: usize) -> Found
+    requires { ⌜ Tidy (unpacked sizes) (now store) × (row < storeRows (unpacked sizes)) ⌝ }
+    ensures { λ r. ⌜ Followed (unpacked sizes) (now (store .entry)) row r ⌝ }
 {
-    let here = load(store, row);
+    let here = load(sizes, store, row);
     if here.state != numbers::OPEN {
         return Found {
             fault: numbers::NOT_THERE,
@@ -33,7 +35,7 @@ pub fn follow(store: &[u32], row: usize) -> Found
     if here.kind == numbers::OWNER {
         return Found {
             fault: numbers::NO_FAULT,
-            row: numbers::FIRST_CELL + here.payload as usize,
+            row: sizes % limits::VARIABLES_MODULUS + here.payload as usize,
         };
     }
     if here.kind == numbers::REFERENCE {
@@ -55,21 +57,21 @@ pub fn follow(store: &[u32], row: usize) -> Found
 }
 
 // Locating (LANGUAGE 4.6): from the variable's own row, by each follow, to a row that must be open (60).
-pub fn locate(store: &[u32], root: usize, follows: usize) -> Found
-    requires { ⌜ Tidy (now store) × (root < 64) ⌝ }
-    ensures { λ r. ⌜ Located (now (store .entry)) root follows r ⌝ }
+pub fn locate(sizes: usize, store: &[u32], root: usize, follows: usize) -> Found
+    requires { ⌜ Tidy (unpacked sizes) (now store) × (root < unpacked sizes .variables) ⌝ }
+    ensures { λ r. ⌜ Located (unpacked sizes) (now (store .entry)) root follows r ⌝ }
 {
     let mut row = root;
     let mut left = follows;
     while 0 < left {
-        let found = follow(store, row);
+        let found = follow(sizes, store, row);
         if found.fault != numbers::NO_FAULT {
             return found;
         }
         row = found.row;
         left -= 1;
     }
-    let here = load(store, row);
+    let here = load(sizes, store, row);
     if here.state != numbers::OPEN {
         return Found {
             fault: numbers::NOT_THERE,
@@ -83,11 +85,11 @@ pub fn locate(store: &[u32], root: usize, follows: usize) -> Found
 }
 
 // Reading a row (LANGUAGE 4.7): it must be filled (60).
-pub fn read_row(store: &[u32], row: usize) -> Gave
-    requires { ⌜ Tidy (now store) × (row < 128) ⌝ }
-    ensures { λ r. ⌜ Filled (now (store .entry)) row r ⌝ }
+pub fn read_row(sizes: usize, store: &[u32], row: usize) -> Gave
+    requires { ⌜ Tidy (unpacked sizes) (now store) × (row < storeRows (unpacked sizes)) ⌝ }
+    ensures { λ r. ⌜ Filled (unpacked sizes) (now (store .entry)) row r ⌝ }
 {
-    let here = load(store, row);
+    let here = load(sizes, store, row);
     if here.state != numbers::OPEN {
         return Gave {
             fault: numbers::NOT_THERE,

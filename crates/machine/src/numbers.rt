@@ -1,7 +1,4 @@
-// The numbers in the store's rows (LANGUAGE 4.1 to 4.3), and the faults (5.6).
-
-// The rows of the cells come after those of the variables (LANGUAGE 4.1).
-pub const FIRST_CELL: usize = 64;
+// The numbers in the store's rows (LANGUAGE 4.2, 4.3), and the faults (5.6).
 
 // The states (LANGUAGE 4.2).
 pub const CLOSED: u32 = 0;

@@ -2,6 +2,7 @@
 ghost use mathlib.Core.Path.{_≡_};
 ghost use Prim.Native.Nat.{_<_};
 ghost use lib.ListN.{length};
+ghost use Rattle.reader.specs.Limits.{unpacked};
 ghost use Rattle.machine.specs.Answers.{bitsOf};
 ghost use Rattle.machine.specs.Words.{Tidy};
 ghost use Rattle.machine.specs.Parts.{Copied, Moved, Borrowed, Numbered, Compared, LeafReady, LeafRan};
@@ -48,40 +49,40 @@ fn reading_bits(readings: &[i32], n: usize) -> u32
 }
 
 // Copy (LANGUAGE 4.10): locate, read; the row stays.
-pub fn run_copy(store: &[u32], root: usize, follows: usize) -> Gave
-    requires { ⌜ Tidy (now store) × (root < 64) ⌝ }
-    ensures { λ r. ⌜ Copied (now (store .entry)) root follows r ⌝ }
+pub fn run_copy(sizes: usize, store: &[u32], root: usize, follows: usize) -> Gave
+    requires { ⌜ Tidy (unpacked sizes) (now store) × (root < unpacked sizes .variables) ⌝ }
+    ensures { λ r. ⌜ Copied (unpacked sizes) (now (store .entry)) root follows r ⌝ }
 {
-    let found = locate(store, root, follows);
+    let found = locate(sizes, store, root, follows);
     if found.fault != numbers::NO_FAULT {
         return failed(found.fault);
     }
-    read_row(store, found.row)
+    read_row(sizes, store, found.row)
 }
 
 // Move (LANGUAGE 4.11): locate, read; the row becomes empty.
-pub fn run_move(store: &mut [u32], root: usize, follows: usize) -> Gave
-    requires { ⌜ Tidy (now store) × (root < 64) ⌝ }
-    ensures { λ r. ⌜ Moved (now (store .entry)) root follows (now (store .exit)) r ⌝ }
+pub fn run_move(sizes: usize, store: &mut [u32], root: usize, follows: usize) -> Gave
+    requires { ⌜ Tidy (unpacked sizes) (now store) × (root < unpacked sizes .variables) ⌝ }
+    ensures { λ r. ⌜ Moved (unpacked sizes) (now (store .entry)) root follows (now (store .exit)) r ⌝ }
 {
-    let found = locate(store, root, follows);
+    let found = locate(sizes, store, root, follows);
     if found.fault != numbers::NO_FAULT {
         return failed(found.fault);
     }
-    let held = read_row(store, found.row);
+    let held = read_row(sizes, store, found.row);
     if held.fault != numbers::NO_FAULT {
         return held;
     }
-    put_row(store, found.row, numbers::OPEN, numbers::EMPTY, 0);
+    put_row(sizes, store, found.row, numbers::OPEN, numbers::EMPTY, 0);
     held
 }
 
 // Borrow, of either kind (LANGUAGE 4.12): a reference to the located row.
-pub fn run_borrow(store: &[u32], root: usize, follows: usize) -> Gave
-    requires { ⌜ Tidy (now store) × (root < 64) ⌝ }
-    ensures { λ r. ⌜ Borrowed (now (store .entry)) root follows r ⌝ }
+pub fn run_borrow(sizes: usize, store: &[u32], root: usize, follows: usize) -> Gave
+    requires { ⌜ Tidy (unpacked sizes) (now store) × (root < unpacked sizes .variables) ⌝ }
+    ensures { λ r. ⌜ Borrowed (unpacked sizes) (now (store .entry)) root follows r ⌝ }
 {
-    let found = locate(store, root, follows);
+    let found = locate(sizes, store, root, follows);
     if found.fault != numbers::NO_FAULT {
         return failed(found.fault);
     }
@@ -93,11 +94,11 @@ pub fn run_borrow(store: &[u32], root: usize, follows: usize) -> Gave
 }
 
 // A place of a below (LANGUAGE 4.16): locate, read; a number must be there (61).
-pub fn run_number(store: &[u32], root: usize, follows: usize) -> Gave
-    requires { ⌜ Tidy (now store) × (root < 64) ⌝ }
-    ensures { λ r. ⌜ Numbered (now (store .entry)) root follows r ⌝ }
+pub fn run_number(sizes: usize, store: &[u32], root: usize, follows: usize) -> Gave
+    requires { ⌜ Tidy (unpacked sizes) (now store) × (root < unpacked sizes .variables) ⌝ }
+    ensures { λ r. ⌜ Numbered (unpacked sizes) (now (store .entry)) root follows r ⌝ }
 {
-    let held = run_copy(store, root, follows);
+    let held = run_copy(sizes, store, root, follows);
     if held.fault != numbers::NO_FAULT {
         return held;
     }
@@ -108,15 +109,22 @@ pub fn run_number(store: &[u32], root: usize, follows: usize) -> Gave
 }
 
 // Below (LANGUAGE 4.16): the number at the first place, then that at the second; 1 if the first is less, otherwise 0.
-pub fn run_below(store: &[u32], root: usize, follows: usize, other: usize, others: usize) -> Gave
-    requires { ⌜ Tidy (now store) × (root < 64) × (other < 64) ⌝ }
-    ensures { λ r. ⌜ Compared (now (store .entry)) root follows other others r ⌝ }
+pub fn run_below(
+    sizes: usize,
+    store: &[u32],
+    root: usize,
+    follows: usize,
+    other: usize,
+    others: usize,
+) -> Gave
+    requires { ⌜ Tidy (unpacked sizes) (now store) × (root < unpacked sizes .variables) × (other < unpacked sizes .variables) ⌝ }
+    ensures { λ r. ⌜ Compared (unpacked sizes) (now (store .entry)) root follows other others r ⌝ }
 {
-    let first = run_number(store, root, follows);
+    let first = run_number(sizes, store, root, follows);
     if first.fault != numbers::NO_FAULT {
         return first;
     }
-    let second = run_number(store, other, others);
+    let second = run_number(sizes, store, other, others);
     if second.fault != numbers::NO_FAULT {
         return second;
     }
@@ -127,9 +135,9 @@ pub fn run_below(store: &[u32], root: usize, follows: usize, other: usize, other
 }
 
 // The term at row i, if it has no inner term, by the rule of its kind (LANGUAGE 4.9 to 4.12, 4.16).
-pub fn run_leaf(rows: &[u32], i: usize, readings: &[i32], store: &mut [u32]) -> Gave
-    requires { ⌜ LeafReady (now rows) i (now readings) (now store) ⌝ }
-    ensures { λ r. ⌜ LeafRan (now (rows .entry)) i (now (readings .entry)) (now (store .entry)) (now (store .exit)) r ⌝ }
+pub fn run_leaf(sizes: usize, rows: &[u32], i: usize, readings: &[i32], store: &mut [u32]) -> Gave
+    requires { ⌜ LeafReady (unpacked sizes) (now rows) i (now readings) (now store) ⌝ }
+    ensures { λ r. ⌜ LeafRan (unpacked sizes) (now (rows .entry)) i (now (readings .entry)) (now (store .entry)) (now (store .exit)) r ⌝ }
 {
     let kind = field_at(rows, i, 0);
     let first = field_at(rows, i, 1);
@@ -138,13 +146,13 @@ pub fn run_leaf(rows: &[u32], i: usize, readings: &[i32], store: &mut [u32]) -> 
     match kind {
         kinds::NUMBER => numbered(first),
         kinds::READING => numbered(reading_bits(readings, root)),
-        kinds::COPY => run_copy(store, root, follows),
-        kinds::MOVE => run_move(store, root, follows),
+        kinds::COPY => run_copy(sizes, store, root, follows),
+        kinds::MOVE => run_move(sizes, store, root, follows),
         kinds::BELOW => {
             let other = index_of(field_at(rows, i, 3));
             let others = index_of(field_at(rows, i, 4));
-            run_below(store, root, follows, other, others)
+            run_below(sizes, store, root, follows, other, others)
         }
-        _ => run_borrow(store, root, follows),
+        _ => run_borrow(sizes, store, root, follows),
     }
 }

@@ -2,6 +2,7 @@
 ghost use mathlib.Core.Path.{_≡_};
 ghost use Prim.Native.Nat.{_<_};
 ghost use lib.ListN.{length};
+ghost use Rattle.reader.specs.Limits.{storeRows, unpacked};
 ghost use Rattle.reader.specs.Layout.{zeros};
 ghost use Rattle.machine.specs.Words.{Tidy, IsRow, Loaded, Written};
 
@@ -12,10 +13,11 @@ pub struct Entry {
     pub payload: u32,
 }
 
-// The three numbers of a row (LANGUAGE 4.1).
-pub fn load(store: &[u32], row: usize) -> Entry
-    requires { ⌜ Tidy (now store) × (row < 128) ⌝ }
-    ensures { λ r. ⌜ Loaded (now (store .entry)) row r ⌝ }
+// The three numbers of a row (LANGUAGE 4.1). `sizes` is the set (2.8) in one number; here, in put_row and in
+// `entered` only the contract uses it.
+pub fn load(sizes: usize, store: &[u32], row: usize) -> Entry
+    requires { ⌜ Tidy (unpacked sizes) (now store) × (row < storeRows (unpacked sizes)) ⌝ }
+    ensures { λ r. ⌜ Loaded (unpacked sizes) (now (store .entry)) row r ⌝ }
 {
     let at = 3 * row;
     Entry {
@@ -26,9 +28,9 @@ pub fn load(store: &[u32], row: usize) -> Entry
 }
 
 // Sets the three numbers of a row (LANGUAGE 4.1).
-pub fn put_row(store: &mut [u32], row: usize, state: u32, kind: u32, payload: u32)
-    requires { ⌜ Tidy (now store) × (row < 128) × IsRow state kind payload ⌝ }
-    ensures { λ _. ⌜ Written (now (store .entry)) row state kind payload (now (store .exit)) ⌝ }
+pub fn put_row(sizes: usize, store: &mut [u32], row: usize, state: u32, kind: u32, payload: u32)
+    requires { ⌜ Tidy (unpacked sizes) (now store) × (row < storeRows (unpacked sizes)) × IsRow (unpacked sizes) state kind payload ⌝ }
+    ensures { λ _. ⌜ Written (unpacked sizes) (now (store .entry)) row state kind payload (now (store .exit)) ⌝ }
 {
     let at = 3 * row;
     let at1 = 3 * row + 1;

@@ -3,6 +3,7 @@ ghost use mathlib.Core.Path.{_≡_};
 ghost use mathlib.Core.Bool.{false};
 ghost use Prim.Native.Nat.{_<_};
 ghost use Rattle.reader.specs.Kinds.{wrapsOf};
+ghost use Rattle.reader.specs.Limits.{unpacked};
 ghost use Rattle.reader.specs.RowParts.{fieldAt};
 ghost use Rattle.machine.specs.Parts.{LeafReady, PlainRan, AfterReady, AfterRan, TermReady, TermRan, BlockReady, BlockRan};
 use crate::around::Standing;
@@ -22,6 +23,7 @@ use reader::kinds::wraps;
 
 // The term at row i, if it has no inner term (LANGUAGE 4.9 to 4.12, 4.16): it opens no variable and takes no cell.
 fn run_plain(
+    sizes: usize,
     rows: &[u32],
     i: usize,
     readings: &[i32],
@@ -29,10 +31,10 @@ fn run_plain(
     count: usize,
     taken: usize,
 ) -> Standing
-    requires { ⌜ LeafReady (now rows) i (now readings) (now store) × (i < 512) ⌝ }
-    ensures { λ r. ⌜ PlainRan (now (rows .entry)) i (now (readings .entry)) (now (store .entry)) count taken (now (store .exit)) r ⌝ }
+    requires { ⌜ LeafReady (unpacked sizes) (now rows) i (now readings) (now store) × (i < unpacked sizes .terms) ⌝ }
+    ensures { λ r. ⌜ PlainRan (unpacked sizes) (now (rows .entry)) i (now (readings .entry)) (now (store .entry)) count taken (now (store .exit)) r ⌝ }
 {
-    let gave = run_leaf(rows, i, readings, store);
+    let gave = run_leaf(sizes, rows, i, readings, store);
     Standing {
         fault: gave.fault,
         term: i,
@@ -46,25 +48,34 @@ fn run_plain(
 
 // What follows the inner term of a box, let or assign (LANGUAGE 4.13 to 4.15), which is at row i.
 fn run_after(
+    sizes: usize,
     rows: &[u32],
     i: usize,
     store: &mut [u32],
     opened: &mut [u8],
     inner: Standing,
 ) -> Standing
-    requires { ⌜ AfterReady (now rows) i (now store) (now opened) inner ⌝ }
-    ensures { λ r. ⌜ AfterRan (now (rows .entry)) i (now (store .entry)) (now (opened .entry)) inner (now (store .exit)) (now (opened .exit)) r ⌝ }
+    requires { ⌜ AfterReady (unpacked sizes) (now rows) i (now store) (now opened) inner ⌝ }
+    ensures { λ r. ⌜ AfterRan (unpacked sizes) (now (rows .entry)) i (now (store .entry)) (now (opened .entry)) inner (now (store .exit)) (now (opened .exit)) r ⌝ }
 {
     let kind = field_at(rows, i, 0);
     match kind {
-        kinds::BOX => run_box(store, inner),
-        kinds::LET => run_let(store, opened, i, field_at(rows, i, 1), inner),
-        _ => run_assign(store, i, field_at(rows, i, 1), field_at(rows, i, 2), inner),
+        kinds::BOX => run_box(sizes, store, inner),
+        kinds::LET => run_let(sizes, store, opened, i, field_at(rows, i, 1), inner),
+        _ => run_assign(
+            sizes,
+            store,
+            i,
+            field_at(rows, i, 1),
+            field_at(rows, i, 2),
+            inner,
+        ),
     }
 }
 
 // The term at row i, which has no inner term or is a block: its terms, then its end (LANGUAGE 4.17).
 fn run_inmost(
+    sizes: usize,
     rows: &[u32],
     i: usize,
     levels: usize,
@@ -74,20 +85,31 @@ fn run_inmost(
     count: usize,
     taken: usize,
 ) -> Standing
-    requires { ⌜ TermReady (now rows) i levels (now readings) (now store) (now opened) count taken × (wrapsOf (fieldAt (now rows) i 0) ≡ false) ⌝ }
-    ensures { λ r. ⌜ TermRan (now (rows .entry)) i levels (now (readings .entry)) (now (store .entry)) (now (opened .entry)) count taken (now (store .exit)) (now (opened .exit)) r ⌝ }
+    requires { ⌜ TermReady (unpacked sizes) (now rows) i levels (now readings) (now store) (now opened) count taken × (wrapsOf (fieldAt (now rows) i 0) ≡ false) ⌝ }
+    ensures { λ r. ⌜ TermRan (unpacked sizes) (now (rows .entry)) i levels (now (readings .entry)) (now (store .entry)) (now (opened .entry)) count taken (now (store .exit)) (now (opened .exit)) r ⌝ }
 {
     let kind = field_at(rows, i, 0);
     if kind == kinds::BLOCK {
-        let inner = run_block(rows, i, levels - 1, readings, store, opened, count, taken);
-        return close_block(store, opened, i, count, inner);
+        let inner = run_block(
+            sizes,
+            rows,
+            i,
+            levels - 1,
+            readings,
+            store,
+            opened,
+            count,
+            taken,
+        );
+        return close_block(sizes, store, opened, i, count, inner);
     }
-    run_plain(rows, i, readings, store, count, taken)
+    run_plain(sizes, rows, i, readings, store, count, taken)
 }
 
 // The term at row i, nested at most as deep as levels says, after `count` variables opened and so many cells taken:
 // the innermost term first, then what follows it, outwards (LANGUAGE 4.13 to 4.15). So calls nest for blocks only.
 fn run_term(
+    sizes: usize,
     rows: &[u32],
     i: usize,
     levels: usize,
@@ -97,8 +119,8 @@ fn run_term(
     count: usize,
     taken: usize,
 ) -> Standing
-    requires { ⌜ TermReady (now rows) i levels (now readings) (now store) (now opened) count taken ⌝ }
-    ensures { λ r. ⌜ TermRan (now (rows .entry)) i levels (now (readings .entry)) (now (store .entry)) (now (opened .entry)) count taken (now (store .exit)) (now (opened .exit)) r ⌝ }
+    requires { ⌜ TermReady (unpacked sizes) (now rows) i levels (now readings) (now store) (now opened) count taken ⌝ }
+    ensures { λ r. ⌜ TermRan (unpacked sizes) (now (rows .entry)) i levels (now (readings .entry)) (now (store .entry)) (now (opened .entry)) count taken (now (store .exit)) (now (opened .exit)) r ⌝ }
 {
     let mut around = 0;
     while wraps(field_at(rows, i + around, 0)) {
@@ -106,10 +128,20 @@ fn run_term(
     }
     let inmost = i + around;
     let deeper = levels - around;
-    let mut ran = run_inmost(rows, inmost, deeper, readings, store, opened, count, taken);
+    let mut ran = run_inmost(
+        sizes,
+        rows,
+        inmost,
+        deeper,
+        readings,
+        store,
+        opened,
+        count,
+        taken,
+    );
     while 0 < around {
         around -= 1;
-        ran = run_after(rows, i + around, store, opened, ran);
+        ran = run_after(sizes, rows, i + around, store, opened, ran);
     }
     ran
 }
@@ -117,6 +149,7 @@ fn run_term(
 // The terms of the block at row `block` (LANGUAGE 4.17), from the next row on: each value but the last is dropped after
 // its term.
 pub fn run_block(
+    sizes: usize,
     rows: &[u32],
     block: usize,
     levels: usize,
@@ -126,17 +159,18 @@ pub fn run_block(
     count: usize,
     taken: usize,
 ) -> Standing
-    requires { ⌜ BlockReady (now rows) block levels (now readings) (now store) (now opened) count taken ⌝ }
-    ensures { λ r. ⌜ BlockRan (now (rows .entry)) block levels (now (readings .entry)) (now (store .entry)) (now (opened .entry)) count taken (now (store .exit)) (now (opened .exit)) r ⌝ }
+    requires { ⌜ BlockReady (unpacked sizes) (now rows) block levels (now readings) (now store) (now opened) count taken ⌝ }
+    ensures { λ r. ⌜ BlockRan (unpacked sizes) (now (rows .entry)) block levels (now (readings .entry)) (now (store .entry)) (now (opened .entry)) count taken (now (store .exit)) (now (opened .exit)) r ⌝ }
 {
     let mut left = index_of(field_at(rows, block, 1));
-    let mut at = entered(block, count, taken);
+    let mut at = entered(sizes, block, count, taken);
     while 0 < left {
-        let fault = drop_any(store, at.kind, at.payload);
+        let fault = drop_any(sizes, store, at.kind, at.payload);
         if fault != numbers::NO_FAULT {
             return without_value(at, fault, block);
         }
         let ran = run_term(
+            sizes,
             rows,
             at.next,
             levels,

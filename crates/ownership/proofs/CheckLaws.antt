@@ -8,18 +8,19 @@ use lib.ListN.{getD}
 use mir.Val.{Fits}
 use mir.Syntax.{w32}
 use Rattle.reader.specs.Result.{Result, ok, err, Refusal, _>>=_}
-use Rattle.reader.specs.Limits.{Limits, base}
+use Rattle.reader.specs.Limits.{Limits}
 use Rattle.reader.specs.Script.{Term}
 use Rattle.reader.specs.Measures.{size}
 use Rattle.reader.specs.Within.{Under}
-use Rattle.reader.specs.RowTrees.{IsTree, treeAt}
+use Rattle.reader.specs.RowTrees.{RowTree, IsTree, treeAt}
 use Rattle.reader.specs.Answers.{told, rowsTree, judgedOf}
 use Rattle.reader.specs.declared.Outcome.{Outcome}
 use Rattle.reader.specs.declared.Outcome.the-variants as outcome
 use Rattle.reader.proofs.Answers.{then}
 use Rattle.reader.proofs.Lists.{under-all}
 use Rattle.reader.proofs.RowTrees.{tree-stands}
-use Rattle.reader.proofs.Promise.{tree-decoded}
+use Rattle.reader.proofs.Promise.{Decoded, tree-decoded}
+use Rattle.reader.proofs.Ranges.{Ranged, ranged}
 use Rattle.rules.specs.declared.rules.Requirement.{Requirement}
 use Rattle.rules.specs.declared.rules.Requirement.the-variants as requirement
 use Rattle.rules.specs.Judge.{judgeScript}
@@ -41,26 +42,33 @@ rows-refused l rows o n at h q = go (rowsTree l rows) (rw q at h)
     go (err e) z = z
 
 -- The reader counts n terms.
-module _ (rows : List ℕ) (under : Under 4294967296 rows) (n : ℕ) (counted : judgedOf base rows ≡ ok n) where
-  script : (t : Term) × (rowsTree base rows ≡ ok t) × (n ≡ size t) × (treeAt 64 16 rows 0 ≡ some (t, size t))
-  unfolding judgedOf base
-  script =
-      let w = then (rowsTree base rows) (λ t. ok (size t)) n counted in
-      let d = tree-decoded base rows (w .0) (w .1) in
-      (w .0, w .1, cc (w .2), tree-stands base rows (w .0) under (d .0) (d .1))
+module _ (l : Limits) (rows : List ℕ) (under : Under 4294967296 rows) (n : ℕ) (counted : judgedOf l rows ≡ ok n) where
+  -- The number of variables and the levels that the script is judged with are those of the set (LANGUAGE 2.8).
+  abbrev tree : RowTree Term
+  tree = treeAt (l .variables) (l .levels) rows 0
 
-  pub script-is : IsTree (treeAt 64 16 rows 0)
-  script-is = rw (script .3) tt
+  script : (t : Term) × Decoded l rows t × (rowsTree l rows ≡ ok t) × (n ≡ size t) × (tree ≡ some (t, size t))
+  unfolding judgedOf
+  script =
+      let w = then (rowsTree l rows) (λ t. ok (size t)) n counted in
+      let d = tree-decoded l rows (w .0) (w .1) in
+      (w .0, d, w .1, cc (w .2), tree-stands l rows (w .0) under (d .length) (d .decodes))
+
+  pub set-ranged : Ranged l
+  set-ranged = ranged l (script .1 .ranges)
+
+  pub script-is : IsTree tree
+  script-is = rw (script .4) tt
 
   -- The judge's answer is the check's, with the number of terms where it accepts.
-  judged : (r : Requirement) → asRequirement r ≡ scriptAt 64 (treeAt 64 16 rows 0) → (asRequirement r >>= λ _. ok n) ≡ checkOf base rows
-  unfolding checkOf scriptAt base _>>=_
-  judged r e = rw (e, script .3, script .1) (ap (λ (k : ℕ). judgeScript 64 (script .0) >>= λ _. ok k) (script .2))
+  judged : (r : Requirement) → asRequirement r ≡ scriptAt (l .variables) tree → (asRequirement r >>= λ _. ok n) ≡ checkOf l rows
+  unfolding checkOf scriptAt _>>=_
+  judged r e = rw (e, script .4, script .2) (ap (λ (k : ℕ). judgeScript (l .variables) (script .0) >>= λ _. ok k) (script .3))
 
-  pub rules-accepted : (r : Requirement) → asRequirement r ≡ scriptAt 64 (treeAt 64 16 rows 0) → r ≡ requirement.Met → ok n ≡ checkOf base rows
+  pub rules-accepted : (r : Requirement) → asRequirement r ≡ scriptAt (l .variables) tree → r ≡ requirement.Met → ok n ≡ checkOf l rows
   unfolding asRequirement _>>=_
   rules-accepted r e met = rw met at (judged r e)
 
-  pub rules-refused : (r : Requirement) → asRequirement r ≡ scriptAt 64 (treeAt 64 16 rows 0) → (m at : ℕ) → r ≡ requirement.Refused m at → err (m, at) ≡ checkOf base rows
+  pub rules-refused : (r : Requirement) → asRequirement r ≡ scriptAt (l .variables) tree → (m at : ℕ) → r ≡ requirement.Refused m at → err (m, at) ≡ checkOf l rows
   unfolding asRequirement _>>=_
   rules-refused r e m at p = rw p at (judged r e)

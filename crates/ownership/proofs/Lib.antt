@@ -5,5 +5,6 @@ pub mod BlockTerm
 pub mod LeafLaws
 pub mod BlockLaws
 pub mod ScriptLaws
+pub mod TableStart
 pub mod CheckLaws
 pub mod Accepted

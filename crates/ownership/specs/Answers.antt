@@ -14,7 +14,7 @@ unfoldable pub toldChecked : Checked → Result Refusal ℕ
 toldChecked (Accepted n) = ok n
 toldChecked (Refused n p) = err (n, p)
 
--- `check` (LANGUAGE 6.5): 2, then 12 to 19, then 30 to 43 (5.7); for an accepted script (3.30) its number of terms.
+-- `check` (LANGUAGE 6.5): 74, 2, then 12 to 19, then 30 to 43 (5.7); for an accepted script (3.30) its number of terms.
 unfoldable pub checkOf : Limits → List ℕ → Result Refusal ℕ
 checkOf l rows =
     rowsTree l rows >>= λ t.

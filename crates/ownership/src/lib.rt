@@ -1,21 +1,20 @@
-// The ownership check (LANGUAGE 3) of a script that is given as term rows.
+// The ownership check (LANGUAGE 3) of a script that is given as term rows, within the limits of a set (2.8). The set's
+// number of variables decides which of two sizes the table of the variables has: one for 64, so that the language's
+// own set does not pay for clearing a larger one, and one for 128, the most of any set.
 ghost use mathlib.Core.Path.{_≡_};
 ghost use Rattle.reader.specs.Result.{ok};
-ghost use Rattle.reader.specs.Limits.{base};
 ghost use Rattle.reader.specs.Answers.{judgedOf};
 ghost use Rattle.ownership.specs.Answers.{toldChecked, checkOf};
 
 mod row; // row.rt: the places in a term row
 mod judge; // judge.rt: terms, blocks and the whole script
+mod tables; // tables.rt: the table of the variables, in two sizes
 
-use crate::judge::judge_script;
+use crate::tables::judge_alone;
 use reader::Outcome;
 use reader::judge_rows;
-use reader::limits;
+use reader::limits::Limits;
 use rules::Requirement;
-
-// The words of the table of the variables: 8 to each, and two rows of notes.
-const TABLE: usize = 528;
 
 // The number of terms, or the refusal's number and place (LANGUAGE 5.2): the row (12 to 19) or the term (30 to 43).
 pub enum Checked {
@@ -23,27 +22,28 @@ pub enum Checked {
     Refused(u32, usize),
 }
 
-// Check (LANGUAGE 6.5), without 2 and 12 to 19: of rows that the reader accepts as so many terms, for callers that have
-// the reader's word for it.
-pub fn check_judged(rows: &[u32], terms: usize) -> Checked
-    requires { ⌜ judgedOf base (now rows) ≡ ok terms ⌝ }
-    ensures { λ r. ⌜ toldChecked r ≡ checkOf base (now (rows .entry)) ⌝ }
+// Check (LANGUAGE 6.5), without 74, 2 and 12 to 19: of rows that the reader accepts within the set as so many terms,
+// for callers that have the reader's word for it.
+pub fn check_judged(set: Limits, rows: &[u32], terms: usize) -> Checked
+    requires { ⌜ judgedOf set (now rows) ≡ ok terms ⌝ }
+    ensures { λ r. ⌜ toldChecked r ≡ checkOf set (now (rows .entry)) ⌝ }
 {
-    let mut env: [u32; TABLE] = [0; TABLE];
-    let verdict = judge_script(rows, limits::LEVELS, &mut env, limits::VARIABLES as usize);
+    let levels = set.levels as usize;
+    let variables = set.variables as usize;
+    let verdict = judge_alone(rows, levels, variables);
     match verdict {
         Requirement::Met => Checked::Accepted(terms),
         Requirement::Refused(number, term) => Checked::Refused(number, term),
     }
 }
 
-// Check (LANGUAGE 6.5): 2 and 12 to 19 by the reader, then 30 to 43 by the ownership rules (5.7).
-pub fn check(rows: &[u32]) -> Checked
-    ensures { λ r. ⌜ toldChecked r ≡ checkOf base (now (rows .entry)) ⌝ }
+// Check (LANGUAGE 6.5): 74, 2 and 12 to 19 by the reader, then 30 to 43 by the ownership rules (5.7).
+pub fn check(set: Limits, rows: &[u32]) -> Checked
+    ensures { λ r. ⌜ toldChecked r ≡ checkOf set (now (rows .entry)) ⌝ }
 {
-    let outcome = judge_rows(rows);
+    let outcome = judge_rows(set, rows);
     match outcome {
         Outcome::Refused(number, row) => Checked::Refused(number, row),
-        Outcome::Count(terms) => check_judged(rows, terms),
+        Outcome::Count(terms) => check_judged(set, rows, terms),
     }
 }

@@ -79,3 +79,16 @@ module _ (inner : Reads Term) where
   unfolding several
   rest-refused zero s e h = stops inner _ s e h
   rest-refused (suc n) s e h = stops inner _ s e h
+
+  -- A block of one term reads as the term.
+  pub one-reading : (s : Cursor) (n : ℕ) (before after : List ℕ) (r : Got) → Reading (lays inRows) (several inner 0 s) n before after r → Reading (lay inRows) (inner s) n before after r
+  unfolding several gotOf RowsAfter lays done
+  one-reading s n before after r q = go (inner s) refl
+    where
+      go : (o : Result Refusal (Term × Cursor)) → inner s ≡ o → Reading (lay inRows) o n before after r
+      go (ok o) e =
+          let w : several inner 0 s ≡ ok (last (o .0), o .1) = go-on inner _ s (o .1) (o .0) _ e refl in
+          rw w at q
+      go (err o) e =
+          let w : several inner 0 s ≡ err o = stops inner _ s o e in
+          rw w at q

@@ -14,7 +14,7 @@ use lib.Seq.{drop-cons, drop-drop}
 use lib.Dec.{leb, ltb, eqb}
 use borrow.Author.Tests.{leb-true, leb-false, ltb-true, ltb-false, eqb-true, eqb-false, le-leb, lt-leb, lt-ltb, le-ltb}
 use Rattle.reader.specs.Result.{Result, ok, err, Refusal, pick}
-use Rattle.reader.specs.Limits.{base}
+use Rattle.reader.specs.Limits.{Limits}
 use Rattle.reader.specs.Kinds.{Kind, kBlock, byteOf, kindOf, Field, word, until, fields}
 use Rattle.reader.specs.Layout.{inBytes}
 use Rattle.reader.specs.Reader.{Cursor, Reads, _>>=_, done, placeIn, expect, peek, skip, next, ranged, field, operands, is, boxesOf, ended, restOfRow, opening, built, term}
@@ -186,8 +186,8 @@ module _ (t : List ℕ) (at : ℕ) where
   pub one-range : (lo hi j used : ℕ) → judgedFields (oneField lo hi) t at j ≡ Fine used → (lo ≤ getD t j 0) × (getD t j 0 < hi)
   one-range lo hi j used e = let q = until-fine lo hi [] j used e in (q .1, q .2)
 
-  pub place-within : (j used : ℕ) → judgedFields placeFields t at j ≡ Fine used → j + 1 < length t
-  place-within j used e = until-fine 0 9 [] (j + 1) used (until-fine 0 64 _ j used e .3) .0
+  pub place-within : (nv j used : ℕ) → judgedFields (placeFields nv) t at j ≡ Fine used → j + 1 < length t
+  place-within nv j used e = until-fine 0 9 [] (j + 1) used (until-fine 0 nv _ j used e .3) .0
 
   -- Words need the bound of a byte, which the type of a slice gives.
   pub values-range : ((k : ℕ) → getD t k 0 < 256) → (fs : List Field) (j used : ℕ) → judgedFields fs t at j ≡ Fine used → Ranges fs (valuesAt fs t j)
@@ -200,34 +200,34 @@ module _ (t : List ℕ) (at : ℕ) where
       ((q .1, q .2), values-range bytes fs (j + 1) used (q .3))
 
 -- A kind byte at which nothing is refused.
-pub record Clear (levels : ℕ) (outer : Bool) (t : List ℕ) (at n b : ℕ) : Type 0 where
+pub record Clear (l : Limits) (levels : ℕ) (outer : Bool) (t : List ℕ) (at n b : ℕ) : Type 0 where
   pub k : Kind
   pub kind : kindOf 1 (getD t 0 0) ≡ some k
   pub byte : byteOf k ≡ getD t 0 0
   pub is-kind : IsKind (getD t 0 0)
   pub bytes : 0 < length t
-  pub room : n < 512
+  pub room : n < l .terms
   pub deep : 0 < levels
-  pub few : leb (b + boxesOf k) (base .boxes) ≡ true
-  pub opens : opening base 1 inBytes outer (cursor t at n b) ≡ ok (k, cursor t at n b)
+  pub few : leb (b + boxesOf k) (l .boxes) ≡ true
+  pub opens : opening l 1 inBytes outer (cursor t at n b) ≡ ok (k, cursor t at n b)
 
 -- The tests of `opening` and `term`, in the code's words.
-module _ (x : ℕ) (k : Kind) (e : byteOf k ≡ x) where
+module _ (l : Limits) (x : ℕ) (k : Kind) (e : byteOf k ≡ x) where
   block-where-asked : (outer : Bool) → (not outer || is k kBlock) ≡ not (outer && not (eqb x 11))
   unfolding is byteOf
   block-where-asked false = refl
   block-where-asked true = rw e (sym (Bool·not-not (eqb x 11)))
 
-  boxes-left : (b : ℕ) → b ≤ 64 → leb (b + boxesOf k) (base .boxes) ≡ not (eqb x 7 && leb 64 b)
-  unfolding boxesOf is byteOf base
-  boxes-left b h = rw e (go (eqb x 7) (leb 64 b) refl)
+  boxes-left : (b : ℕ) → b ≤ l .boxes → leb (b + boxesOf k) (l .boxes) ≡ not (eqb x 7 && leb (l .boxes) b)
+  unfolding boxesOf is byteOf
+  boxes-left b h = rw e (go (eqb x 7) (leb (l .boxes) b) refl)
     where
-      go : (y z : Bool) → leb 64 b ≡ z → leb (b + pick y 1 0) 64 ≡ not (y && z)
-      go true true q = lt-leb (b + 1) 64 (omega (arith, leb-true 64 b q))
-      go true false q = le-leb (b + 1) 64 (omega (arith, leb-false 64 b q))
-      go false z q = le-leb (b + 0) 64 (omega arith)
+      go : (y z : Bool) → leb (l .boxes) b ≡ z → leb (b + pick y 1 0) (l .boxes) ≡ not (y && z)
+      go true true q = lt-leb (b + 1) (l .boxes) (omega (arith, leb-true (l .boxes) b q))
+      go true false q = le-leb (b + 1) (l .boxes) (omega (arith, leb-false (l .boxes) b q))
+      go false z q = le-leb (b + 0) (l .boxes) (omega arith)
 
-module _ (levels : ℕ) (outer : Bool) (t : List ℕ) (at n b : ℕ) (fits : b ≤ 64) where
+module _ (l : Limits) (levels : ℕ) (outer : Bool) (t : List ℕ) (at n b : ℕ) (fits : b ≤ l .boxes) where
   abbrev x : ℕ
   x = getD t 0 0
 
@@ -236,12 +236,12 @@ module _ (levels : ℕ) (outer : Bool) (t : List ℕ) (at n b : ℕ) (fits : b �
 
   -- What the number of the refusal at a kind byte says of the term.
   abbrev Opened : ℕ → Type 0
-  Opened zero = Clear levels outer t at n b
-  Opened (suc m) = term base 1 inBytes levels outer s ≡ err (suc m, at)
+  Opened zero = Clear l levels outer t at n b
+  Opened (suc m) = term l 1 inBytes levels outer s ≡ err (suc m, at)
 
   no-bytes : length t ≡ 0 → Opened 12
   unfolding placeIn
-  no-bytes h = term-refused base 1 inBytes outer s levels _ (opening-12 base 1 inBytes outer s (drop-of-length-le t (le-of-eq h)))
+  no-bytes h = term-refused l 1 inBytes outer s levels _ (opening-12 l 1 inBytes outer s (drop-of-length-le t (le-of-eq h)))
 
   module _ (full : 0 < length t) where
     starts : t ≡ x ∷ drop 1 t
@@ -249,30 +249,29 @@ module _ (levels : ℕ) (outer : Bool) (t : List ℕ) (at n b : ℕ) (fits : b �
 
     unknown : (IsKind x → ⊥) → Opened 13
     unfolding placeIn ended
-    unknown h = term-refused base 1 inBytes outer s levels _ (opening-13 base 1 inBytes outer s x _ starts refl (kind-none x h))
+    unknown h = term-refused l 1 inBytes outer s levels _ (opening-13 l 1 inBytes outer s x _ starts refl (kind-none x h))
 
     module _ (known : IsKind x) (k : Kind) (h : kindOf 1 x ≡ some k) where
       asked : (p : Bool) → (outer && not (eqb x 11)) ≡ p → (not outer || is k kBlock) ≡ not p
-      asked p e = block-where-asked x k (found 1 x k h) outer ∙ ap not e
+      asked p e = block-where-asked l x k (found 1 x k h) outer ∙ ap not e
 
-      left : (p : Bool) → (eqb x 7 && leb 64 b) ≡ p → leb (b + boxesOf k) (base .boxes) ≡ not p
-      left p e = boxes-left x k (found 1 x k h) b fits ∙ ap not e
+      left : (p : Bool) → (eqb x 7 && leb (l .boxes) b) ≡ p → leb (b + boxesOf k) (l .boxes) ≡ not p
+      left p e = boxes-left l x k (found 1 x k h) b fits ∙ ap not e
 
-      opens : (outer && not (eqb x 11)) ≡ false → leb 512 n ≡ false → opening base 1 inBytes outer s ≡ ok (k, s)
-      unfolding base
-      opens e₁ e₂ = opening-ok base 1 inBytes outer s x _ starts k h (asked false e₁) (lt-ltb n 512 (leb-false 512 n e₂))
+      opens : (outer && not (eqb x 11)) ≡ false → leb (l .terms) n ≡ false → opening l 1 inBytes outer s ≡ ok (k, s)
+      opens e₁ e₂ = opening-ok l 1 inBytes outer s x _ starts k h (asked false e₁) (lt-ltb n (l .terms) (leb-false (l .terms) n e₂))
 
       -- The tests for 18, 16, 15 and 17.
-      at-kind : (p q r u : Bool) → (outer && not (eqb x 11)) ≡ p → leb 512 n ≡ q → eqb levels 0 ≡ r → (eqb x 7 && leb 64 b) ≡ u → Opened (pick p 18 (pick q 16 (pick r 15 (pick u 17 0))))
-      unfolding placeIn base
-      at-kind true q r u e₁ e₂ e₃ e₄ = term-refused base 1 inBytes outer s levels _ (opening-18 base 1 inBytes outer s x _ starts k h (asked true e₁))
+      at-kind : (p q r u : Bool) → (outer && not (eqb x 11)) ≡ p → leb (l .terms) n ≡ q → eqb levels 0 ≡ r → (eqb x 7 && leb (l .boxes) b) ≡ u → Opened (pick p 18 (pick q 16 (pick r 15 (pick u 17 0))))
+      unfolding placeIn
+      at-kind true q r u e₁ e₂ e₃ e₄ = term-refused l 1 inBytes outer s levels _ (opening-18 l 1 inBytes outer s x _ starts k h (asked true e₁))
       at-kind false true r u e₁ e₂ e₃ e₄ =
-          term-refused base 1 inBytes outer s levels _
-          (opening-16 base 1 inBytes outer s x _ starts k h (asked false e₁) (le-ltb n 512 (leb-true 512 n e₂)))
-      at-kind false false true u e₁ e₂ e₃ e₄ = rw (eqb-true levels 0 e₃) (term-deep base 1 inBytes outer s k (opens e₁ e₂))
+          term-refused l 1 inBytes outer s levels _
+          (opening-16 l 1 inBytes outer s x _ starts k h (asked false e₁) (le-ltb n (l .terms) (leb-true (l .terms) n e₂)))
+      at-kind false false true u e₁ e₂ e₃ e₄ = rw (eqb-true levels 0 e₃) (term-deep l 1 inBytes outer s k (opens e₁ e₂))
       at-kind false false false true e₁ e₂ e₃ e₄ =
-          subst (λ (l : ℕ). term base 1 inBytes l outer s ≡ err (17, at)) (omega (arith, eqb-false levels 0 e₃))
-          (term-boxes base 1 inBytes outer s k (opens e₁ e₂) (levels - 1) (left true e₄))
+          subst (λ (d : ℕ). term l 1 inBytes d outer s ≡ err (17, at)) (omega (arith, eqb-false levels 0 e₃))
+          (term-boxes l 1 inBytes outer s k (opens e₁ e₂) (levels - 1) (left true e₄))
       at-kind false false false false e₁ e₂ e₃ e₄ =
           record {
             k = k;
@@ -280,47 +279,47 @@ module _ (levels : ℕ) (outer : Bool) (t : List ℕ) (at n b : ℕ) (fits : b �
             byte = found 1 x k h;
             is-kind = known;
             bytes = full;
-            room = leb-false 512 n e₂;
+            room = leb-false (l .terms) n e₂;
             deep = omega (arith, eqb-false levels 0 e₃);
             few = left false e₄;
             opens = opens e₁ e₂;
           }
 
-  opening-is : Opened (openingNumber levels outer t n b)
+  opening-is : Opened (openingNumber l levels outer t n b)
   unfolding openingNumber
   opening-is = go (eqb (length t) 0) (eqb x 0) (ltb 11 x) refl refl refl
     where
-      go : (p q r : Bool) → eqb (length t) 0 ≡ p → eqb x 0 ≡ q → ltb 11 x ≡ r → Opened (pick p 12 (pick q 13 (pick r 13 (pick (outer && not (eqb x 11)) 18 (pick (leb 512 n) 16 (pick (eqb levels 0) 15 (pick (eqb x 7 && leb 64 b) 17 0)))))))
+      go : (p q r : Bool) → eqb (length t) 0 ≡ p → eqb x 0 ≡ q → ltb 11 x ≡ r → Opened (pick p 12 (pick q 13 (pick r 13 (pick (outer && not (eqb x 11)) 18 (pick (leb (l .terms) n) 16 (pick (eqb levels 0) 15 (pick (eqb x 7 && leb (l .boxes) b) 17 0)))))))
       go true q r e₁ e₂ e₃ = no-bytes (eqb-true _ _ e₁)
       go false true r e₁ e₂ e₃ = unknown (omega (arith, eqb-false (length t) 0 e₁)) (λ h. omega (arith, eqb-true x 0 e₂))
       go false false true e₁ e₂ e₃ = unknown (omega (arith, eqb-false (length t) 0 e₁)) (λ h. omega (arith, ltb-true 11 x e₃))
       go false false false e₁ e₂ e₃ =
           let h : IsKind x = (omega (arith, eqb-false x 0 e₂), ltb-false 11 x e₃) in
           let o = kind-some x h in
-          at-kind (omega (arith, eqb-false (length t) 0 e₁)) h (o .0) (o .1) (outer && not (eqb x 11)) (leb 512 n) (eqb levels 0) (eqb x 7 && leb 64 b) refl refl refl refl
+          at-kind (omega (arith, eqb-false (length t) 0 e₁)) h (o .0) (o .1) (outer && not (eqb x 11)) (leb (l .terms) n) (eqb levels 0) (eqb x 7 && leb (l .boxes) b) refl refl refl refl
 
   -- The code's number of a refusal at a kind byte is the reader's, and where there is none, the term goes on with its operands.
-  pub opening-refused : (m : ℕ) → openingNumber levels outer t n b ≡ suc m → term base 1 inBytes levels outer (cursor t at n b) ≡ err (suc m, at)
+  pub opening-refused : (m : ℕ) → openingNumber l levels outer t n b ≡ suc m → term l 1 inBytes levels outer (cursor t at n b) ≡ err (suc m, at)
   opening-refused m e = subst Opened e opening-is
 
-  pub opening-clear : openingNumber levels outer t n b ≡ 0 → Clear levels outer t at n b
+  pub opening-clear : openingNumber l levels outer t n b ≡ 0 → Clear l levels outer t at n b
   opening-clear e = subst Opened e opening-is
 
-module _ {levels : ℕ} {outer : Bool} {t : List ℕ} {at n b : ℕ} (c : Clear levels outer t at n b) where
-  past-kind : operands inBytes (fields base (c .k)) (past (c .k) (cursor t at n b)) ≡ onFields (judgedFields (fieldsOf (getD t 0 0)) t at 1) (valuesAt (fields base (c .k)) t 1) t at (suc n) (b + boxesOf (c .k))
-  past-kind = rw (fields-of (getD t 0 0) (c .k) (c .kind), ← add-one at) (operands-are t at (suc n) (b + boxesOf (c .k)) (fields base (c .k)) 1 (c .bytes))
+module _ {l : Limits} {levels : ℕ} {outer : Bool} {t : List ℕ} {at n b : ℕ} (c : Clear l levels outer t at n b) where
+  past-kind : operands inBytes (fields l (c .k)) (past (c .k) (cursor t at n b)) ≡ onFields (judgedFields (fieldsOf l (getD t 0 0)) t at 1) (valuesAt (fields l (c .k)) t 1) t at (suc n) (b + boxesOf (c .k))
+  past-kind = rw (fields-of (getD t 0 0) l (c .k) (c .kind), ← add-one at) (operands-are t at (suc n) (b + boxesOf (c .k)) (fields l (c .k)) 1 (c .bytes))
 
   one-deeper : suc (levels - 1) ≡ levels
   one-deeper = omega (arith, c .deep)
 
-  pub term-stops : (m p : ℕ) → judgedFields (fieldsOf (getD t 0 0)) t at 1 ≡ Refused m p → term base 1 inBytes levels outer (cursor t at n b) ≡ err (m, p)
+  pub term-stops : (m p : ℕ) → judgedFields (fieldsOf l (getD t 0 0)) t at 1 ≡ Refused m p → term l 1 inBytes levels outer (cursor t at n b) ≡ err (m, p)
   unfolding onFields
   term-stops m p e =
-      subst (λ (l : ℕ). term base 1 inBytes l outer (cursor t at n b) ≡ err (m, p)) one-deeper
-      (term-operands-refused base 1 inBytes outer (cursor t at n b) (c .k) (c .opens) (levels - 1) (c .few) (m, p) (rw e at past-kind))
+      subst (λ (d : ℕ). term l 1 inBytes d outer (cursor t at n b) ≡ err (m, p)) one-deeper
+      (term-operands-refused l 1 inBytes outer (cursor t at n b) (c .k) (c .opens) (levels - 1) (c .few) (m, p) (rw e at past-kind))
 
-  pub term-goes : (used : ℕ) → judgedFields (fieldsOf (getD t 0 0)) t at 1 ≡ Fine used → term base 1 inBytes levels outer (cursor t at n b) ≡ built (c .k) n (valuesAt (fields base (c .k)) t 1) (term base 1 inBytes (levels - 1)) (cursor (drop used t) (at + used) (suc n) (b + boxesOf (c .k)))
+  pub term-goes : (used : ℕ) → judgedFields (fieldsOf l (getD t 0 0)) t at 1 ≡ Fine used → term l 1 inBytes levels outer (cursor t at n b) ≡ built (c .k) n (valuesAt (fields l (c .k)) t 1) (term l 1 inBytes (levels - 1)) (cursor (drop used t) (at + used) (suc n) (b + boxesOf (c .k)))
   unfolding onFields restOfRow done
   term-goes used e =
-      subst (λ (l : ℕ). term base 1 inBytes l outer (cursor t at n b) ≡ built (c .k) n (valuesAt (fields base (c .k)) t 1) (term base 1 inBytes (levels - 1)) (cursor (drop used t) (at + used) (suc n) (b + boxesOf (c .k)))) one-deeper
-      (term-built base 1 inBytes outer (cursor t at n b) (c .k) (c .opens) (levels - 1) (c .few) _ _ (rw e at past-kind) _ refl)
+      subst (λ (d : ℕ). term l 1 inBytes d outer (cursor t at n b) ≡ built (c .k) n (valuesAt (fields l (c .k)) t 1) (term l 1 inBytes (levels - 1)) (cursor (drop used t) (at + used) (suc n) (b + boxesOf (c .k)))) one-deeper
+      (term-built l 1 inBytes outer (cursor t at n b) (c .k) (c .opens) (levels - 1) (c .few) _ _ (rw e at past-kind) _ refl)

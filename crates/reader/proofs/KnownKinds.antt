@@ -4,7 +4,7 @@ use native.Mathlib.Omega.{arith}
 use mathlib.Core.Path.{_≡_, refl, sym, ap, _∙_}
 use mathlib.Core.Option.{Option, none, some}
 use mathlib.Core.List.{[]}
-use Rattle.reader.specs.Limits.{base}
+use Rattle.reader.specs.Limits.{Limits}
 use Rattle.reader.specs.Kinds.{Kind, kNumber, kReading, kCopy, kMove, kShared, kExclusive, kBox, kLet, kAssign, kBelow, kBlock, byteOf, kinds, among, kindOf, fields}
 use Rattle.reader.specs.Parts.{IsKind, fieldsIn, fieldsOf}
 use Rattle.reader.specs.Parts.{placeFields}
@@ -48,52 +48,52 @@ module _ (b : ℕ) where
       go none e = refl
       go (some k) e = absurd (h (omega (arith, found 1 b k e, byte-range k), omega (arith, found 1 b k e, byte-most k)))
 
-  pub fields-of : (k : Kind) → kindOf 1 b ≡ some k → fieldsOf b ≡ fields base k
+  pub fields-of : (l : Limits) (k : Kind) → kindOf 1 b ≡ some k → fieldsOf l b ≡ fields l k
   unfolding fieldsOf fieldsIn
-  fields-of k h = rw h
+  fields-of l k h = rw h
 
 -- The kinds with operands of their own, by their bytes.
-pub fields-number : fieldsOf 1 ≡ wordField
+pub fields-number : (l : Limits) → fieldsOf l 1 ≡ wordField
 unfolding fieldsOf fieldsIn kindOf kinds among byteOf fields
-fields-number = refl
+fields-number l = refl
 
-pub fields-reading : fieldsOf 2 ≡ oneField 0 8
+pub fields-reading : (l : Limits) → fieldsOf l 2 ≡ oneField 0 8
 unfolding fieldsOf fieldsIn kindOf kinds among byteOf fields
-fields-reading = refl
+fields-reading l = refl
 
-pub fields-box : fieldsOf 7 ≡ []
+pub fields-box : (l : Limits) → fieldsOf l 7 ≡ []
 unfolding fieldsOf fieldsIn kindOf kinds among byteOf fields
-fields-box = refl
+fields-box l = refl
 
-pub fields-let : fieldsOf 8 ≡ oneField 0 64
-unfolding fieldsOf fieldsIn kindOf kinds among byteOf fields base
-fields-let = refl
-
-pub fields-below : fieldsOf 10 ≡ twoPlaceFields
-unfolding fieldsOf fieldsIn kindOf kinds among byteOf fields base
-fields-below = refl
-
-pub fields-block : fieldsOf 11 ≡ oneField 1 256
+pub fields-let : (l : Limits) → fieldsOf l 8 ≡ oneField 0 (l .variables)
 unfolding fieldsOf fieldsIn kindOf kinds among byteOf fields
-fields-block = refl
+fields-let l = refl
+
+pub fields-below : (l : Limits) → fieldsOf l 10 ≡ twoPlaceFields (l .variables)
+unfolding fieldsOf fieldsIn kindOf kinds among byteOf fields
+fields-below l = refl
+
+pub fields-block : (l : Limits) → fieldsOf l 11 ≡ oneField 1 256
+unfolding fieldsOf fieldsIn kindOf kinds among byteOf fields
+fields-block l = refl
 
 -- The kinds other than these six have one place as their operands.
 module _ (b : ℕ) (not-1 : b ≡ 1 → ⊥) (not-2 : b ≡ 2 → ⊥) (not-7 : b ≡ 7 → ⊥) (not-8 : b ≡ 8 → ⊥) (not-10 : b ≡ 10 → ⊥) (not-11 : b ≡ 11 → ⊥) where
-  place-kind : (k : Kind) → byteOf k ≡ b → fields base k ≡ placeFields
-  unfolding byteOf fields base
-  place-kind kNumber e = absurd (not-1 (sym e))
-  place-kind kReading e = absurd (not-2 (sym e))
-  place-kind kCopy e = refl
-  place-kind kMove e = refl
-  place-kind kShared e = refl
-  place-kind kExclusive e = refl
-  place-kind kBox e = absurd (not-7 (sym e))
-  place-kind kLet e = absurd (not-8 (sym e))
-  place-kind kAssign e = refl
-  place-kind kBelow e = absurd (not-10 (sym e))
-  place-kind kBlock e = absurd (not-11 (sym e))
+  place-kind : (l : Limits) (k : Kind) → byteOf k ≡ b → fields l k ≡ placeFields (l .variables)
+  unfolding byteOf fields
+  place-kind l kNumber e = absurd (not-1 (sym e))
+  place-kind l kReading e = absurd (not-2 (sym e))
+  place-kind l kCopy e = refl
+  place-kind l kMove e = refl
+  place-kind l kShared e = refl
+  place-kind l kExclusive e = refl
+  place-kind l kBox e = absurd (not-7 (sym e))
+  place-kind l kLet e = absurd (not-8 (sym e))
+  place-kind l kAssign e = refl
+  place-kind l kBelow e = absurd (not-10 (sym e))
+  place-kind l kBlock e = absurd (not-11 (sym e))
 
-  pub fields-place : IsKind b → fieldsOf b ≡ placeFields
-  fields-place h =
+  pub fields-place : (l : Limits) → IsKind b → fieldsOf l b ≡ placeFields (l .variables)
+  fields-place l h =
       let o = kind-some b h in
-      fields-of b (o .0) (o .1) ∙ place-kind (o .0) (found 1 b (o .0) (o .1))
+      fields-of b l (o .0) (o .1) ∙ place-kind l (o .0) (found 1 b (o .0) (o .1))

@@ -5,19 +5,20 @@ use mathlib.Core.Path.{_≡_, sym, ap, _∙_}
 use mathlib.Core.List.{List}
 use lib.ListN.{length, getD}
 use lib.Seq.{sets}
-use lib.Dec.{leb, eqb}
-use borrow.Author.Tests.{eqb-true, le-leb, lt-leb}
+use lib.Dec.{leb}
+use borrow.Author.Tests.{le-leb, lt-leb}
 use Rattle.reader.specs.Result.{Result, ok, err, need, Refusal, _>>=_}
-use Rattle.reader.specs.Limits.{Limits, base, rowNumbers}
+use Rattle.reader.specs.Limits.{Limits, rowNumbers}
 use Rattle.reader.specs.Script.{Term}
 use Rattle.reader.specs.Layout.{bytesOf}
-use Rattle.reader.specs.Reader.{decode}
 use Rattle.reader.specs.Measures.{size}
 use Rattle.reader.specs.Answers.{told, rowsTree, judgedOf, writable, writtenInto, writtenOf}
 use Rattle.reader.specs.OutputParts.{scriptFrom}
 use Rattle.reader.specs.declared.Outcome.{Outcome}
 use Rattle.reader.specs.declared.Outcome.the-variants.{Count, Refused}
-use Rattle.reader.proofs.Answers.{err-ok, then, needed}
+use Rattle.reader.proofs.Answers.{err-ok, then}
+use Rattle.reader.proofs.Ranges.{ranged}
+use Rattle.reader.proofs.Promise.{tree-decoded}
 use Rattle.reader.proofs.Lists.{under-all, sets-front}
 use Rattle.reader.proofs.RoundTrip.{decoded}
 use Rattle.reader.proofs.OutputTrees.{rows-script}
@@ -38,19 +39,18 @@ pub record Judged (l : Limits) (rows : List ℕ) (n : ℕ) : Type 0 where
   pub script : scriptFrom n rows ≡ bytesOf tree
   pub room : n * 5 ≤ length rows
 
-pub judged : (rows : List ℕ) → ((i : ℕ) → getD rows i 0 < 4294967296) → (o : Outcome) → told o ≡ judgedOf base rows → (n : ℕ) → o ≡ Count n → Judged base rows n
-unfolding told judgedOf rowsTree base rowNumbers
-judged rows each o h n e =
-    let q = then (rowsTree base rows) (λ t. ok (size t)) n (sym h ∙ ap told e) in
-    let r = then (need (eqb (length rows) (rowNumbers base)) (2, 0)) (λ x. decode base rows) (q .0) (q .1) in
-    let long : length rows ≡ rowNumbers base = eqb-true _ _ (needed (eqb (length rows) (rowNumbers base)) (2, 0) (r .0) (r .1)) in
-    let d = decoded base rows (q .0) (under-all 4294967296 rows each) long (r .2) in
+pub judged : (l : Limits) (rows : List ℕ) → ((i : ℕ) → getD rows i 0 < 4294967296) → (o : Outcome) → told o ≡ judgedOf l rows → (n : ℕ) → o ≡ Count n → Judged l rows n
+unfolding told judgedOf rowNumbers
+judged l rows each o h n e =
+    let q = then (rowsTree l rows) (λ t. ok (size t)) n (sym h ∙ ap told e) in
+    let c = tree-decoded l rows (q .0) (q .1) in
+    let d = decoded l rows (q .0) (under-all 4294967296 rows each) (c .length) (c .decodes) in
     let count : size (q .0) ≡ n = cc (q .2) in
     record {
       tree = q .0;
       reads = q .1;
-      script = ap (λ (k : ℕ). scriptFrom k rows) (sym count) ∙ ap (scriptFrom (size (q .0))) (d .0) ∙ rows-script base (omega arith) (q .0) (d .1);
-      room = omega (arith, d .1 .terms);
+      script = ap (λ (k : ℕ). scriptFrom k rows) (sym count) ∙ ap (scriptFrom (size (q .0))) (d .0) ∙ rows-script l (omega (arith, ranged l (c .ranges) .variables)) (q .0) (d .1);
+      room = omega (arith, c .length, d .1 .terms);
     }
 
 module _ (l : Limits) (rows output : List ℕ) (n bytes : ℕ) (j : Judged l rows n) (counted : bytes ≡ length (scriptFrom n rows)) where

@@ -8,6 +8,7 @@ use mathlib.Core.List.{List, [], _∷_}
 use lib.ListN.{length, getD}
 use lib.Dec.{ltb, eqb}
 use Rattle.reader.specs.Result.{pick}
+use Rattle.reader.specs.Limits.{Limits}
 use Rattle.reader.specs.Kinds.{Kind, kNumber, kReading, kCopy, kMove, kShared, kExclusive, kBox, kLet, kAssign, kBelow, kBlock, kindOf, Field, word, until, fields}
 use Rattle.reader.specs.Parts.{fieldsIn, fieldsOf}
 use Rattle.reader.specs.ByteParts.{fieldNumber, markNumber, onNumber, judgedFields, leadJudged}
@@ -34,32 +35,32 @@ module _ (b : ℕ) where
   near-fields (word ∷ fs) t at j h l = near-pick (ltb (length t) (j + 4)) _ _ h (near-fields fs t at (j + 4) h (omega arith))
   near-fields (until x y ∷ fs) t at j h l = near-number (fieldNumber t j x y) (at + j) _ (omega arith) (near-fields fs t at (j + 1) h (omega arith))
 
-few-fields : (o : Option Kind) → length (fieldsIn o) ≤ 4
+few-fields : (l : Limits) (o : Option Kind) → length (fieldsIn l o) ≤ 4
 unfolding fieldsIn fields
-few-fields none = omega arith
-few-fields (some kNumber) = omega arith
-few-fields (some kReading) = omega arith
-few-fields (some kCopy) = omega arith
-few-fields (some kMove) = omega arith
-few-fields (some kShared) = omega arith
-few-fields (some kExclusive) = omega arith
-few-fields (some kBox) = omega arith
-few-fields (some kLet) = omega arith
-few-fields (some kAssign) = omega arith
-few-fields (some kBelow) = omega arith
-few-fields (some kBlock) = omega arith
+few-fields l none = omega arith
+few-fields l (some kNumber) = omega arith
+few-fields l (some kReading) = omega arith
+few-fields l (some kCopy) = omega arith
+few-fields l (some kMove) = omega arith
+few-fields l (some kShared) = omega arith
+few-fields l (some kExclusive) = omega arith
+few-fields l (some kBox) = omega arith
+few-fields l (some kLet) = omega arith
+few-fields l (some kAssign) = omega arith
+few-fields l (some kBelow) = omega arith
+few-fields l (some kBlock) = omega arith
 
-pub operands-near : (kind : ℕ) (t : List ℕ) (at n p : ℕ) → judgedFields (fieldsOf kind) t at 1 ≡ found.Refused n p → at + length t ≤ 4096 → p ≤ 4200
+pub operands-near : (l : Limits) (kind : ℕ) (t : List ℕ) (at n p : ℕ) → judgedFields (fieldsOf l kind) t at 1 ≡ found.Refused n p → at + length t ≤ 32768 → p ≤ 33000
 unfolding fieldsOf
-operands-near kind t at n p e h =
-    subst (λ (f : Fields). Near 4200 f) e (near-fields 4200 (fieldsIn (kindOf 1 kind)) t at 1 (omega arith) (omega (arith, few-fields (kindOf 1 kind))))
+operands-near l kind t at n p e h =
+    subst (λ (f : Fields). Near 33000 f) e (near-fields 33000 (fieldsIn l (kindOf 1 kind)) t at 1 (omega arith) (omega (arith, few-fields l (kindOf 1 kind))))
 
-pub lead-near : (t : List ℕ) (at n p : ℕ) → leadJudged t at ≡ found.Refused n p → at ≤ length t → length t ≤ 4096 → p ≤ 4200
+pub lead-near : (t : List ℕ) (at n p : ℕ) → leadJudged t at ≡ found.Refused n p → at ≤ length t → length t ≤ 32768 → p ≤ 33000
 unfolding leadJudged
-lead-near t at n p e l h =
-    subst (λ (f : Fields). Near 4200 f) e
-    (near-number 4200 (markNumber t at 0x52) at _ (omega arith)
-    (near-number 4200 (markNumber t (at + 1) 0x43) (at + 1) _ (omega arith)
-    (near-number 4200 (markNumber t (at + 2) 0x53) (at + 2) _ (omega arith)
-    (near-pick 4200 (ltb (length t) (at + 5)) (found.Refused 12 (length t)) _ (omega arith)
-    (near-pick 4200 (eqb (getD t (at + 3) 0 * 256 + getD t (at + 4) 0) 1) (found.Fine (at + 5)) (found.Refused 11 (at + 3)) tt (omega arith))))))
+lead-near t at n p e i h =
+    subst (λ (f : Fields). Near 33000 f) e
+    (near-number 33000 (markNumber t at 0x52) at _ (omega arith)
+    (near-number 33000 (markNumber t (at + 1) 0x43) (at + 1) _ (omega arith)
+    (near-number 33000 (markNumber t (at + 2) 0x53) (at + 2) _ (omega arith)
+    (near-pick 33000 (ltb (length t) (at + 5)) (found.Refused 12 (length t)) _ (omega arith)
+    (near-pick 33000 (eqb (getD t (at + 3) 0 * 256 + getD t (at + 4) 0) 1) (found.Fine (at + 5)) (found.Refused 11 (at + 3)) tt (omega arith))))))

@@ -19,7 +19,7 @@ use Rattle.reader.proofs.HeadSound.{Got, under-got}
 use Rattle.reader.proofs.Sound.{sound}
 use Rattle.reader.proofs.Back.{back}
 use Rattle.reader.proofs.Leading.{leading-says, leading-does}
-pub use Rattle.reader.proofs.Lengths.{laid-bytes, laid-rows, all-laid-bytes, all-laid-rows, byte-length, byte-bound, rows-length}
+pub use Rattle.reader.proofs.Lengths.{laid-bytes, laid-rows, all-laid-bytes, all-laid-rows, byte-length, byte-bound, byte-most, rows-length}
 
 -- Nothing is left, or zeros.
 left-rows : (k : ℕ) (xs : List ℕ) (u : Unit {0}) → nothingLeft inRows k xs ≡ ok u → xs ≡ zeros (length xs)

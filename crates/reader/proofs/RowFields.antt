@@ -8,7 +8,7 @@ use lib.ListN.{length, take, drop}
 use lib.Dec.{leb, ltb, eqb, leb·zero}
 use borrow.Author.Tests.{le-ltb, ne-eqb}
 use Rattle.reader.specs.Result.{ok, err, pick}
-use Rattle.reader.specs.Limits.{base}
+use Rattle.reader.specs.Limits.{Limits}
 use Rattle.reader.specs.Kinds.{Kind, byteOf, kindOf, Field, word, until, fields}
 use Rattle.reader.specs.Layout.{inRows}
 use Rattle.reader.specs.Reader.{Cursor, _>>=_, done, placeIn, expect, peek, skip, next, ranged, field, operands, zeroFields}
@@ -105,18 +105,18 @@ module _ (i n b : ℕ) (r : List ℕ) where
       go false u p q = stops (ranged inRows 0 1) _ _ _ p ∙ ap (λ (k : ℕ). err (14, k)) (omega arith)
 
 -- A place, and the fields after it.
-module _ (a b : ℕ) (fs : List Field) (vs : List ℕ) where
-  place-parts : fieldsFit (placeFields ++ fs) (a ∷ b ∷ vs) ≡ (fieldsFit placeFields (a ∷ b ∷ []) && fieldsFit fs vs)
+module _ (nv a b : ℕ) (fs : List Field) (vs : List ℕ) where
+  place-parts : fieldsFit (placeFields nv ++ fs) (a ∷ b ∷ vs) ≡ (fieldsFit (placeFields nv) (a ∷ b ∷ []) && fieldsFit fs vs)
   unfolding fieldsFit
   place-parts =
-      sym (ap (λ (t : Bool). (fieldFits (until 0 64) a && t) && fieldsFit fs vs) (and-true (fieldFits (until 0 9) b)) ∙ and-assoc (fieldFits (until 0 64) a) (fieldFits (until 0 9) b) (fieldsFit fs vs))
+      sym (ap (λ (t : Bool). (fieldFits (until 0 nv) a && t) && fieldsFit fs vs) (and-true (fieldFits (until 0 9) b)) ∙ and-assoc (fieldFits (until 0 nv) a) (fieldFits (until 0 9) b) (fieldsFit fs vs))
 
-  pub place-then : fieldsFit placeFields (a ∷ b ∷ []) ≡ true → fieldsFit (placeFields ++ fs) (a ∷ b ∷ vs) ≡ fieldsFit fs vs
+  pub place-then : fieldsFit (placeFields nv) (a ∷ b ∷ []) ≡ true → fieldsFit (placeFields nv ++ fs) (a ∷ b ∷ vs) ≡ fieldsFit fs vs
   place-then h = place-parts ∙ ap (λ (t : Bool). t && fieldsFit fs vs) h
 
-  pub place-else : fieldsFit placeFields (a ∷ b ∷ []) ≡ false → fieldsFit (placeFields ++ fs) (a ∷ b ∷ vs) ≡ false
+  pub place-else : fieldsFit (placeFields nv) (a ∷ b ∷ []) ≡ false → fieldsFit (placeFields nv ++ fs) (a ∷ b ∷ vs) ≡ false
   place-else h = place-parts ∙ ap (λ (t : Bool). t && fieldsFit fs vs) h
 
 -- The operands of a byte that is known to be a kind's.
-pub fields-by : (k : Kind) (b : ℕ) → b ≡ byteOf k → fieldsOf b ≡ fields base k
-fields-by k b e = fields-of b k (ap (kindOf 1) e ∙ has 1 k)
+pub fields-by : (l : Limits) (k : Kind) (b : ℕ) → b ≡ byteOf k → fieldsOf l b ≡ fields l k
+fields-by l k b e = fields-of b l k (ap (kindOf 1) e ∙ has 1 k)

@@ -11,7 +11,7 @@ use lib.Seq.{getD-drop, drop-drop, drop-at}
 use lib.Dec.{leb, ltb, eqb}
 use borrow.Author.Tests.{leb-true, ne-eqb}
 use Rattle.reader.specs.Result.{Result, ok, err, Refusal, pick}
-use Rattle.reader.specs.Limits.{base}
+use Rattle.reader.specs.Limits.{Limits}
 use Rattle.reader.specs.Script.{Term, Terms, number}
 use Rattle.reader.specs.Kinds.{Kind, kNumber, kReading, kCopy, kMove, kShared, kExclusive, kBox, kLet, kAssign, kBelow, kBlock, byteOf, kindOf, fields}
 use Rattle.reader.specs.Layout.{inRows, lay}
@@ -96,19 +96,19 @@ block-span i vs inner s = go (several (inner false) (getD vs 0 0 - 1) s) refl
     go (err e) h = ap spanOf (block-err i vs inner s e h)
 
 -- The number n that the code finds at row i.
-module _ (levels : ℕ) (outer : Bool) (rows : List ℕ) (i boxes : ℕ) (ready : RowsReady rows i boxes) (n : ℕ) (is : n ≡ rowNumber levels outer rows i boxes) where
-  judges : Judges levels outer rows i boxes n
-  judges = rw is (row-judged levels outer rows i boxes (ready .full) (ready .few))
+module _ (l : Limits) (levels : ℕ) (outer : Bool) (rows : List ℕ) (i boxes : ℕ) (ready : RowsReady l rows i boxes) (n : ℕ) (is : n ≡ rowNumber l levels outer rows i boxes) where
+  judges : Judges l levels outer rows i boxes n
+  judges = rw is (row-judged l levels outer rows i boxes (ready .full) (ready .few))
 
-  pub refused-span : (n ≡ 0 → ⊥) → Refused n i ≡ spanOf (termRows levels outer rows i boxes)
+  pub refused-span : (n ≡ 0 → ⊥) → Refused n i ≡ spanOf (termRows l levels outer rows i boxes)
   unfolding spanOf
   refused-span h = sym (ap spanOf (judges .refuses h))
 
-  pub entered : n ≡ 0 → Enters levels outer rows i boxes
+  pub entered : n ≡ 0 → Enters l levels outer rows i boxes
   entered h = judges .enters h
 
 -- The term at a row whose number is 0, by the row's kind b.
-module _ (levels : ℕ) (outer : Bool) (rows : List ℕ) (i boxes : ℕ) (e : Enters levels outer rows i boxes) (b : ℕ) (at : b ≡ fieldAt rows i 0) where
+module _ (l : Limits) (levels : ℕ) (outer : Bool) (rows : List ℕ) (i boxes : ℕ) (e : Enters l levels outer rows i boxes) (b : ℕ) (at : b ≡ fieldAt rows i 0) where
   its-kind : kindOf 1 b ≡ some (e .kind)
   its-kind = ap (kindOf 1) at ∙ e .is
 
@@ -127,39 +127,39 @@ module _ (levels : ℕ) (outer : Bool) (rows : List ℕ) (i boxes : ℕ) (e : En
   unfolding boxesWith
   unboxed n = boxed ∙ ap (λ (t : Bool). pick t (boxes + 1) boxes) (ne-eqb b 7 n)
 
-  pub boxed-few : (n : ℕ) → n ≡ boxesWith b boxes → n ≤ 64
+  pub boxed-few : (n : ℕ) → n ≡ boxesWith b boxes → n ≤ l .boxes
   boxed-few n q = omega (arith, e .few, boxed)
 
-  pub leaf-spans : (b ≡ 7 → ⊥) → (b ≡ 8 → ⊥) → (b ≡ 9 → ⊥) → (b ≡ 11 → ⊥) → Fine (i + 1) boxes ≡ spanOf (termRows levels outer rows i boxes)
+  pub leaf-spans : (b ≡ 7 → ⊥) → (b ≡ 8 → ⊥) → (b ≡ 9 → ⊥) → (b ≡ 11 → ⊥) → Fine (i + 1) boxes ≡ spanOf (termRows l levels outer rows i boxes)
   unfolding spanOf
   leaf-spans n7 n8 n9 n11 =
       let k = leaf-of (e .kind) (λ z. n7 (sym its-byte ∙ z)) (λ z. n8 (sym its-byte ∙ z)) (λ z. n9 (sym its-byte ∙ z)) (λ z. n11 (sym its-byte ∙ z)) in
       ap (λ (x : ℕ). Fine (i + 1) x) (sym (unboxed n7)) ∙ sym (ap spanOf (e .builds ∙ leaf-ok i _ _ _ k (number i 0)))
 
-  pub around-spans : 7 ≤ b → (b ≡ 10 → ⊥) → (b ≡ 11 → ⊥) → (n : ℕ) → n ≡ boxesWith b boxes → (r : Span) → r ≡ spanOf (termRows (levels - 1) false rows (i + 1) n) → r ≡ spanOf (termRows levels outer rows i boxes)
+  pub around-spans : 7 ≤ b → (b ≡ 10 → ⊥) → (b ≡ 11 → ⊥) → (n : ℕ) → n ≡ boxesWith b boxes → (r : Span) → r ≡ spanOf (termRows l (levels - 1) false rows (i + 1) n) → r ≡ spanOf (termRows l levels outer rows i boxes)
   around-spans low n10 n11 n q r h =
       let k = around-of (e .kind) (omega (arith, its-byte)) (λ z. n10 (sym its-byte ∙ z)) (λ z. n11 (sym its-byte ∙ z)) in
-      h ∙ ap (λ (x : ℕ). spanOf (termRows (levels - 1) false rows (i + 1) x)) (q ∙ sym boxed) ∙ sym (ap spanOf (e .builds) ∙ around-span i _ (term base 1 inRows (levels - 1)) _ k)
+      h ∙ ap (λ (x : ℕ). spanOf (termRows l (levels - 1) false rows (i + 1) x)) (q ∙ sym boxed) ∙ sym (ap spanOf (e .builds) ∙ around-span i _ (term l 1 inRows (levels - 1)) _ k)
 
   module _ (eleven : b ≡ 11) (count : ℕ) (counts : count ≡ fieldAt rows i 1) where
     a-block : e .kind ≡ kBlock
     unfolding byteOf
     a-block = let z : some (e .kind) ≡ some kBlock = sym its-kind ∙ ap (kindOf 1) eleven ∙ has 1 kBlock in cc
 
-    pub block-spans : (r : Span) → r ≡ spanOf (blockRows (levels - 1) count rows (i + 1) boxes) → r ≡ spanOf (termRows levels outer rows i boxes)
+    pub block-spans : (r : Span) → r ≡ spanOf (blockRows l (levels - 1) count rows (i + 1) boxes) → r ≡ spanOf (termRows l levels outer rows i boxes)
     unfolding fields
     block-spans r h =
         let s = rowCursor rows (i + 1) (boxes + boxesOf (e .kind)) in
-        let k : built (e .kind) i (take (length (fields base (e .kind))) (fieldsAt rows i)) (term base 1 inRows (levels - 1)) s ≡ built kBlock i (fieldAt rows i 1 ∷ []) (term base 1 inRows (levels - 1)) s = rw a-block in
-        h ∙ ap (λ (x : ℕ). spanOf (blockRows (levels - 1) x rows (i + 1) boxes)) counts
-        ∙ ap (λ (x : ℕ). spanOf (blockRows (levels - 1) (fieldAt rows i 1) rows (i + 1) x)) (sym (unboxed (λ z. omega arith)))
-        ∙ sym (ap spanOf (e .builds ∙ k) ∙ block-span i (fieldAt rows i 1 ∷ []) (term base 1 inRows (levels - 1)) s)
+        let k : built (e .kind) i (take (length (fields l (e .kind))) (fieldsAt rows i)) (term l 1 inRows (levels - 1)) s ≡ built kBlock i (fieldAt rows i 1 ∷ []) (term l 1 inRows (levels - 1)) s = rw a-block in
+        h ∙ ap (λ (x : ℕ). spanOf (blockRows l (levels - 1) x rows (i + 1) boxes)) counts
+        ∙ ap (λ (x : ℕ). spanOf (blockRows l (levels - 1) (fieldAt rows i 1) rows (i + 1) x)) (sym (unboxed (λ z. omega arith)))
+        ∙ sym (ap spanOf (e .builds ∙ k) ∙ block-span i (fieldAt rows i 1 ∷ []) (term l 1 inRows (levels - 1)) s)
 
     -- A block has one term at least.
     pub block-count : 0 < count
     unfolding fields fieldsFit fieldFits
     block-count =
-        let t = ap (λ (k : Kind). fieldsFit (fields base k) (fieldsAt rows i)) (sym a-block) ∙ e .fit in
+        let t = ap (λ (k : Kind). fieldsFit (fields l k) (fieldsAt rows i)) (sym a-block) ∙ e .fit in
         omega (arith, leb-true 1 (fieldAt rows i 1) (first-of (leb 1 (fieldAt rows i 1)) (ltb (fieldAt rows i 1) 256) _ t))
       where
         first-of : (a b c : Bool) → ((a && b) && c) ≡ true → a ≡ true
@@ -175,20 +175,19 @@ words-under [] h = tt
 words-under (x ∷ xs) h = (h 0, words-under xs (λ j. h (suc j)))
 
 -- The reader of a term ends at a row again, within the limits.
-pub record Ends (rows : List ℕ) (i : ℕ) (t : Term) (s′ : Cursor) : Type 0 where
+pub record Ends (l : Limits) (rows : List ℕ) (i : ℕ) (t : Term) (s′ : Cursor) : Type 0 where
   pub is : s′ ≡ rowCursor rows (s′ .terms) (s′ .boxes)
   pub terms : s′ .terms ≡ i + size t
-  pub fits : s′ .terms ≤ 512
-  pub few : s′ .boxes ≤ 64
+  pub fits : s′ .terms ≤ l .terms
+  pub few : s′ .boxes ≤ l .boxes
 
-pub ends : (levels : ℕ) (outer : Bool) (rows : List ℕ) (i boxes : ℕ) → Words rows → (t : Term) (s′ : Cursor) → termRows levels outer rows i boxes ≡ ok (t, s′) → Ends rows i t s′
-unfolding base
-ends levels outer rows i boxes w t s′ h =
-    let r = sound base 1 inRows levels outer (rowCursor rows i boxes) s′ t (words-under (drop (5 * i) rows) (λ j. rw (getD-drop (5 * i) rows j 0) (w (5 * i + j)))) h .0 in
-    let l = laid-rows t in
+pub ends : (l : Limits) (levels : ℕ) (outer : Bool) (rows : List ℕ) (i boxes : ℕ) → Words rows → (t : Term) (s′ : Cursor) → termRows l levels outer rows i boxes ≡ ok (t, s′) → Ends l rows i t s′
+ends l levels outer rows i boxes w t s′ h =
+    let r = sound l 1 inRows levels outer (rowCursor rows i boxes) s′ t (words-under (drop (5 * i) rows) (λ j. rw (getD-drop (5 * i) rows j 0) (w (5 * i + j)))) h .0 in
+    let five = laid-rows t in
     let z : 5 * i + 5 * size t ≡ 5 * s′ .terms = omega (arith, r .terms) in
     let a : s′ .at ≡ 5 * s′ .terms = omega (arith, r .at, r .terms) in
-    let b : s′ .rest ≡ drop (5 * s′ .terms) rows = sym (drop-at (lay inRows t) (s′ .rest) (5 * size t) l) ∙ ap (λ (x : List ℕ). drop (5 * size t) x) (sym (r .rest)) ∙ drop-drop (5 * size t) (5 * i) rows ∙ ap (λ (x : ℕ). drop x rows) z in
+    let b : s′ .rest ≡ drop (5 * s′ .terms) rows = sym (drop-at (lay inRows t) (s′ .rest) (5 * size t) five) ∙ ap (λ (x : List ℕ). drop (5 * size t) x) (sym (r .rest)) ∙ drop-drop (5 * size t) (5 * i) rows ∙ ap (λ (x : ℕ). drop x rows) z in
     record {
       is = ap (λ (x : List ℕ). cursor x (s′ .at) (s′ .terms) (s′ .boxes)) b ∙ ap (λ (x : ℕ). cursor (drop (5 * s′ .terms) rows) x (s′ .terms) (s′ .boxes)) a;
       terms = r .terms;
@@ -197,33 +196,33 @@ ends levels outer rows i boxes w t s′ h =
     }
 
 -- So many terms of a block from row i on, none included.
-unfoldable pub restSpan : ℕ → List ℕ → ℕ → ℕ → ℕ → Span
-restSpan levels rows zero i boxes = Fine i boxes
-restSpan levels rows (suc n) i boxes = spanOf (several (term base 1 inRows levels false) n (rowCursor rows i boxes))
+unfoldable pub restSpan : Limits → ℕ → List ℕ → ℕ → ℕ → ℕ → Span
+restSpan l levels rows zero i boxes = Fine i boxes
+restSpan l levels rows (suc n) i boxes = spanOf (several (term l 1 inRows levels false) n (rowCursor rows i boxes))
 
-module _ (levels : ℕ) (rows : List ℕ) (i boxes : ℕ) where
+module _ (l : Limits) (levels : ℕ) (rows : List ℕ) (i boxes : ℕ) where
   abbrev one : Reads Term
-  one = term base 1 inRows levels false
+  one = term l 1 inRows levels false
 
   abbrev s : Cursor
   s = rowCursor rows i boxes
 
-  pub all-span : (count : ℕ) → 0 < count → restSpan levels rows count i boxes ≡ spanOf (blockRows levels count rows i boxes)
+  pub all-span : (count : ℕ) → 0 < count → restSpan l levels rows count i boxes ≡ spanOf (blockRows l levels count rows i boxes)
   unfolding restSpan
   all-span zero h = absurd (omega arith)
   all-span (suc n) h = rw sub-one
 
-  pub none-span : (n : ℕ) → n ≤ 0 → Fine i boxes ≡ restSpan levels rows n i boxes
+  pub none-span : (n : ℕ) → n ≤ 0 → Fine i boxes ≡ restSpan l levels rows n i boxes
   unfolding restSpan
   none-span zero h = refl
   none-span (suc n) h = absurd (omega arith)
 
   -- A block of one term has the term's span.
-  pub one-span : spanOf (blockRows levels 1 rows i boxes) ≡ spanOf (one s)
+  pub one-span : spanOf (blockRows l levels 1 rows i boxes) ≡ spanOf (one s)
   unfolding several spanOf done
   one-span = go (one s) refl
     where
-      go : (o : Result Refusal (Term × Cursor)) → one s ≡ o → spanOf (blockRows levels 1 rows i boxes) ≡ spanOf o
+      go : (o : Result Refusal (Term × Cursor)) → one s ≡ o → spanOf (blockRows l levels 1 rows i boxes) ≡ spanOf o
       go (ok o) q = ap spanOf (go-on one _ s (o .1) (o .0) _ q refl)
       go (err e) q = ap spanOf (stops one _ s e q)
 
@@ -232,7 +231,7 @@ module _ (levels : ℕ) (rows : List ℕ) (i boxes : ℕ) where
   several-stops zero e h = stops one _ s e h
   several-stops (suc n) e h = stops one _ s e h
 
-  pub stop-span : (left : ℕ) → 0 < left → (n p : ℕ) → Refused n p ≡ spanOf (one s) → Refused n p ≡ restSpan levels rows left i boxes
+  pub stop-span : (left : ℕ) → 0 < left → (n p : ℕ) → Refused n p ≡ spanOf (one s) → Refused n p ≡ restSpan l levels rows left i boxes
   unfolding restSpan spanOf
   stop-span zero h n p e = absurd (omega arith)
   stop-span (suc m) h n p e = sym (ap spanOf (several-stops m (n, p) (refused-of (one s) n p e)))
@@ -250,16 +249,16 @@ module _ (levels : ℕ) (rows : List ℕ) (i boxes : ℕ) where
     abbrev read : FineOf (one s) j b
     read = fine-of (one s) j b f
 
-    abbrev ended : Ends rows i (read .value) (read .to)
-    ended = ends levels false rows i boxes w (read .value) (read .to) (read .is)
+    abbrev ended : Ends l rows i (read .value) (read .to)
+    ended = ends l levels false rows i boxes w (read .value) (read .to) (read .is)
 
-    pub rest-few : b ≤ 64
+    pub rest-few : b ≤ l .boxes
     rest-few = omega (arith, ended .few, read .boxes)
 
     from-row : read .to ≡ rowCursor rows j b
     from-row = ended .is ∙ ap (λ (x : ℕ). rowCursor rows x (read .to .boxes)) (read .terms) ∙ ap (λ (x : ℕ). rowCursor rows j x) (read .boxes)
 
-    pub rest-span : (left : ℕ) → 0 < left → restSpan levels rows (left - 1) j b ≡ restSpan levels rows left i boxes
+    pub rest-span : (left : ℕ) → 0 < left → restSpan l levels rows (left - 1) j b ≡ restSpan l levels rows left i boxes
     unfolding restSpan several spanOf done
     rest-span zero h = absurd (omega arith)
     rest-span (suc zero) h = f ∙ ap spanOf (read .is) ∙ sym (ap spanOf (go-on one _ s (read .to) (read .value) _ (read .is) refl))

@@ -10,7 +10,7 @@ use lib.Seq.{drop-cons, length-take-le}
 use lib.Dec.{leb, ltb, eqb}
 use borrow.Author.Tests.{leb-true, leb-false, ltb-true, ltb-false, eqb-true, eqb-false, le-leb, lt-leb, lt-ltb, ne-eqb}
 use Rattle.reader.specs.Result.{Result, ok, err, Refusal, pick}
-use Rattle.reader.specs.Limits.{base}
+use Rattle.reader.specs.Limits.{Limits, rowNumbers}
 use Rattle.reader.specs.Script.{Term}
 use Rattle.reader.specs.Kinds.{Kind, kNumber, kReading, kCopy, kMove, kShared, kExclusive, kBox, kLet, kAssign, kBelow, kBlock, byteOf, kindOf, fields}
 use Rattle.reader.specs.Layout.{inRows}
@@ -22,19 +22,19 @@ use Rattle.reader.proofs.KnownKinds.{kind-some, kind-none, fields-of}
 use Rattle.reader.proofs.TermSteps.{past, opening-12, opening-12-row, opening-13, opening-18, opening-ok, term-refused, term-deep, term-boxes, term-operands-refused, term-row-refused, term-built}
 use Rattle.reader.proofs.RowFields.{operandsFit, fit-parts, operands-read, zeros-read}
 
-fields-few : (k : Kind) → length (fields base k) ≤ 4
+fields-few : (l : Limits) (k : Kind) → length (fields l k) ≤ 4
 unfolding fields
-fields-few kNumber = omega arith
-fields-few kReading = omega arith
-fields-few kCopy = omega arith
-fields-few kMove = omega arith
-fields-few kShared = omega arith
-fields-few kExclusive = omega arith
-fields-few kBox = omega arith
-fields-few kLet = omega arith
-fields-few kAssign = omega arith
-fields-few kBelow = omega arith
-fields-few kBlock = omega arith
+fields-few l kNumber = omega arith
+fields-few l kReading = omega arith
+fields-few l kCopy = omega arith
+fields-few l kMove = omega arith
+fields-few l kShared = omega arith
+fields-few l kExclusive = omega arith
+fields-few l kBox = omega arith
+fields-few l kLet = omega arith
+fields-few l kAssign = omega arith
+fields-few l kBelow = omega arith
+fields-few l kBlock = omega arith
 
 row-place : (i : ℕ) → placeIn inRows (5 * i) ≡ i
 unfolding placeIn
@@ -45,95 +45,95 @@ pub boxes-of : (b : ℕ) (k : Kind) → kindOf 1 b ≡ some k → boxesOf k ≡ 
 unfolding boxesOf is byteOf
 boxes-of b k h = rw (found 1 b k h)
 
-boxes-over : (t u : Bool) (b : ℕ) → leb 64 b ≡ u → (t && u) ≡ true → 64 < b + pick t 1 0
-boxes-over true true b e h = omega (arith, leb-true 64 b e)
-boxes-over true false b e h = absurd (false≢true h)
-boxes-over false u b e h = absurd (false≢true h)
+boxes-over : (most : ℕ) (t u : Bool) (b : ℕ) → leb most b ≡ u → (t && u) ≡ true → most < b + pick t 1 0
+boxes-over most true true b e h = omega (arith, leb-true most b e)
+boxes-over most true false b e h = absurd (false≢true h)
+boxes-over most false u b e h = absurd (false≢true h)
 
-boxes-fit : (t u : Bool) (b : ℕ) → b ≤ 64 → leb 64 b ≡ u → (t && u) ≡ false → b + pick t 1 0 ≤ 64
-boxes-fit true true b few e h = absurd (true≢false h)
-boxes-fit true false b few e h = omega (arith, leb-false 64 b e)
-boxes-fit false u b few e h = omega arith
+boxes-fit : (most : ℕ) (t u : Bool) (b : ℕ) → b ≤ most → leb most b ≡ u → (t && u) ≡ false → b + pick t 1 0 ≤ most
+boxes-fit most true true b few e h = absurd (true≢false h)
+boxes-fit most true false b few e h = omega (arith, leb-false most b e)
+boxes-fit most false u b few e h = omega arith
 
 -- The reader stands at row i, whose fields after the kind are xs. The kind is known, and it may stand here.
-module _ (outer : Bool) (i n b x : ℕ) (xs r : List ℕ) (d : ℕ) (k : Kind) where
+module _ (l : Limits) (outer : Bool) (i n b x : ℕ) (xs r : List ℕ) (d : ℕ) (k : Kind) where
   abbrev here : Cursor
   here = cursor (x ∷ xs ++ r) (5 * i) n b
 
   abbrev values : List ℕ
-  values = take (length (fields base k)) xs
+  values = take (length (fields l k)) xs
 
   abbrev unread : List ℕ
-  unread = drop (length (fields base k)) xs
+  unread = drop (length (fields l k)) xs
 
   -- Behind the operands, and behind the row.
   abbrev behind : Cursor
-  behind = cursor (unread ++ r) (suc (5 * i) + length (fields base k)) (suc n) (b + boxesOf k)
+  behind = cursor (unread ++ r) (suc (5 * i) + length (fields l k)) (suc n) (b + boxesOf k)
 
   abbrev below : Cursor
   below = cursor r (5 * (i + 1)) (suc n) (b + boxesOf k)
 
-  term-fields : length xs ≡ 4 → opening base 1 inRows outer here ≡ ok (k, here) → leb (b + boxesOf k) (base .boxes) ≡ true
-      → term base 1 inRows (suc d) outer here ≡ pick (fieldsFit (fields base k) xs) (built k n values (term base 1 inRows d) below) (err (14, i))
+  term-fields : length xs ≡ 4 → opening l 1 inRows outer here ≡ ok (k, here) → leb (b + boxesOf k) (l .boxes) ≡ true
+      → term l 1 inRows (suc d) outer here ≡ pick (fieldsFit (fields l k) xs) (built k n values (term l 1 inRows d) below) (err (14, i))
   unfolding restOfRow
   term-fields four o few =
-      rw (fit-parts (fields base k) xs enough)
-      (go (operandsFit (fields base k) xs) (fieldsFit [] unread)
-      (operands-read i (suc n) (b + boxesOf k) r (fields base k) xs (suc (5 * i)) enough (omega arith) (omega arith))
+      rw (fit-parts (fields l k) xs enough)
+      (go (operandsFit (fields l k) xs) (fieldsFit [] unread)
+      (operands-read i (suc n) (b + boxesOf k) r (fields l k) xs (suc (5 * i)) enough (omega arith) (omega arith))
       (ap (λ (m : ℕ). zeroFields m behind) left
-      ∙ zeros-read i (suc n) (b + boxesOf k) r unread (suc (5 * i) + length (fields base k)) (omega arith) (omega (arith, count))
+      ∙ zeros-read i (suc n) (b + boxesOf k) r unread (suc (5 * i) + length (fields l k)) (omega arith) (omega (arith, count))
       ∙ ap (λ (m : ℕ). pick (fieldsFit [] unread) (ok (tt, cursor r m (suc n) (b + boxesOf k))) (err (14, i))) (omega (arith, count))))
     where
-      enough : length (fields base k) ≤ length xs
-      enough = omega (arith, fields-few k)
+      enough : length (fields l k) ≤ length xs
+      enough = omega (arith, fields-few l k)
 
-      count : length (fields base k) + length unread ≡ 4
-      count = omega (arith, enough, length-drop (length (fields base k)) xs)
+      count : length (fields l k) + length unread ≡ 4
+      count = omega (arith, enough, length-drop (length (fields l k)) xs)
 
       left : 4 - length values ≡ length unread
-      left = omega (arith, count, length-take-le (length (fields base k)) xs enough)
+      left = omega (arith, count, length-take-le (length (fields l k)) xs enough)
 
-      go : (t u : Bool) → operands inRows (fields base k) (past k here) ≡ pick t (ok (values, behind)) (err (14, i))
+      go : (t u : Bool) → operands inRows (fields l k) (past k here) ≡ pick t (ok (values, behind)) (err (14, i))
           → restOfRow inRows (length values) behind ≡ pick u (ok (tt, below)) (err (14, i))
-          → term base 1 inRows (suc d) outer here ≡ pick (t && u) (built k n values (term base 1 inRows d) below) (err (14, i))
-      go true true p q = term-built base 1 inRows outer here k o d few values behind p below q
-      go true false p q = term-row-refused base 1 inRows outer here k o d few values behind p (14, i) q
-      go false u p q = term-operands-refused base 1 inRows outer here k o d few (14, i) p
+          → term l 1 inRows (suc d) outer here ≡ pick (t && u) (built k n values (term l 1 inRows d) below) (err (14, i))
+      go true true p q = term-built l 1 inRows outer here k o d few values behind p below q
+      go true false p q = term-row-refused l 1 inRows outer here k o d few values behind p (14, i) q
+      go false u p q = term-operands-refused l 1 inRows outer here k o d few (14, i) p
 
 -- Row i of full rows, in front of the rows after it.
-module _ (rows : List ℕ) (i : ℕ) (full : length rows ≡ 2560) where
-  field-first : (j k : ℕ) → j < 2560 → suc j ≡ k → drop j rows ≡ getD rows j 0 ∷ drop k rows
+module _ (n : ℕ) (rows : List ℕ) (i : ℕ) (full : length rows ≡ 5 * n) where
+  field-first : (j k : ℕ) → j < 5 * n → suc j ≡ k → drop j rows ≡ getD rows j 0 ∷ drop k rows
   field-first j k h e = drop-cons rows j 0 (omega arith) ∙ ap (λ (m : ℕ). getD rows j 0 ∷ drop m rows) e
 
-  row-split : i < 512 → drop (5 * i) rows ≡ fieldAt rows i 0 ∷ fieldsAt rows i ++ drop (5 * (i + 1)) rows
+  row-split : i < n → drop (5 * i) rows ≡ fieldAt rows i 0 ∷ fieldsAt rows i ++ drop (5 * (i + 1)) rows
   row-split h =
       let e : 5 * i ≡ 5 * i + 0 = omega arith in
       ap (λ (m : ℕ). drop m rows) e ∙ field-first (5 * i + 0) (5 * i + 1) (omega arith) (omega arith)
-      ∙ ap (λ (l : List ℕ). fieldAt rows i 0 ∷ l) (field-first (5 * i + 1) (5 * i + 2) (omega arith) (omega arith))
-      ∙ ap (λ (l : List ℕ). fieldAt rows i 0 ∷ fieldAt rows i 1 ∷ l) (field-first (5 * i + 2) (5 * i + 3) (omega arith) (omega arith))
-      ∙ ap (λ (l : List ℕ). fieldAt rows i 0 ∷ fieldAt rows i 1 ∷ fieldAt rows i 2 ∷ l) (field-first (5 * i + 3) (5 * i + 4) (omega arith) (omega arith))
-      ∙ ap (λ (l : List ℕ). fieldAt rows i 0 ∷ fieldAt rows i 1 ∷ fieldAt rows i 2 ∷ fieldAt rows i 3 ∷ l) (field-first (5 * i + 4) (5 * (i + 1)) (omega arith) (omega arith))
+      ∙ ap (λ (ys : List ℕ). fieldAt rows i 0 ∷ ys) (field-first (5 * i + 1) (5 * i + 2) (omega arith) (omega arith))
+      ∙ ap (λ (ys : List ℕ). fieldAt rows i 0 ∷ fieldAt rows i 1 ∷ ys) (field-first (5 * i + 2) (5 * i + 3) (omega arith) (omega arith))
+      ∙ ap (λ (ys : List ℕ). fieldAt rows i 0 ∷ fieldAt rows i 1 ∷ fieldAt rows i 2 ∷ ys) (field-first (5 * i + 3) (5 * i + 4) (omega arith) (omega arith))
+      ∙ ap (λ (ys : List ℕ). fieldAt rows i 0 ∷ fieldAt rows i 1 ∷ fieldAt rows i 2 ∷ fieldAt rows i 3 ∷ ys) (field-first (5 * i + 4) (5 * (i + 1)) (omega arith) (omega arith))
 
 -- What a row is whose number is 0: its kind, and what that builds.
-pub record Enters (levels : ℕ) (outer : Bool) (rows : List ℕ) (i boxes : ℕ) : Type 0 where
+pub record Enters (l : Limits) (levels : ℕ) (outer : Bool) (rows : List ℕ) (i boxes : ℕ) : Type 0 where
   pub kind : Kind
   pub is : kindOf 1 (fieldAt rows i 0) ≡ some kind
-  pub room : i < 512
+  pub room : i < l .terms
   pub deep : 0 < levels
-  pub few : boxes + boxesOf kind ≤ 64
-  pub fit : fieldsFit (fields base kind) (fieldsAt rows i) ≡ true
-  pub builds : termRows levels outer rows i boxes ≡ built kind i (take (length (fields base kind)) (fieldsAt rows i)) (term base 1 inRows (levels - 1)) (rowCursor rows (i + 1) (boxes + boxesOf kind))
+  pub few : boxes + boxesOf kind ≤ l .boxes
+  pub fit : fieldsFit (fields l kind) (fieldsAt rows i) ≡ true
+  pub builds : termRows l levels outer rows i boxes ≡ built kind i (take (length (fields l kind)) (fieldsAt rows i)) (term l 1 inRows (levels - 1)) (rowCursor rows (i + 1) (boxes + boxesOf kind))
 
 -- What a number found at the row says of the term there.
-pub record Judges (levels : ℕ) (outer : Bool) (rows : List ℕ) (i boxes n : ℕ) : Type 0 where
-  pub refuses : (n ≡ 0 → ⊥) → termRows levels outer rows i boxes ≡ err (n, i)
-  pub enters : n ≡ 0 → Enters levels outer rows i boxes
+pub record Judges (l : Limits) (levels : ℕ) (outer : Bool) (rows : List ℕ) (i boxes n : ℕ) : Type 0 where
+  pub refuses : (n ≡ 0 → ⊥) → termRows l levels outer rows i boxes ≡ err (n, i)
+  pub enters : n ≡ 0 → Enters l levels outer rows i boxes
 
-module _ (levels : ℕ) (outer : Bool) (rows : List ℕ) (i boxes : ℕ) (full : length rows ≡ 2560) (few : boxes ≤ 64) where
+module _ (l : Limits) (levels : ℕ) (outer : Bool) (rows : List ℕ) (i boxes : ℕ) (full : length rows ≡ rowNumbers l) (few : boxes ≤ l .boxes) where
   abbrev Row : ℕ → Type 0
-  Row n = Judges levels outer rows i boxes n
+  Row n = Judges l levels outer rows i boxes n
 
-  refused : (n : ℕ) → 0 < n → termRows levels outer rows i boxes ≡ err (n, i) → Row n
+  refused : (n : ℕ) → 0 < n → termRows l levels outer rows i boxes ≡ err (n, i) → Row n
   refused n h e = record { refuses = λ z. e; enters = λ z. absurd (omega arith) }
 
   -- A test comes first.
@@ -141,13 +141,14 @@ module _ (levels : ℕ) (outer : Bool) (rows : List ℕ) (i boxes : ℕ) (full :
   choose true m n f g = f refl
   choose false m n f g = g refl
 
-  at-end : 512 ≤ i → Row 12
+  at-end : l .terms ≤ i → Row 12
+  unfolding rowNumbers
   at-end h =
       let z : length rows ≤ 5 * i = omega arith in
-      let e = opening-12 base 1 inRows outer (rowCursor rows i boxes) (drop-of-length-le rows z) in
-      refused 12 (omega arith) (term-refused base 1 inRows outer _ levels _ e ∙ ap (λ (p : ℕ). err (12, p)) (row-place i))
+      let e = opening-12 l 1 inRows outer (rowCursor rows i boxes) (drop-of-length-le rows z) in
+      refused 12 (omega arith) (term-refused l 1 inRows outer _ levels _ e ∙ ap (λ (p : ℕ). err (12, p)) (row-place i))
 
-  module _ (room : i < 512) where
+  module _ (room : i < l .terms) where
     abbrev s : Cursor
     s = rowCursor rows i boxes
 
@@ -155,19 +156,20 @@ module _ (levels : ℕ) (outer : Bool) (rows : List ℕ) (i boxes : ℕ) (full :
     after = fieldsAt rows i ++ drop (5 * (i + 1)) rows
 
     split : s .rest ≡ fieldAt rows i 0 ∷ after
-    split = row-split rows i full room
+    unfolding rowNumbers
+    split = row-split (l .terms) rows i full room
 
-    stopped : (n : ℕ) → 0 < n → opening base 1 inRows outer s ≡ err (n, placeIn inRows (5 * i)) → Row n
-    stopped n h e = refused n h (term-refused base 1 inRows outer s levels _ e ∙ ap (λ (p : ℕ). err (n, p)) (row-place i))
+    stopped : (n : ℕ) → 0 < n → opening l 1 inRows outer s ≡ err (n, placeIn inRows (5 * i)) → Row n
+    stopped n h e = refused n h (term-refused l 1 inRows outer s levels _ e ∙ ap (λ (p : ℕ). err (n, p)) (row-place i))
 
     kind-zero : fieldAt rows i 0 ≡ 0 → Row 12
-    kind-zero z = stopped 12 (omega arith) (opening-12-row base 1 outer s (fieldAt rows i 0) after split z)
+    kind-zero z = stopped 12 (omega arith) (opening-12-row l 1 outer s (fieldAt rows i 0) after split z)
 
     kind-unknown : 11 < fieldAt rows i 0 → Row 13
     unfolding ended
     kind-unknown h =
         let z : eqb (fieldAt rows i 0) 0 ≡ false = ne-eqb (fieldAt rows i 0) 0 (λ e. omega arith) in
-        stopped 13 (omega arith) (opening-13 base 1 inRows outer s (fieldAt rows i 0) after split z (kind-none (fieldAt rows i 0) (λ q. omega arith)))
+        stopped 13 (omega arith) (opening-13 l 1 inRows outer s (fieldAt rows i 0) after split z (kind-none (fieldAt rows i 0) (λ q. omega arith)))
 
     -- The kind is k.
     module _ (k : Kind) (h : kindOf 1 (fieldAt rows i 0) ≡ some k) where
@@ -181,52 +183,49 @@ module _ (levels : ℕ) (outer : Bool) (rows : List ℕ) (i boxes : ℕ) (full :
           deny false b = refl
 
       no-block : (outer && not (eqb (fieldAt rows i 0) 11)) ≡ true → Row 18
-      no-block t = stopped 18 (omega arith) (opening-18 base 1 inRows outer s (fieldAt rows i 0) after split k h (may-stand ∙ ap not t))
+      no-block t = stopped 18 (omega arith) (opening-18 l 1 inRows outer s (fieldAt rows i 0) after split k h (may-stand ∙ ap not t))
 
       module _ (stands : (outer && not (eqb (fieldAt rows i 0) 11)) ≡ false) where
-        opens : opening base 1 inRows outer s ≡ ok (k, s)
-        unfolding base
-        opens = opening-ok base 1 inRows outer s (fieldAt rows i 0) after split k h (may-stand ∙ ap not stands) (lt-ltb i 512 room)
+        opens : opening l 1 inRows outer s ≡ ok (k, s)
+        opens = opening-ok l 1 inRows outer s (fieldAt rows i 0) after split k h (may-stand ∙ ap not stands) (lt-ltb i (l .terms) room)
 
         too-deep : levels ≡ 0 → Row 15
-        too-deep z = refused 15 (omega arith) (ap (λ (d : ℕ). term base 1 inRows d outer s) z ∙ term-deep base 1 inRows outer s k opens ∙ ap (λ (p : ℕ). err (15, p)) (row-place i))
+        too-deep z = refused 15 (omega arith) (ap (λ (d : ℕ). term l 1 inRows d outer s) z ∙ term-deep l 1 inRows outer s k opens ∙ ap (λ (p : ℕ). err (15, p)) (row-place i))
 
         module _ (d : ℕ) (level : levels ≡ suc d) where
-          too-many : 64 < boxes + boxesOf k → Row 17
-          unfolding base
+          too-many : l .boxes < boxes + boxesOf k → Row 17
           too-many z =
               refused 17 (omega arith)
-              (ap (λ (e : ℕ). term base 1 inRows e outer s) level ∙ term-boxes base 1 inRows outer s k opens d (lt-leb (boxes + boxesOf k) 64 z) ∙ ap (λ (p : ℕ). err (17, p)) (row-place i))
+              (ap (λ (e : ℕ). term l 1 inRows e outer s) level ∙ term-boxes l 1 inRows outer s k opens d (lt-leb (boxes + boxesOf k) (l .boxes) z) ∙ ap (λ (p : ℕ). err (17, p)) (row-place i))
 
-          module _ (fits : boxes + boxesOf k ≤ 64) where
+          module _ (fits : boxes + boxesOf k ≤ l .boxes) where
             abbrev inner : Result Refusal (Term × Cursor)
-            inner = built k i (take (length (fields base k)) (fieldsAt rows i)) (term base 1 inRows (levels - 1)) (rowCursor rows (i + 1) (boxes + boxesOf k))
+            inner = built k i (take (length (fields l k)) (fieldsAt rows i)) (term l 1 inRows (levels - 1)) (rowCursor rows (i + 1) (boxes + boxesOf k))
 
-            by-fields : termRows levels outer rows i boxes ≡ pick (fieldsFit (fields base k) (fieldsAt rows i)) inner (err (14, i))
-            unfolding base
+            by-fields : termRows l levels outer rows i boxes ≡ pick (fieldsFit (fields l k) (fieldsAt rows i)) inner (err (14, i))
             by-fields =
                 let e : suc i ≡ i + 1 = omega arith in
                 let f : d ≡ levels - 1 = omega arith in
-                ap (λ (m : ℕ). term base 1 inRows m outer s) level
-                ∙ ap (λ (l : List ℕ). term base 1 inRows (suc d) outer (cursor l (5 * i) i boxes)) split
-                ∙ term-fields outer i i boxes (fieldAt rows i 0) (fieldsAt rows i) (drop (5 * (i + 1)) rows) d k refl (rw split at opens) (le-leb (boxes + boxesOf k) 64 fits)
+                ap (λ (m : ℕ). term l 1 inRows m outer s) level
+                ∙ ap (λ (ys : List ℕ). term l 1 inRows (suc d) outer (cursor ys (5 * i) i boxes)) split
+                ∙ term-fields l outer i i boxes (fieldAt rows i 0) (fieldsAt rows i) (drop (5 * (i + 1)) rows) d k refl (rw split at opens) (le-leb (boxes + boxesOf k) (l .boxes) fits)
                 ∙ rw (e, f)
 
-            misfit : fieldsFit (fields base k) (fieldsAt rows i) ≡ false → Row 14
+            misfit : fieldsFit (fields l k) (fieldsAt rows i) ≡ false → Row 14
             misfit t = refused 14 (omega arith) (by-fields ∙ ap (λ (u : Bool). pick u inner (err (14, i))) t)
 
-            entered : fieldsFit (fields base k) (fieldsAt rows i) ≡ true → Row 0
+            entered : fieldsFit (fields l k) (fieldsAt rows i) ≡ true → Row 0
             entered t = record {
               refuses = λ z. absurd (z refl);
               enters = λ z. record { kind = k; is = h; room = room; deep = omega arith; few = fits; fit = t; builds = by-fields ∙ ap (λ (u : Bool). pick u inner (err (14, i))) t };
             }
 
-  pub row-judged : Row (rowNumber levels outer rows i boxes)
+  pub row-judged : Row (rowNumber l levels outer rows i boxes)
   unfolding rowNumber
   row-judged =
       let b = fieldAt rows i 0 in
-      choose (leb 512 i) 12 _ (λ t. at-end (leb-true 512 i t)) λ f.
-      let room = leb-false 512 i f in
+      choose (leb (l .terms) i) 12 _ (λ t. at-end (leb-true (l .terms) i t)) λ f.
+      let room = leb-false (l .terms) i f in
       choose (eqb b 0) 12 _ (λ t. kind-zero room (eqb-true b 0 t)) λ z.
       choose (ltb 11 b) 13 _ (λ t. kind-unknown room (ltb-true 11 b t)) λ w.
       let o = kind-some b (omega (arith, eqb-false b 0 z), ltb-false 11 b w) in
@@ -235,7 +234,7 @@ module _ (levels : ℕ) (outer : Bool) (rows : List ℕ) (i boxes : ℕ) (full :
       choose (eqb levels 0) 15 _ (λ t. too-deep room k (o .1) st (eqb-true levels 0 t)) λ v.
       let level : levels ≡ suc (levels - 1) = omega (arith, eqb-false levels 0 v) in
       let e : boxesOf k ≡ pick (eqb b 7) 1 0 = boxes-of b k (o .1) in
-      choose (eqb b 7 && leb 64 boxes) 17 _ (λ t. too-many room k (o .1) st (levels - 1) level (rw e (boxes-over (eqb b 7) (leb 64 boxes) boxes refl t))) λ m.
-      let fits : boxes + boxesOf k ≤ 64 = rw e (boxes-fit (eqb b 7) (leb 64 boxes) boxes few refl m) in
-      rw (fields-of b k (o .1))
-      (choose (fieldsFit (fields base k) (fieldsAt rows i)) 0 14 (entered room k (o .1) st (levels - 1) level fits) (misfit room k (o .1) st (levels - 1) level fits))
+      choose (eqb b 7 && leb (l .boxes) boxes) 17 _ (λ t. too-many room k (o .1) st (levels - 1) level (rw e (boxes-over (l .boxes) (eqb b 7) (leb (l .boxes) boxes) boxes refl t))) λ m.
+      let fits : boxes + boxesOf k ≤ l .boxes = rw e (boxes-fit (l .boxes) (eqb b 7) (leb (l .boxes) boxes) boxes few refl m) in
+      rw (fields-of b l k (o .1))
+      (choose (fieldsFit (fields l k) (fieldsAt rows i)) 0 14 (entered room k (o .1) st (levels - 1) level fits) (misfit room k (o .1) st (levels - 1) level fits))

@@ -9,7 +9,7 @@ use lib.Seq.{drop-cons, drop-drop}
 use lib.Dec.{leb, ltb, eqb}
 use borrow.Author.Tests.{leb-true, leb-false, ltb-true, ltb-false}
 use Rattle.reader.specs.Result.{Result, ok, err, need, pick, Refusal, _>>=_ as _&_}
-use Rattle.reader.specs.Limits.{base}
+use Rattle.reader.specs.Limits.{Limits}
 use Rattle.reader.specs.Script.{Term}
 use Rattle.reader.specs.Layout.{inBytes}
 use Rattle.reader.specs.Reader.{Cursor, Reads, _>>=_, done, placeIn, expect, peek, skip, next, mark, version, leading, nothingLeft, over, script, term, start, answer, parse}
@@ -119,37 +119,37 @@ module _ (t : List ℕ) where
 
   -- ---- the whole script
 
-  pub script-lead : (n p : ℕ) → leadJudged t 0 ≡ fields.Refused n p → readScript t ≡ err (n, p)
+  pub script-lead : (l : Limits) (n p : ℕ) → leadJudged t 0 ≡ fields.Refused n p → readScript l t ≡ err (n, p)
   unfolding onLead
-  script-lead n p e = stops leading _ (start t) (n, p) (lead-is ∙ ap onLead e)
+  script-lead l n p e = stops leading _ (start t) (n, p) (lead-is ∙ ap onLead e)
 
-  module _ (n : ℕ) (e : leadJudged t 0 ≡ fields.Fine n) where
-    script-on : readScript t ≡ script base 1 inBytes (here 5)
+  module _ (l : Limits) (n : ℕ) (e : leadJudged t 0 ≡ fields.Fine n) where
+    script-on : readScript l t ≡ script l 1 inBytes (here 5)
     unfolding onLead
     script-on = go-on leading _ (start t) (here 5) tt _ (lead-is ∙ ap onLead e) refl
 
-    pub script-refused : (q : Refusal) → readOutermost t 5 ≡ err q → readScript t ≡ err q
+    pub script-refused : (q : Refusal) → readOutermost l t 5 ≡ err q → readScript l t ≡ err q
     unfolding script
-    script-refused q h = script-on ∙ stops (term base 1 inBytes (base .levels) true) _ (here 5) q h
+    script-refused q h = script-on ∙ stops (term l 1 inBytes (l .levels) true) _ (here 5) q h
 
-    pub script-over : (x : Term) (s : Cursor) → readOutermost t 5 ≡ ok (x, s) → s .rest ≡ drop (s .at) t → length t ≤ s .at → readScript t ≡ ok (x, s)
+    pub script-over : (x : Term) (s : Cursor) → readOutermost l t 5 ≡ ok (x, s) → s .rest ≡ drop (s .at) t → length t ≤ s .at → readScript l t ≡ ok (x, s)
     unfolding script over done nothingLeft _&_
-    script-over x s h r l =
-        let d : s .rest ≡ [] = r ∙ drop-of-length-le t l in
+    script-over x s h r i =
+        let d : s .rest ≡ [] = r ∙ drop-of-length-le t i in
         let o : over inBytes s ≡ ok (tt, s) = rw d in
-        script-on ∙ go-on (term base 1 inBytes (base .levels) true) _ (here 5) s x _ h (go-on (over inBytes) _ s s tt _ o refl)
+        script-on ∙ go-on (term l 1 inBytes (l .levels) true) _ (here 5) s x _ h (go-on (over inBytes) _ s s tt _ o refl)
 
-    pub script-left : (x : Term) (s : Cursor) → readOutermost t 5 ≡ ok (x, s) → s .rest ≡ drop (s .at) t → s .at < length t → readScript t ≡ err (19, s .at)
+    pub script-left : (x : Term) (s : Cursor) → readOutermost l t 5 ≡ ok (x, s) → s .rest ≡ drop (s .at) t → s .at < length t → readScript l t ≡ err (19, s .at)
     unfolding script over nothingLeft _&_
-    script-left x s h r l =
-        let d : s .rest ≡ getD t (s .at) 0 ∷ drop (suc (s .at)) t = r ∙ drop-cons t (s .at) 0 l in
+    script-left x s h r i =
+        let d : s .rest ≡ getD t (s .at) 0 ∷ drop (suc (s .at)) t = r ∙ drop-cons t (s .at) 0 i in
         let o : over inBytes s ≡ err (19, s .at) = rw d in
-        script-on ∙ go-on (term base 1 inBytes (base .levels) true) _ (here 5) s x _ h (stops (over inBytes) _ s _ o)
+        script-on ∙ go-on (term l 1 inBytes (l .levels) true) _ (here 5) s x _ h (stops (over inBytes) _ s _ o)
 
-pub parse-is : (t : List ℕ) (x : Term) (s : Cursor) → readScript t ≡ ok (x, s) → parse base t ≡ ok x
+pub parse-is : (l : Limits) (t : List ℕ) (x : Term) (s : Cursor) → readScript l t ≡ ok (x, s) → parse l t ≡ ok x
 unfolding parse answer
-parse-is t x s h = after (readScript t) (λ r. ok (r .0)) (x, s) _ h refl
+parse-is l t x s h = after (readScript l t) (λ r. ok (r .0)) (x, s) _ h refl
 
-pub parse-refused : (t : List ℕ) (e : Refusal) → readScript t ≡ err e → parse base t ≡ err e
+pub parse-refused : (l : Limits) (t : List ℕ) (e : Refusal) → readScript l t ≡ err e → parse l t ≡ err e
 unfolding parse answer
-parse-refused t e h = stop (readScript t) (λ r. ok (r .0)) e h
+parse-refused l t e h = stop (readScript l t) (λ r. ok (r .0)) e h

@@ -9,7 +9,7 @@ use lib.ListN.{length, getD, take, drop, length-drop}
 use lib.Seq.{sets}
 use borrow.Author.Tests.{leb-true}
 use Rattle.reader.specs.Result.{ok}
-use Rattle.reader.specs.Limits.{base}
+use Rattle.reader.specs.Limits.{Limits, rowNumbers}
 use Rattle.reader.specs.Script.{Term, Terms, number, block, last, more}
 use Rattle.reader.specs.Kinds.{Kind, kNumber, kReading, kCopy, kMove, kShared, kExclusive, kBox, kLet, kAssign, kBelow, kBlock, byteOf, Field, fields}
 use Rattle.reader.specs.Layout.{inBytes, inRows, zeros, wordOf, unused, head, others, lay, lays}
@@ -96,8 +96,8 @@ leaf-boxes leafBelow = refl
 
 -- ---- rows of a term
 
-module _ (n : ℕ) (t : List ℕ) (x : Term) where
-  laid-leaf : {k : Kind} → Leaf k → lay inRows (wrapped k n (valuesAt (fields base k) t 1) x) ≡ head inRows k (valuesAt (fields base k) t 1)
+module _ (l : Limits) (n : ℕ) (t : List ℕ) (x : Term) where
+  laid-leaf : {k : Kind} → Leaf k → lay inRows (wrapped k n (valuesAt (fields l k) t 1) x) ≡ head inRows k (valuesAt (fields l k) t 1)
   unfolding lay wrapped fields valuesAt wordOf
   laid-leaf leafNumber = refl
   laid-leaf leafReading = refl
@@ -107,25 +107,25 @@ module _ (n : ℕ) (t : List ℕ) (x : Term) where
   laid-leaf leafExclusive = refl
   laid-leaf leafBelow = refl
 
-  laid-around : {k : Kind} → Around k → lay inRows (wrapped k n (valuesAt (fields base k) t 1) x) ≡ head inRows k (valuesAt (fields base k) t 1) ++ lay inRows x
+  laid-around : {k : Kind} → Around k → lay inRows (wrapped k n (valuesAt (fields l k) t 1) x) ≡ head inRows k (valuesAt (fields l k) t 1) ++ lay inRows x
   unfolding lay wrapped fields valuesAt
   laid-around aroundBox = refl
   laid-around aroundLet = refl
   laid-around aroundAssign = refl
 
-five : (k : Kind) (t : List ℕ) → length (head inRows k (valuesAt (fields base k) t 1)) ≡ 5
+five : (l : Limits) (k : Kind) (t : List ℕ) → length (head inRows k (valuesAt (fields l k) t 1)) ≡ 5
 unfolding head fields valuesAt unused zeros
-five kNumber t = refl
-five kReading t = refl
-five kCopy t = refl
-five kMove t = refl
-five kShared t = refl
-five kExclusive t = refl
-five kBox t = refl
-five kLet t = refl
-five kAssign t = refl
-five kBelow t = refl
-five kBlock t = refl
+five l kNumber t = refl
+five l kReading t = refl
+five l kCopy t = refl
+five l kMove t = refl
+five l kShared t = refl
+five l kExclusive t = refl
+five l kBox t = refl
+five l kLet t = refl
+five l kAssign t = refl
+five l kBelow t = refl
+five l kBlock t = refl
 
 block-boxes : (b : ℕ) → b + boxesOf kBlock ≡ b
 unfolding boxesOf is byteOf
@@ -145,42 +145,42 @@ count-says inner (suc n) s s′ ts h =
 -- ---- a term whose head is read
 
 -- The head of the term that begins t is read up to `used`.
-pub record Head (levels : ℕ) (outer : Bool) (t : List ℕ) (at n b used : ℕ) : Type 0 where
+pub record Head (l : Limits) (levels : ℕ) (outer : Bool) (t : List ℕ) (at n b used : ℕ) : Type 0 where
   pub k : Kind
   pub byte : byteOf k ≡ getD t 0 0
-  pub operands : fieldsOf (getD t 0 0) ≡ fields base k
+  pub operands : fieldsOf l (getD t 0 0) ≡ fields l k
   pub low : 1 ≤ used
   pub within : used ≤ length t
   pub deep : 0 < levels
-  pub room : n < 512
-  pub few : b + boxesOf k ≤ 64
+  pub room : n < l .terms
+  pub few : b + boxesOf k ≤ l .boxes
   pub several : k ≡ kBlock → 1 ≤ getD t 1 0
-  pub is : term base 1 inBytes levels outer (cursor t at n b) ≡ built k n (valuesAt (fields base k) t 1) (term base 1 inBytes (levels - 1)) (cursor (drop used t) (at + used) (suc n) (b + boxesOf k))
+  pub is : term l 1 inBytes levels outer (cursor t at n b) ≡ built k n (valuesAt (fields l k) t 1) (term l 1 inBytes (levels - 1)) (cursor (drop used t) (at + used) (suc n) (b + boxesOf k))
 
 -- The row of operands that are read.
 pub filled-row : (fs : List Field) (kind : ℕ) (t : List ℕ) (at n : ℕ) (before after : List ℕ) {f : Fields} {used : ℕ} → Filled fs kind t at n before after f → f ≡ fieldsFound.Fine used → after ≡ sets before (n * 5) (rowWith kind (valuesAt fs t 1))
 filled-row fs kind t at n before after q e = subst (λ (x : Fields). RowAfter x n (rowWith kind (valuesAt fs t 1)) before after) e (q .1)
 
 -- The kind byte is refused.
-pub number-refused : (levels : ℕ) (outer : Bool) (t : List ℕ) (at n b m : ℕ) (rows : List ℕ) → b ≤ 64 → m ≡ openingNumber levels outer t n b → (m ≡ 0 → ⊥) → Reading (lay inRows) (readTerm levels outer t at n b) n rows rows (got.Refused m at)
+pub number-refused : (l : Limits) (levels : ℕ) (outer : Bool) (t : List ℕ) (at n b m : ℕ) (rows : List ℕ) → b ≤ l .boxes → m ≡ openingNumber l levels outer t n b → (m ≡ 0 → ⊥) → Reading (lay inRows) (readTerm l levels outer t at n b) n rows rows (got.Refused m at)
 unfolding gotOf RowsAfter
-number-refused levels outer t at n b zero rows h e z = absurd (z refl)
-number-refused levels outer t at n b (suc m) rows h e z = rw (opening-refused levels outer t at n b h m (sym e)) (refl, tt)
+number-refused l levels outer t at n b zero rows h e z = absurd (z refl)
+number-refused l levels outer t at n b (suc m) rows h e z = rw (opening-refused l levels outer t at n b h m (sym e)) (refl, tt)
 
 -- The operands are refused.
-pub operand-refused : (levels : ℕ) (outer : Bool) (t : List ℕ) (at n b m p : ℕ) (rows rows₁ : List ℕ) → Clear levels outer t at n b → judgedFields (fieldsOf (getD t 0 0)) t at 1 ≡ fieldsFound.Refused m p → Reading (lay inRows) (readTerm levels outer t at n b) n rows rows₁ (got.Refused m p)
+pub operand-refused : (l : Limits) (levels : ℕ) (outer : Bool) (t : List ℕ) (at n b m p : ℕ) (rows rows₁ : List ℕ) → Clear l levels outer t at n b → judgedFields (fieldsOf l (getD t 0 0)) t at 1 ≡ fieldsFound.Refused m p → Reading (lay inRows) (readTerm l levels outer t at n b) n rows rows₁ (got.Refused m p)
 unfolding gotOf RowsAfter
-operand-refused levels outer t at n b m p rows rows₁ c e = rw (term-stops c m p e) (refl, tt)
+operand-refused l levels outer t at n b m p rows rows₁ c e = rw (term-stops c m p e) (refl, tt)
 
 -- The head is read where nothing is wrong at the kind byte and in the operands.
-pub head-of : (levels : ℕ) (outer : Bool) (t : List ℕ) (at n b : ℕ) → Clear levels outer t at n b → (used : ℕ) → judgedFields (fieldsOf (getD t 0 0)) t at 1 ≡ fieldsFound.Fine used → Head levels outer t at n b used
-unfolding base fields
-head-of levels outer t at n b c used f =
-    let w = fields-within t at (fieldsOf (getD t 0 0)) 1 used f (c .bytes) in
+pub head-of : (l : Limits) (levels : ℕ) (outer : Bool) (t : List ℕ) (at n b : ℕ) → Clear l levels outer t at n b → (used : ℕ) → judgedFields (fieldsOf l (getD t 0 0)) t at 1 ≡ fieldsFound.Fine used → Head l levels outer t at n b used
+unfolding fields
+head-of l levels outer t at n b c used f =
+    let w = fields-within t at (fieldsOf l (getD t 0 0)) 1 used f (c .bytes) in
     record {
       k = c .k;
       byte = c .byte;
-      operands = fields-of (getD t 0 0) (c .k) (c .kind);
+      operands = fields-of (getD t 0 0) l (c .k) (c .kind);
       low = w .0;
       within = w .1;
       deep = c .deep;
@@ -190,69 +190,71 @@ head-of levels outer t at n b c used f =
       is = term-goes c used f;
     }
   where
-    block-fields : (c : Clear levels outer t at n b) → c .k ≡ kBlock → fieldsOf (getD t 0 0) ≡ oneField 1 256
-    block-fields c e = fields-of (getD t 0 0) (c .k) (c .kind) ∙ ap (fields base) e
+    block-fields : (c : Clear l levels outer t at n b) → c .k ≡ kBlock → fieldsOf l (getD t 0 0) ≡ oneField 1 256
+    block-fields c e = fields-of (getD t 0 0) l (c .k) (c .kind) ∙ ap (fields l) e
 
-module _ (levels : ℕ) (outer : Bool) (t : List ℕ) (at n b used : ℕ) (h : Head levels outer t at n b used)
-    (rows rows₁ : List ℕ) (e₁ : rows₁ ≡ sets rows (n * 5) (rowWith (getD t 0 0) (valuesAt (fieldsOf (getD t 0 0)) t 1))) where
-  row-is : rowWith (getD t 0 0) (valuesAt (fieldsOf (getD t 0 0)) t 1) ≡ head inRows (h .k) (valuesAt (fields base (h .k)) t 1)
+module _ (l : Limits) (levels : ℕ) (outer : Bool) (t : List ℕ) (at n b used : ℕ) (h : Head l levels outer t at n b used)
+    (rows rows₁ : List ℕ) (e₁ : rows₁ ≡ sets rows (n * 5) (rowWith (getD t 0 0) (valuesAt (fieldsOf l (getD t 0 0)) t 1))) where
+  row-is : rowWith (getD t 0 0) (valuesAt (fieldsOf l (getD t 0 0)) t 1) ≡ head inRows (h .k) (valuesAt (fields l (h .k)) t 1)
   unfolding head unused
   row-is = rw (h .operands, ← h .byte)
 
-  rows-is : rows₁ ≡ sets rows (n * 5) (head inRows (h .k) (valuesAt (fields base (h .k)) t 1))
+  rows-is : rows₁ ≡ sets rows (n * 5) (head inRows (h .k) (valuesAt (fields l (h .k)) t 1))
   rows-is = e₁ ∙ ap (sets rows (n * 5)) row-is
 
-  pub leaf-returns : Leaf (h .k) → Reading (lay inRows) (readTerm levels outer t at n b) n rows rows₁ (got.Fine (at + used) (n + 1) b)
+  pub leaf-returns : Leaf (h .k) → Reading (lay inRows) (readTerm l levels outer t at n b) n rows rows₁ (got.Fine (at + used) (n + 1) b)
   unfolding gotOf RowsAfter
-  leaf-returns l =
+  leaf-returns f =
       let s : Cursor = cursor (drop used t) (at + used) (suc n) (b + boxesOf (h .k)) in
-      let w : readTerm levels outer t at n b ≡ ok (wrapped (h .k) n (valuesAt (fields base (h .k)) t 1) (number 0 0), s) = h .is ∙ leaf-ok n _ _ s l (number 0 0) in
+      let w : readTerm l levels outer t at n b ≡ ok (wrapped (h .k) n (valuesAt (fields l (h .k)) t 1) (number 0 0), s) = h .is ∙ leaf-ok n _ _ s f (number 0 0) in
       let e : n + 1 ≡ suc n = add-one n in
-      let z : b ≡ b + boxesOf (h .k) = omega (arith, leaf-boxes l) in
-      rw w (ap₂ (got.Fine (at + used)) e z, rows-is ∙ ap (sets rows (n * 5)) (sym (laid-leaf n t (number 0 0) l)))
+      let z : b ≡ b + boxesOf (h .k) = omega (arith, leaf-boxes f) in
+      rw w (ap₂ (got.Fine (at + used)) e z, rows-is ∙ ap (sets rows (n * 5)) (sym (laid-leaf l n t (number 0 0) f)))
 
   -- The part that the code hands on.
   abbrev Part : List ℕ
   Part = take (length t - used) (drop used t)
 
   pub around-returns : Around (h .k) → (rows₂ : List ℕ) (r : Got)
-      → Reading (lay inRows) (readTerm (levels - 1) false Part (at + used) (n + 1) (boxesWith (getD t 0 0) b)) (n + 1) rows₁ rows₂ r
-      → Reading (lay inRows) (readTerm levels outer t at n b) n rows rows₂ r
+      → Reading (lay inRows) (readTerm l (levels - 1) false Part (at + used) (n + 1) (boxesWith (getD t 0 0) b)) (n + 1) rows₁ rows₂ r
+      → Reading (lay inRows) (readTerm l levels outer t at n b) n rows rows₂ r
   around-returns a rows₂ r q =
       let s : Cursor = cursor (drop used t) (at + used) (suc n) (b + boxesOf (h .k)) in
       let e : cursor Part (at + used) (n + 1) (boxesWith (getD t 0 0) b) ≡ s = rw (part-all, add-one, ← h .byte, with-boxes) in
-      let vs = valuesAt (fields base (h .k)) t 1 in
-      framed (lay inRows) (lay inRows) (wrapped (h .k) n vs) (head inRows (h .k) vs) (term base 1 inBytes (levels - 1) false s) (readTerm levels outer t at n b)
-      (λ e o. h .is ∙ around-err n vs _ s a e o) (λ x s′ o. h .is ∙ around-ok n vs _ s a x s′ o) (λ x s′ o. laid-around n t x a) (five (h .k) t)
-      n (n + 1) refl rows rows₁ rows₂ rows-is r (subst (λ (c : Cursor). Reading (lay inRows) (term base 1 inBytes (levels - 1) false c) (n + 1) rows₁ rows₂ r) e q)
+      let vs = valuesAt (fields l (h .k)) t 1 in
+      framed (lay inRows) (lay inRows) (wrapped (h .k) n vs) (head inRows (h .k) vs) (term l 1 inBytes (levels - 1) false s) (readTerm l levels outer t at n b)
+      (λ e o. h .is ∙ around-err n vs _ s a e o) (λ x s′ o. h .is ∙ around-ok n vs _ s a x s′ o) (λ x s′ o. laid-around l n t x a) (five l (h .k) t)
+      n (n + 1) refl rows rows₁ rows₂ rows-is r (subst (λ (c : Cursor). Reading (lay inRows) (term l 1 inBytes (levels - 1) false c) (n + 1) rows₁ rows₂ r) e q)
 
   pub block-returns : h .k ≡ kBlock → (rows₂ : List ℕ) (r : Got)
-      → Reading (lays inRows) (readBlock (levels - 1) (getD t 1 0) Part (at + used) (n + 1) b) (n + 1) rows₁ rows₂ r
-      → Reading (lay inRows) (readTerm levels outer t at n b) n rows rows₂ r
+      → Reading (lays inRows) (readBlock l (levels - 1) (getD t 1 0) Part (at + used) (n + 1) b) (n + 1) rows₁ rows₂ r
+      → Reading (lay inRows) (readTerm l levels outer t at n b) n rows rows₂ r
   unfolding lay fields valuesAt
   block-returns k rows₂ r q =
       let s : Cursor = cursor (drop used t) (at + used) (suc n) b in
       let z : b + boxesOf (h .k) ≡ b = rw k (block-boxes b) in
       let e : cursor Part (at + used) (n + 1) b ≡ s = rw (part-all, add-one) in
-      let i : readTerm levels outer t at n b ≡ built kBlock n (getD t 1 0 ∷ []) (term base 1 inBytes (levels - 1)) s = h .is ∙ ap (λ (c : ℕ). built (h .k) n (valuesAt (fields base (h .k)) t 1) (term base 1 inBytes (levels - 1)) (cursor (drop used t) (at + used) (suc n) c)) z ∙ ap (λ (c : Kind). built c n (valuesAt (fields base c) t 1) (term base 1 inBytes (levels - 1)) s) k in
-      framed (lays inRows) (lay inRows) (block n) (head inRows kBlock (getD t 1 0 ∷ [])) (several (term base 1 inBytes (levels - 1) false) (getD t 1 0 - 1) s) (readTerm levels outer t at n b)
+      let i : readTerm l levels outer t at n b ≡ built kBlock n (getD t 1 0 ∷ []) (term l 1 inBytes (levels - 1)) s = h .is ∙ ap (λ (c : ℕ). built (h .k) n (valuesAt (fields l (h .k)) t 1) (term l 1 inBytes (levels - 1)) (cursor (drop used t) (at + used) (suc n) c)) z ∙ ap (λ (c : Kind). built c n (valuesAt (fields l c) t 1) (term l 1 inBytes (levels - 1)) s) k in
+      framed (lays inRows) (lay inRows) (block n) (head inRows kBlock (getD t 1 0 ∷ [])) (several (term l 1 inBytes (levels - 1) false) (getD t 1 0 - 1) s) (readTerm l levels outer t at n b)
       (λ e o. i ∙ block-err n (getD t 1 0 ∷ []) _ s e o) (λ ts s′ o. i ∙ block-ok n (getD t 1 0 ∷ []) _ s ts s′ o)
-      (λ ts s′ o. ap (λ (c : ℕ). head inRows kBlock (c ∷ []) ++ lays inRows ts) (omega (arith, count-says _ _ s s′ ts o, h .several k))) (five kBlock t)
-      n (n + 1) refl rows rows₁ rows₂ (rows-is ∙ ap (λ (c : Kind). sets rows (n * 5) (head inRows c (valuesAt (fields base c) t 1))) k) r
-      (subst (λ (c : Cursor). Reading (lays inRows) (several (term base 1 inBytes (levels - 1) false) (getD t 1 0 - 1) c) (n + 1) rows₁ rows₂ r) e q)
+      (λ ts s′ o. ap (λ (c : ℕ). head inRows kBlock (c ∷ []) ++ lays inRows ts) (omega (arith, count-says _ _ s s′ ts o, h .several k))) (five l kBlock t)
+      n (n + 1) refl rows rows₁ rows₂ (rows-is ∙ ap (λ (c : Kind). sets rows (n * 5) (head inRows c (valuesAt (fields l c) t 1))) k) r
+      (subst (λ (c : Cursor). Reading (lays inRows) (several (term l 1 inBytes (levels - 1) false) (getD t 1 0 - 1) c) (n + 1) rows₁ rows₂ r) e q)
 
-  pub inner-ready : Ready t at b rows → length rows₁ ≡ 2560 → Ready Part (at + used) (boxesWith (getD t 0 0) b) rows₁
+  pub inner-ready : Ready l t at b rows → length rows₁ ≡ rowNumbers l → Ready l Part (at + used) (boxesWith (getD t 0 0) b) rows₁
   inner-ready r full =
       rw part-all (record {
+        ranges = r .ranges;
         bytes = under-drop 256 used t (r .bytes);
         room = omega (arith, r .room, h .within, length-drop used t);
         few = omega (arith, ap (λ (k : ℕ). boxesWith k b) (sym (h .byte)) ∙ with-boxes (h .k) b, h .few);
         full = full;
       })
 
-  pub block-ready : Ready t at b rows → length rows₁ ≡ 2560 → Ready Part (at + used) b rows₁
+  pub block-ready : Ready l t at b rows → length rows₁ ≡ rowNumbers l → Ready l Part (at + used) b rows₁
   block-ready r full =
       rw part-all (record {
+        ranges = r .ranges;
         bytes = under-drop 256 used t (r .bytes);
         room = omega (arith, r .room, h .within, length-drop used t);
         few = r .few;

@@ -4,7 +4,7 @@ use mathlib.Core.List.{List, _++_}
 use lib.ListN.{length, drop}
 use lib.Dec.{leb, eqb}
 use Rattle.reader.specs.Result.{Result, ok, err, Refusal, need, _>>=_}
-use Rattle.reader.specs.Limits.{Limits, maxBytes, rowNumbers}
+use Rattle.reader.specs.Limits.{Limits, inRanges, maxBytes, rowNumbers}
 use Rattle.reader.specs.Script.{Term}
 use Rattle.reader.specs.Layout.{bytesOf, rowsOf, zeros}
 use Rattle.reader.specs.Reader.{parse, decode}
@@ -21,13 +21,18 @@ told (Refused n p) = err (n, p)
 abbrev pub Answered : Type 0
 Answered = Result Refusal ℕ × List ℕ
 
+-- 74: a limit of the set is outside its range (LANGUAGE 5.3).
+abbrev pub setFits : Limits → Result Refusal (Unit {0})
+setFits l = need (inRanges l) (74, 0)
+
 -- 2: the rows have another length (LANGUAGE 5.3).
 abbrev pub rowsFit : Limits → List ℕ → Result Refusal (Unit {0})
 rowsFit l rows = need (eqb (length rows) (rowNumbers l)) (2, 0)
 
--- 1: the script is too long (LANGUAGE 5.3); then 2, since the lowest of the two goes first (5.8).
+-- 74 before every other number; 1: the script is too long (LANGUAGE 5.3); then 2, since the lowest of the two goes first (5.8).
 unfoldable pub lengthsFit : Limits → List ℕ → List ℕ → Result Refusal (Unit {0})
 lengthsFit l script rows =
+    setFits l >>= λ _.
     need (leb (length script) maxBytes) (1, 0) >>= λ _.
     rowsFit l rows
 
@@ -45,9 +50,10 @@ onFit (err e) memory done = (err e, memory)
 unfoldable pub readOf : Limits → List ℕ → List ℕ → Answered
 readOf l script rows = onFit (lengthsFit l script rows) rows (parsedInto l (parse l script))
 
--- The tree of rows that are given: 2, then 12 to 19 (LANGUAGE 5.7).
+-- The tree of rows that are given: 74, 2, then 12 to 19 (LANGUAGE 5.7).
 unfoldable pub rowsTree : Limits → List ℕ → Result Refusal Term
 rowsTree l rows =
+    setFits l >>= λ _.
     rowsFit l rows >>= λ _.
     decode l rows
 

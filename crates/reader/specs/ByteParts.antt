@@ -1,13 +1,13 @@
 -- What the parts of the byte reader's code answer, and the rows that they fill. No rule of the language is stated here.
 use Prim.Native.Nat.{ℕ, zero, suc, _+_, _*_, _-_, _/_, _%_, _≤_}
 use mathlib.Core.Path.{_≡_}
-use mathlib.Core.Bool.{Bool, false, not, _&&_}
+use mathlib.Core.Bool.{Bool, true, false, not, _&&_}
 use mathlib.Core.List.{List, [], _∷_, _++_}
 use lib.ListN.{length, getD}
 use lib.Seq.{sets}
 use lib.Dec.{leb, ltb, eqb}
 use Rattle.reader.specs.Result.{Result, ok, err, Refusal, pick}
-use Rattle.reader.specs.Limits.{base}
+use Rattle.reader.specs.Limits.{Limits, inRanges, rowNumbers}
 use Rattle.reader.specs.Script.{Term, Terms}
 use Rattle.reader.specs.Kinds.{Field, word, until}
 use Rattle.reader.specs.Layout.{inBytes, zeros}
@@ -18,16 +18,20 @@ use Rattle.reader.specs.declared.operands.Fields.{Fields}
 use Rattle.reader.specs.declared.operands.Fields.the-variants as fields
 
 -- The number of the refusal at the kind byte that begins t; 0 where there is none.
-unfoldable pub openingNumber : ℕ → Bool → List ℕ → ℕ → ℕ → ℕ
-openingNumber levels outer t terms boxes =
+unfoldable pub openingNumber : Limits → ℕ → Bool → List ℕ → ℕ → ℕ → ℕ
+openingNumber l levels outer t terms boxes =
     pick (eqb (length t) 0) 12
     (pick (eqb (getD t 0 0) 0) 13
     (pick (ltb 11 (getD t 0 0)) 13
     (pick (outer && not (eqb (getD t 0 0) 11)) 18
-    (pick (leb 512 terms) 16
+    (pick (leb (l .terms) terms) 16
     (pick (eqb levels 0) 15
-    (pick (eqb (getD t 0 0) 7 && leb 64 boxes) 17
+    (pick (eqb (getD t 0 0) 7 && leb (l .boxes) boxes) 17
     0))))))
+
+-- The outermost term's kind byte is a known kind's, and not a block's.
+unfoldable pub noBlockByte : List ℕ → Bool
+noBlockByte t = ltb 0 (length t) && (ltb 0 (getD t 0 0) && ltb (getD t 0 0) 11)
 
 -- What is wrong with the byte at j as a number from low to below high; 0 where nothing is.
 unfoldable pub fieldNumber : List ℕ → ℕ → ℕ → ℕ → ℕ
@@ -57,8 +61,8 @@ wordField = word ∷ []
 abbrev pub oneField : ℕ → ℕ → List Field
 oneField low high = until low high ∷ []
 
-abbrev pub twoPlaceFields : List Field
-twoPlaceFields = until 0 64 ∷ until 0 9 ∷ until 0 64 ∷ until 0 9 ∷ []
+abbrev pub twoPlaceFields : ℕ → List Field
+twoPlaceFields nv = until 0 nv ∷ until 0 9 ∷ until 0 nv ∷ until 0 9 ∷ []
 
 -- A term's row in place; of a refusal nothing is said.
 abbrev pub RowAfter : Fields → ℕ → List ℕ → List ℕ → List ℕ → Type 0
@@ -74,11 +78,12 @@ Filled fs kind t at n before after r = (r ≡ judgedFields fs t at 1) × RowAfte
 -- ---- terms and blocks in bytes
 
 -- What the term reader asks: the bytes from offset at on, the counts so far, and the lent rows.
-pub record Ready (tail : List ℕ) (at boxes : ℕ) (rows : List ℕ) : Type 0 where
+pub record Ready (l : Limits) (tail : List ℕ) (at boxes : ℕ) (rows : List ℕ) : Type 0 where
+  pub ranges : inRanges l ≡ true
   pub bytes : Under 256 tail
-  pub room : at + length tail ≤ 4096
-  pub few : boxes ≤ 64
-  pub full : length rows ≡ 2560
+  pub room : at + length tail ≤ 32768
+  pub few : boxes ≤ l .boxes
+  pub full : length rows ≡ rowNumbers l
 
 -- The offset past what was read, with the terms and boxes met so far; or the refusal.
 pub data Got : Type 0 where
@@ -87,7 +92,7 @@ pub data Got : Type 0 where
 
 -- What a reader's number stands for.
 unfoldable pub found : ℕ → Got
-found r = pick (ltb r 1073741824) (Fine (r % 8192) (r / 8192 % 1024) (r / 8192 / 1024)) (Refused ((r - 1073741824) / 65536 % 4294967296) (r % 65536))
+found r = pick (ltb r 1099511627776) (Fine (r % 65536) (r / 65536 % 8192) (r / 65536 / 8192)) (Refused ((r - 1099511627776) / 65536 % 4294967296) (r % 65536))
 
 unfoldable pub gotOf : {A : Type 0} → Result Refusal (A × Cursor) → Got
 gotOf (ok o) = Fine (o .1 .at) (o .1 .terms) (o .1 .boxes)
@@ -102,11 +107,11 @@ RowsAfter laid (err e) n before after = Unit {0}
 abbrev pub Reading : {A : Type 0} → (A → List ℕ) → Result Refusal (A × Cursor) → ℕ → List ℕ → List ℕ → Got → Type 0
 Reading laid o n before after r = (r ≡ gotOf o) × RowsAfter laid o n before after
 
-abbrev pub readTerm : ℕ → Bool → List ℕ → ℕ → ℕ → ℕ → Result Refusal (Term × Cursor)
-readTerm levels outer tail at terms boxes = term base 1 inBytes levels outer (cursor tail at terms boxes)
+abbrev pub readTerm : Limits → ℕ → Bool → List ℕ → ℕ → ℕ → ℕ → Result Refusal (Term × Cursor)
+readTerm l levels outer tail at terms boxes = term l 1 inBytes levels outer (cursor tail at terms boxes)
 
-abbrev pub readBlock : ℕ → ℕ → List ℕ → ℕ → ℕ → ℕ → Result Refusal (Terms × Cursor)
-readBlock levels count tail at terms boxes = several (term base 1 inBytes levels false) (count - 1) (cursor tail at terms boxes)
+abbrev pub readBlock : Limits → ℕ → ℕ → List ℕ → ℕ → ℕ → ℕ → Result Refusal (Terms × Cursor)
+readBlock l levels count tail at terms boxes = several (term l 1 inBytes levels false) (count - 1) (cursor tail at terms boxes)
 
 -- ---- a whole script
 
@@ -123,5 +128,5 @@ leadJudged t at =
     (pick (ltb (length t) (at + 5)) (fields.Refused 12 (length t))
     (pick (eqb (getD t (at + 3) 0 * 256 + getD t (at + 4) 0) 1) (fields.Fine (at + 5)) (fields.Refused 11 (at + 3))))))
 
-abbrev pub readScript : List ℕ → Result Refusal (Term × Cursor)
-readScript bytes = (leading >> script base 1 inBytes) (start bytes)
+abbrev pub readScript : Limits → List ℕ → Result Refusal (Term × Cursor)
+readScript l bytes = (leading >> script l 1 inBytes) (start bytes)

@@ -8,7 +8,7 @@ use lib.ListN.{length, drop}
 use lib.Dec.{ltb}
 use denote.Ref.{RefT}
 use Rattle.reader.specs.Result.{Result, Refusal, pick}
-use Rattle.reader.specs.Limits.{base}
+use Rattle.reader.specs.Limits.{Limits, inRanges, rowNumbers}
 use Rattle.reader.specs.Script.{Term}
 use Rattle.reader.specs.Layout.{lay, inRows}
 use Rattle.reader.specs.Reader.{Cursor}
@@ -31,7 +31,11 @@ advanced reader got = record { script = reader .script; at = reached (reader .at
 
 -- An offset in a script that is no longer than one may be.
 abbrev pub Inside : List ℕ → ℕ → Type 0
-Inside bytes at = (at ≤ length bytes) × (length bytes ≤ 4096)
+Inside bytes at = (at ≤ length bytes) × (length bytes ≤ 32768)
+
+-- Rows of a set in its ranges.
+abbrev pub RowsFor : Limits → List ℕ → Type 0
+RowsFor l rows = (inRanges l ≡ true) × (length rows ≡ rowNumbers l)
 
 -- The answer for mark and version: no term is met in them.
 unfoldable pub leadGot : Fields → Got
@@ -46,13 +50,13 @@ abbrev pub remaining : List ℕ → ℕ → List ℕ
 remaining bytes at = drop at bytes
 
 -- The outermost term from an offset on.
-abbrev pub readOutermost : List ℕ → ℕ → Result Refusal (Term × Cursor)
-readOutermost bytes at = readTerm (base .levels) true (remaining bytes at) at 0 0
+abbrev pub readOutermost : Limits → List ℕ → ℕ → Result Refusal (Term × Cursor)
+readOutermost l bytes at = readTerm l (l .levels) true (remaining bytes at) at 0 0
 
 -- The answer after mark and version, and the rows that it fills: their refusal, or what the outermost term gives.
-unfoldable pub OutermostRead : Got → List ℕ → ℕ → List ℕ → List ℕ → Got → Type 0
-OutermostRead (Refused n p) bytes at before after r = r ≡ Refused n p
-OutermostRead (Fine next terms boxes) bytes at before after r = Reading (lay inRows) (readOutermost bytes at) 0 before after r
+unfoldable pub OutermostRead : Limits → Got → List ℕ → ℕ → List ℕ → List ℕ → Got → Type 0
+OutermostRead l (Refused n p) bytes at before after r = r ≡ Refused n p
+OutermostRead l (Fine next terms boxes) bytes at before after r = Reading (lay inRows) (readOutermost l bytes at) 0 before after r
 
 -- The answer for a whole script, from the one for its outermost term: a byte that is left is 19.
 unfoldable pub endJudged : Got → List ℕ → ℕ → Got

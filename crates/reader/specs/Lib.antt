@@ -1,6 +1,7 @@
 -- The script form (LANGUAGE 2, 5): trees, their bytes and rows, reading, and what the public functions answer.
 pub mod Result
 pub mod Limits
+pub mod Larger
 pub mod Script
 pub mod Kinds
 pub mod Layout

@@ -4,7 +4,7 @@ use mathlib.Core.Option.{Option, none, some}
 use mathlib.Core.List.{List, [], _∷_}
 use lib.Dec.{eqb}
 use Rattle.reader.specs.Result.{pick}
-use Rattle.reader.specs.Limits.{base}
+use Rattle.reader.specs.Limits.{Limits}
 use Rattle.reader.specs.Kinds.{Kind, kindOf, Field, until, fields}
 use Rattle.reader.specs.Reader.{Cursor}
 
@@ -14,16 +14,16 @@ cursor tail at terms boxes = record { rest = tail; at = at; terms = terms; boxes
 abbrev pub IsKind : ℕ → Type 0
 IsKind b = (0 < b) × (b ≤ 11)
 
-unfoldable pub fieldsIn : Option Kind → List Field
-fieldsIn none = []
-fieldsIn (some k) = fields base k
+unfoldable pub fieldsIn : Limits → Option Kind → List Field
+fieldsIn l none = []
+fieldsIn l (some k) = fields l k
 
-abbrev pub placeFields : List Field
-placeFields = until 0 64 ∷ until 0 9 ∷ []
+abbrev pub placeFields : ℕ → List Field
+placeFields nv = until 0 nv ∷ until 0 9 ∷ []
 
 -- The operands of a kind byte.
-unfoldable pub fieldsOf : ℕ → List Field
-fieldsOf b = fieldsIn (kindOf 1 b)
+unfoldable pub fieldsOf : Limits → ℕ → List Field
+fieldsOf l b = fieldsIn l (kindOf 1 b)
 
 -- The boxes met once the kind byte is counted.
 unfoldable pub boxesWith : ℕ → ℕ → ℕ

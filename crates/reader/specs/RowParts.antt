@@ -7,7 +7,7 @@ use lib.ListN.{length, getD, drop}
 use lib.Dec.{leb, ltb, eqb}
 use lib.Bits.{bitOr}
 use Rattle.reader.specs.Result.{Result, ok, err, Refusal, pick}
-use Rattle.reader.specs.Limits.{base}
+use Rattle.reader.specs.Limits.{Limits, inRanges, rowNumbers}
 use Rattle.reader.specs.Script.{Term, Terms}
 use Rattle.reader.specs.Kinds.{Field, word, until}
 use Rattle.reader.specs.Layout.{inRows}
@@ -38,33 +38,34 @@ unfoldable pub noBlock : List ℕ → Bool
 noBlock rows = ltb 0 (fieldAt rows 0 0) && ltb (fieldAt rows 0 0) 11
 
 -- The number of the refusal at row i; 0 where there is none.
-unfoldable pub rowNumber : ℕ → Bool → List ℕ → ℕ → ℕ → ℕ
-rowNumber levels outer rows i boxes =
+unfoldable pub rowNumber : Limits → ℕ → Bool → List ℕ → ℕ → ℕ → ℕ
+rowNumber l levels outer rows i boxes =
     let kind = fieldAt rows i 0 in
-    pick (leb 512 i) 12
+    pick (leb (l .terms) i) 12
     (pick (eqb kind 0) 12
     (pick (ltb 11 kind) 13
     (pick (outer && not (eqb kind 11)) 18
     (pick (eqb levels 0) 15
-    (pick (eqb kind 7 && leb 64 boxes) 17
-    (pick (fieldsFit (fieldsOf kind) (fieldsAt rows i)) 0
+    (pick (eqb kind 7 && leb (l .boxes) boxes) 17
+    (pick (fieldsFit (fieldsOf l kind) (fieldsAt rows i)) 0
     14))))))
 
 -- What the row judge asks of the rows, of the row to judge, and of the boxes met so far.
-pub record RowsReady (rows : List ℕ) (i boxes : ℕ) : Type 0 where
-  pub full : length rows ≡ 2560
-  pub near : i < 1024
-  pub few : boxes ≤ 64
+pub record RowsReady (l : Limits) (rows : List ℕ) (i boxes : ℕ) : Type 0 where
+  pub ranges : inRanges l ≡ true
+  pub full : length rows ≡ rowNumbers l
+  pub near : i < 8192
+  pub few : boxes ≤ l .boxes
 
 -- The reader at row i.
 abbrev pub rowCursor : List ℕ → ℕ → ℕ → Cursor
 rowCursor rows i boxes = cursor (drop (5 * i) rows) (5 * i) i boxes
 
-abbrev pub termRows : ℕ → Bool → List ℕ → ℕ → ℕ → Result Refusal (Term × Cursor)
-termRows levels outer rows i boxes = term base 1 inRows levels outer (rowCursor rows i boxes)
+abbrev pub termRows : Limits → ℕ → Bool → List ℕ → ℕ → ℕ → Result Refusal (Term × Cursor)
+termRows l levels outer rows i boxes = term l 1 inRows levels outer (rowCursor rows i boxes)
 
-abbrev pub blockRows : ℕ → ℕ → List ℕ → ℕ → ℕ → Result Refusal (Terms × Cursor)
-blockRows levels count rows i boxes = several (term base 1 inRows levels false) (count - 1) (rowCursor rows i boxes)
+abbrev pub blockRows : Limits → ℕ → ℕ → List ℕ → ℕ → ℕ → Result Refusal (Terms × Cursor)
+blockRows l levels count rows i boxes = several (term l 1 inRows levels false) (count - 1) (rowCursor rows i boxes)
 
 -- The row past what was judged, with the boxes met so far; or the refusal and its row.
 pub data Span : Type 0 where
@@ -73,7 +74,7 @@ pub data Span : Type 0 where
 
 -- What the row judge's number stands for.
 unfoldable pub spanned : ℕ → Span
-spanned r = pick (ltb r 1073741824) (Fine (r % 1024) (r / 1024)) (Refused ((r - 1073741824) / 65536 % 4294967296) (r % 65536))
+spanned r = pick (ltb r 1099511627776) (Fine (r % 8192) (r / 8192)) (Refused ((r - 1099511627776) / 65536 % 4294967296) (r % 65536))
 
 unfoldable pub spanOf : {A : Type 0} → Result Refusal (A × Cursor) → Span
 spanOf (ok o) = Fine (o .1 .terms) (o .1 .boxes)

@@ -1,6 +1,5 @@
 // The script form (LANGUAGE 2): reading bytes into term rows, judging term rows, and writing them as bytes again.
 ghost use mathlib.Core.Path.{_≡_};
-ghost use Rattle.reader.specs.Limits.{base};
 ghost use Rattle.reader.specs.Answers.{told, readOf, judgedOf, writtenOf};
 
 pub mod limits; // limits.rt: limits and refusal numbers
@@ -15,6 +14,9 @@ mod script; // script.rt: a whole script in bytes
 mod rows; // rows.rt: terms and blocks in term rows, and what stands after them
 mod output; // output.rt: the bytes of a script, from its term rows
 
+use crate::limits::Limits;
+use crate::limits::in_ranges;
+use crate::limits::row_numbers;
 use crate::rows::first_used;
 use crate::rows::judge_block;
 use crate::rows::no_block;
@@ -27,18 +29,21 @@ pub enum Outcome {
     Refused(u32, usize),
 }
 
-// Read (LANGUAGE 6.2): a script into term rows, and the number of terms. Every refusal but the caller's 1 and 2 leaves
-// all rows 0.
-pub fn read(script: &[u8], rows: &mut [u32]) -> Outcome
-    ensures { λ r. ⌜ (told r, now (rows .exit)) ≡ readOf base (now (script .entry)) (now (rows .entry)) ⌝ }
+// Read (LANGUAGE 6.2): a script into term rows, and the number of terms. Every refusal but the caller's 74, 1 and 2
+// leaves all rows 0.
+pub fn read(set: Limits, script: &[u8], rows: &mut [u32]) -> Outcome
+    ensures { λ r. ⌜ (told r, now (rows .exit)) ≡ readOf set (now (script .entry)) (now (rows .entry)) ⌝ }
 {
+    if !in_ranges(set) {
+        return Outcome::Refused(limits::SET_OUTSIDE, 0);
+    }
     if limits::BYTES < script.len() {
         return Outcome::Refused(limits::SCRIPT_TOO_LONG, 0);
     }
-    if rows.len() != limits::ROW_NUMBERS {
+    if rows.len() != row_numbers(set) {
         return Outcome::Refused(limits::ROWS_LENGTH, 0);
     }
-    let got = read_script(script, rows);
+    let got = read_script(limits::packed(set), script, rows);
     if packed::REFUSED <= got {
         clear_from(rows, 0);
         return Outcome::Refused(packed::number_of(got), got % packed::PLACES);
@@ -48,18 +53,21 @@ pub fn read(script: &[u8], rows: &mut [u32]) -> Outcome
     Outcome::Count(terms)
 }
 
-// Judge rows (LANGUAGE 6.3) that the caller made: the number of terms, or 2, 12 to 19.
-pub fn judge_rows(rows: &[u32]) -> Outcome
-    ensures { λ r. ⌜ told r ≡ judgedOf base (now (rows .entry)) ⌝ }
+// Judge rows (LANGUAGE 6.3) that the caller made: the number of terms, or 74, 2, 12 to 19.
+pub fn judge_rows(set: Limits, rows: &[u32]) -> Outcome
+    ensures { λ r. ⌜ told r ≡ judgedOf set (now (rows .entry)) ⌝ }
 {
-    if rows.len() != limits::ROW_NUMBERS {
+    if !in_ranges(set) {
+        return Outcome::Refused(limits::SET_OUTSIDE, 0);
+    }
+    if rows.len() != row_numbers(set) {
         return Outcome::Refused(limits::ROWS_LENGTH, 0);
     }
     if no_block(rows) {
         return Outcome::Refused(limits::NO_BLOCK, 0);
     }
     // The outermost term as a block of one: the judge of a term is then called in one place, and compiled into it.
-    let span = judge_block(rows, 0, 1, limits::LEVELS, 0);
+    let span = judge_block(limits::packed(set), rows, 0, 1, set.levels as usize, 0);
     if packed::REFUSED <= span {
         return Outcome::Refused(packed::number_of(span), span % packed::PLACES);
     }
@@ -73,10 +81,10 @@ pub fn judge_rows(rows: &[u32]) -> Outcome
 
 // Write (LANGUAGE 6.4): the script of judged rows at the front of the output, and its length; or the refusal, with the
 // output unchanged. 5 comes after the rows (5.8).
-pub fn write(rows: &[u32], output: &mut [u8]) -> Outcome
-    ensures { λ r. ⌜ (told r, now (output .exit)) ≡ writtenOf base (now (rows .entry)) (now (output .entry)) ⌝ }
+pub fn write(set: Limits, rows: &[u32], output: &mut [u8]) -> Outcome
+    ensures { λ r. ⌜ (told r, now (output .exit)) ≡ writtenOf set (now (rows .entry)) (now (output .entry)) ⌝ }
 {
-    let judged = judge_rows(rows);
+    let judged = judge_rows(set, rows);
     let Outcome::Count(terms) = judged else {
         return judged;
     };

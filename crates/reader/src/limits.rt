@@ -1,15 +1,37 @@
 // The limits of scripts (LANGUAGE 2.4, 2.8), the lengths of lent memory (2.9, 4.1), and the refusal numbers of the
 // caller (5.3) and the carrier (5.4).
+ghost use mathlib.Core.Path.{_≡_};
+ghost use mathlib.Core.Bool.{true};
+ghost use Rattle.reader.specs.Limits.{inRanges, rowNumbers, storeNumbers, unpacked};
 
-pub const BYTES: usize = 4096;
+// The set that the caller hands in: the most terms, variables, boxes and levels of a script (LANGUAGE 2.8).
+#[repr(C)]
+pub struct Limits {
+    pub terms: u32,
+    pub variables: u32,
+    pub boxes: u32,
+    pub levels: u32,
+}
 
-pub const TERMS: usize = 512;
+// The language's own set (LANGUAGE 2.8).
+pub const BASE: Limits = Limits {
+    terms: 512,
+    variables: 64,
+    boxes: 64,
+    levels: 16,
+};
 
-pub const BOXES: usize = 64;
+// The most that each limit may be (LANGUAGE 2.8).
+pub const MOST_TERMS: u32 = 4096;
 
-pub const LEVELS: usize = 16;
+pub const MOST_VARIABLES: u32 = 128;
 
-pub const VARIABLES: u32 = 64;
+pub const MOST_BOXES: u32 = 128;
+
+pub const MOST_LEVELS: u32 = 32;
+
+// The most bytes of a script, whatever the set (LANGUAGE 2.8).
+pub const BYTES: usize = 32768;
 
 pub const READINGS: u32 = 8;
 // One more than the follows of a place can be.
@@ -17,10 +39,19 @@ pub const FOLLOWS: u32 = 9;
 // One more than the terms of a block can be.
 pub const BLOCK: u32 = 256;
 
-// Five numbers for each term; three for each variable and each cell.
-pub const ROW_NUMBERS: usize = 2560;
+// A set in one number (`packed`): the variables are its remainder by VARIABLES_MODULUS; boxes, levels and terms are its
+// quotients by the units, those of boxes and levels taken by their moduli.
+pub const VARIABLES_MODULUS: usize = 256;
 
-pub const STORE_NUMBERS: usize = 384;
+pub const BOXES_UNIT: usize = 256;
+
+pub const BOXES_MODULUS: usize = 256;
+
+pub const LEVELS_UNIT: usize = 65536;
+
+pub const LEVELS_MODULUS: usize = 64;
+
+pub const TERMS_UNIT: usize = 4194304;
 
 // By the caller (LANGUAGE 5.3).
 pub const SCRIPT_TOO_LONG: u32 = 1;
@@ -32,6 +63,8 @@ pub const STORE_LENGTH: u32 = 3;
 pub const READINGS_LENGTH: u32 = 4;
 
 pub const OUTPUT_SHORT: u32 = 5;
+
+pub const SET_OUTSIDE: u32 = 74;
 
 // By the carrier of the bytes or rows (LANGUAGE 5.4).
 pub const MARK: u32 = 10;
@@ -53,3 +86,54 @@ pub const TOO_MANY_BOXES: u32 = 17;
 pub const NO_BLOCK: u32 = 18;
 
 pub const LEFT_OVER: u32 = 19;
+
+// Each limit of the set is in its range (LANGUAGE 2.8); otherwise 74.
+pub fn in_ranges(set: Limits) -> bool
+    ensures { λ r. ⌜ r ≡ inRanges set ⌝ }
+{
+    if set.terms < 1 {
+        return false;
+    }
+    if MOST_TERMS < set.terms {
+        return false;
+    }
+    if set.variables < 1 {
+        return false;
+    }
+    if MOST_VARIABLES < set.variables {
+        return false;
+    }
+    if MOST_BOXES < set.boxes {
+        return false;
+    }
+    if set.levels < 1 {
+        return false;
+    }
+    set.levels <= MOST_LEVELS
+}
+
+// The length of the term rows (LANGUAGE 2.9): five numbers for each term. No set makes the product wrap.
+pub fn row_numbers(set: Limits) -> usize
+    ensures { λ r. ⌜ r ≡ rowNumbers set ⌝ }
+{
+    5 * set.terms as usize
+}
+
+// The length of the store (LANGUAGE 4.1): three numbers for each variable and each cell.
+pub fn store_numbers(set: Limits) -> usize
+    ensures { λ r. ⌜ r ≡ storeNumbers set ⌝ }
+{
+    3 * (set.variables as usize + set.boxes as usize)
+}
+
+// A set in its ranges (LANGUAGE 2.8) in one number, as functions that call themselves hand it down: a number goes in a
+// register, where a struct goes through memory at every call.
+pub fn packed(set: Limits) -> usize
+    requires { ⌜ inRanges set ≡ true ⌝ }
+    ensures { λ r. ⌜ unpacked r ≡ set ⌝ }
+{
+    let terms = set.terms as usize * TERMS_UNIT;
+    let levels = set.levels as usize * LEVELS_UNIT;
+    let boxes = set.boxes as usize * BOXES_UNIT;
+    terms + levels + boxes + set.variables as usize
+}

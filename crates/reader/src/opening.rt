@@ -1,16 +1,31 @@
 // What stands at a kind byte (LANGUAGE 5.10).
 ghost use mathlib.Core.Path.{_≡_};
+ghost use mathlib.Core.Bool.{false};
 ghost use Prim.Native.Nat.{_≤_};
+ghost use Rattle.reader.specs.Limits.{unpacked};
 ghost use Rattle.reader.specs.Parts.{boxesWith};
-ghost use Rattle.reader.specs.ByteParts.{openingNumber};
+ghost use Rattle.reader.specs.ByteParts.{openingNumber, noBlockByte};
 use crate::kinds;
 use crate::limits;
 
-// The number of the refusal at a kind byte, in the order 12, 13, 18, 16, 15, 17 (LANGUAGE 5.10); 0 where there is none.
-// `outer` says that the term must be a block.
-pub fn opening_number(tail: &[u8], levels: usize, outer: bool, terms: usize, boxes: usize) -> u32
-    ensures { λ r. ⌜ r ≡ openingNumber levels outer (now (tail .entry)) terms boxes ⌝ }
+// 18 (LANGUAGE 5.10): the outermost term's kind byte is a known kind's, and not a block's. No other term can meet that,
+// and nothing but 12 and 13 comes before it, so it is asked once, before the terms are read one after the other.
+pub fn no_block_byte(tail: &[u8]) -> bool
+    ensures { λ r. ⌜ r ≡ noBlockByte (now (tail .entry)) ⌝ }
 {
+    if tail.len() == 0 {
+        return false;
+    }
+    let kind = tail[0] as u32;
+    0 < kind && kind < kinds::BLOCK
+}
+
+// The number of the refusal at a kind byte, in the order 12, 13, 16, 15, 17 (LANGUAGE 5.10); 0 where there is none.
+pub fn opening_number(sizes: usize, tail: &[u8], levels: usize, terms: usize, boxes: usize) -> u32
+    ensures { λ r. ⌜ r ≡ openingNumber (unpacked sizes) levels false (now (tail .entry)) terms boxes ⌝ }
+{
+    let most_terms = sizes / limits::TERMS_UNIT;
+    let most_boxes = sizes / limits::BOXES_UNIT % limits::BOXES_MODULUS;
     if tail.len() == 0 {
         return limits::ENDED;
     }
@@ -21,28 +36,23 @@ pub fn opening_number(tail: &[u8], levels: usize, outer: bool, terms: usize, box
     if kinds::BLOCK < kind {
         return limits::UNKNOWN_KIND;
     }
-    if outer {
-        if kind != kinds::BLOCK {
-            return limits::NO_BLOCK;
-        }
-    }
-    if limits::TERMS <= terms {
+    if most_terms <= terms {
         return limits::TOO_MANY_TERMS;
     }
     if levels == 0 {
         return limits::TOO_DEEP;
     }
     if kind == kinds::BOX {
-        if limits::BOXES <= boxes {
+        if most_boxes <= boxes {
             return limits::TOO_MANY_BOXES;
         }
     }
     0
 }
 
-// The box terms so far, with a term of this kind (at most 64, LANGUAGE 2.8).
+// The box terms met, with a term of this kind. Those before it are at most 128, for every set (LANGUAGE 2.8).
 pub fn boxes_with(kind: u32, boxes: usize) -> usize
-    requires { ⌜ boxes ≤ 64 ⌝ }
+    requires { ⌜ boxes ≤ 128 ⌝ }
     ensures { λ r. ⌜ r ≡ boxesWith kind boxes ⌝ }
 {
     if kind == kinds::BOX { boxes + 1 } else { boxes }

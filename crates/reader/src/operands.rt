@@ -1,11 +1,11 @@
 // The operands after a kind byte, judged byte by byte (LANGUAGE 5.11), and the row that they fill (2.9).
 ghost use mathlib.Core.Path.{_≡_};
 ghost use mathlib.Core.List.{_∷_, []};
-ghost use Prim.Native.Nat.{_+_, _*_, _<_, _≤_};
+ghost use Prim.Native.Nat.{_+_, _*_, _≤_};
 ghost use lib.ListN.{length};
 ghost use lib.Seq.{sets};
-ghost use Rattle.reader.specs.Parts.{fieldsOf, IsKind};
-ghost use Rattle.reader.specs.Parts.{placeFields};
+ghost use Rattle.reader.specs.Limits.{unpacked};
+ghost use Rattle.reader.specs.Parts.{fieldsOf, IsKind, placeFields};
 ghost use Rattle.reader.specs.ByteParts.{fieldNumber, judgedFields, wordField, oneField, twoPlaceFields, Filled};
 use crate::fields::wide;
 use crate::fields::word_at;
@@ -53,11 +53,11 @@ pub fn field_number(tail: &[u8], j: usize, low: u32, high: u32) -> u32
 }
 
 // A place (LANGUAGE 2.5): the bytes at j and j + 1.
-pub fn judge_place(tail: &[u8], at: usize, j: usize) -> Fields
-    requires { ⌜ (at + length (now tail) ≤ 4096) × (j ≤ 3) ⌝ }
-    ensures { λ r. ⌜ r ≡ judgedFields placeFields (now (tail .entry)) at j ⌝ }
+pub fn judge_place(variables: u32, tail: &[u8], at: usize, j: usize) -> Fields
+    requires { ⌜ (at + length (now tail) ≤ 32768) × (j ≤ 3) ⌝ }
+    ensures { λ r. ⌜ r ≡ judgedFields (placeFields variables) (now (tail .entry)) at j ⌝ }
 {
-    let root = field_number(tail, j, 0, limits::VARIABLES);
+    let root = field_number(tail, j, 0, variables);
     if root != 0 {
         return Fields::Refused(root, at + j);
     }
@@ -71,7 +71,7 @@ pub fn judge_place(tail: &[u8], at: usize, j: usize) -> Fields
 
 // The operand of a number (LANGUAGE 2.3): four bytes after the kind byte, any (2.4).
 pub fn read_word(tail: &[u8], at: usize, n: usize, rows: &mut [u32]) -> Fields
-    requires { ⌜ (at + length (now tail) ≤ 4096) × (n * 5 + 5 ≤ length (now rows)) ⌝ }
+    requires { ⌜ (at + length (now tail) ≤ 32768) × (n * 5 + 5 ≤ length (now rows)) ⌝ }
     ensures { λ r. ⌜ Filled wordField 1 (now (tail .entry)) at n (now (rows .entry)) (now (rows .exit)) r ⌝ }
 {
     if tail.len() < 5 {
@@ -92,7 +92,7 @@ pub fn read_one(
     n: usize,
     rows: &mut [u32],
 ) -> Fields
-    requires { ⌜ (at + length (now tail) ≤ 4096) × (n * 5 + 5 ≤ length (now rows)) ⌝ }
+    requires { ⌜ (at + length (now tail) ≤ 32768) × (n * 5 + 5 ≤ length (now rows)) ⌝ }
     ensures { λ r. ⌜ Filled (oneField low high) kind (now (tail .entry)) at n (now (rows .entry)) (now (rows .exit)) r ⌝ }
 {
     let number = field_number(tail, 1, low, high);
@@ -104,11 +104,18 @@ pub fn read_one(
 }
 
 // The operands of a copy, a move, a borrow and an assign (LANGUAGE 2.3): one place.
-pub fn read_place(tail: &[u8], at: usize, kind: u32, n: usize, rows: &mut [u32]) -> Fields
-    requires { ⌜ (at + length (now tail) ≤ 4096) × (n * 5 + 5 ≤ length (now rows)) ⌝ }
-    ensures { λ r. ⌜ Filled placeFields kind (now (tail .entry)) at n (now (rows .entry)) (now (rows .exit)) r ⌝ }
+pub fn read_place(
+    variables: u32,
+    tail: &[u8],
+    at: usize,
+    kind: u32,
+    n: usize,
+    rows: &mut [u32],
+) -> Fields
+    requires { ⌜ (at + length (now tail) ≤ 32768) × (n * 5 + 5 ≤ length (now rows)) ⌝ }
+    ensures { λ r. ⌜ Filled (placeFields variables) kind (now (tail .entry)) at n (now (rows .entry)) (now (rows .exit)) r ⌝ }
 {
-    let place = judge_place(tail, at, 1);
+    let place = judge_place(variables, tail, at, 1);
     let Fields::Fine(used) = place else {
         return place;
     };
@@ -117,15 +124,15 @@ pub fn read_place(tail: &[u8], at: usize, kind: u32, n: usize, rows: &mut [u32])
 }
 
 // The operands of a below (LANGUAGE 2.3): two places.
-pub fn read_two_places(tail: &[u8], at: usize, n: usize, rows: &mut [u32]) -> Fields
-    requires { ⌜ (at + length (now tail) ≤ 4096) × (n * 5 + 5 ≤ length (now rows)) ⌝ }
-    ensures { λ r. ⌜ Filled twoPlaceFields 10 (now (tail .entry)) at n (now (rows .entry)) (now (rows .exit)) r ⌝ }
+pub fn read_two_places(variables: u32, tail: &[u8], at: usize, n: usize, rows: &mut [u32]) -> Fields
+    requires { ⌜ (at + length (now tail) ≤ 32768) × (n * 5 + 5 ≤ length (now rows)) ⌝ }
+    ensures { λ r. ⌜ Filled (twoPlaceFields variables) 10 (now (tail .entry)) at n (now (rows .entry)) (now (rows .exit)) r ⌝ }
 {
-    let first = judge_place(tail, at, 1);
+    let first = judge_place(variables, tail, at, 1);
     let Fields::Fine(used) = first else {
         return first;
     };
-    let second = judge_place(tail, at, 3);
+    let second = judge_place(variables, tail, at, 3);
     let Fields::Fine(end) = second else {
         return second;
     };
@@ -142,10 +149,18 @@ pub fn read_two_places(tail: &[u8], at: usize, n: usize, rows: &mut [u32]) -> Fi
 }
 
 // The operands of a known kind (LANGUAGE 2.3), and its row (2.9).
-pub fn read_operands(tail: &[u8], at: usize, kind: u32, n: usize, rows: &mut [u32]) -> Fields
-    requires { ⌜ (at + length (now tail) ≤ 4096) × (n * 5 + 5 ≤ length (now rows)) × IsKind kind ⌝ }
-    ensures { λ r. ⌜ Filled (fieldsOf kind) kind (now (tail .entry)) at n (now (rows .entry)) (now (rows .exit)) r ⌝ }
+pub fn read_operands(
+    sizes: usize,
+    tail: &[u8],
+    at: usize,
+    kind: u32,
+    n: usize,
+    rows: &mut [u32],
+) -> Fields
+    requires { ⌜ (at + length (now tail) ≤ 32768) × (n * 5 + 5 ≤ length (now rows)) × IsKind kind ⌝ }
+    ensures { λ r. ⌜ Filled (fieldsOf (unpacked sizes) kind) kind (now (tail .entry)) at n (now (rows .entry)) (now (rows .exit)) r ⌝ }
 {
+    let variables = (sizes % limits::VARIABLES_MODULUS) as u32;
     match kind {
         kinds::NUMBER => read_word(tail, at, n, rows),
         kinds::READING => read_one(tail, at, kind, 0, limits::READINGS, n, rows),
@@ -153,9 +168,9 @@ pub fn read_operands(tail: &[u8], at: usize, kind: u32, n: usize, rows: &mut [u3
             put_row(rows, n, kind, 0, 0, 0, 0);
             Fields::Fine(1)
         }
-        kinds::LET => read_one(tail, at, kind, 0, limits::VARIABLES, n, rows),
-        kinds::BELOW => read_two_places(tail, at, n, rows),
+        kinds::LET => read_one(tail, at, kind, 0, variables, n, rows),
+        kinds::BELOW => read_two_places(variables, tail, at, n, rows),
         kinds::BLOCK => read_one(tail, at, kind, 1, limits::BLOCK, n, rows),
-        _ => read_place(tail, at, kind, n, rows),
+        _ => read_place(variables, tail, at, kind, n, rows),
     }
 }

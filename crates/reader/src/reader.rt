@@ -1,18 +1,20 @@
 // A reader of a script in its named form: the lent bytes and the next offset. No function over a struct that holds a
-// reference is covered by the borrow checker, so they are few and thin: each leaves its work to one on slice and number,
-// and has no branch. An answer is one number, as the term reader's is; where the answer so far is a refusal, it is
+// reference is covered by the borrow checker, so they are few and thin: each leaves its work to one on slice and
+// number, and has no branch. An answer is one number, as the term reader's is; where the answer so far is a refusal, it is
 // answered again.
 ghost use mathlib.Core.Path.{_≡_};
 ghost use Prim.Native.Nat.{_≤_};
 ghost use lib.ListN.{length};
+ghost use Rattle.reader.specs.Limits.{unpacked};
 ghost use Rattle.reader.specs.Within.{Under};
 ghost use Rattle.reader.specs.ByteParts.{found, markNumber, leadJudged};
-ghost use Rattle.reader.specs.Lent.{begun, reached, advanced, Inside, LeadRead, OutermostRead, endJudged};
+ghost use Rattle.reader.specs.Lent.{begun, reached, advanced, Inside, RowsFor, LeadRead, OutermostRead, endJudged};
 use crate::fields::wide;
 use crate::limits;
+use crate::opening::no_block_byte;
 use crate::operands::Fields;
 use crate::packed;
-use crate::terms::read_term;
+use crate::terms::read_block;
 
 // The lent bytes of a script, and the next offset.
 pub struct Reader<'a> {
@@ -84,20 +86,25 @@ fn offset_after(at: usize, answer: usize) -> usize
     }
 }
 
-// The outermost term (LANGUAGE 2.1), read from the part of the script that begins at its kind byte (2.2).
-fn outermost_answer(script: &[u8], at: usize, lead: usize, rows: &mut [u32]) -> usize
-    requires { ⌜ Inside (now script) at × (length (now rows) ≡ 2560) ⌝ }
-    ensures { λ r. ⌜ OutermostRead (found lead) (now (script .entry)) at (now (rows .entry)) (now (rows .exit)) (found r) ⌝ }
+// The outermost term (LANGUAGE 2.1), read from the part of the script that begins at its kind byte (2.2), as a block of
+// one term is: with one caller only, the term reader becomes part of the block reader.
+fn outermost_answer(sizes: usize, script: &[u8], at: usize, lead: usize, rows: &mut [u32]) -> usize
+    requires { ⌜ Inside (now script) at × RowsFor (unpacked sizes) (now rows) ⌝ }
+    ensures { λ r. ⌜ OutermostRead (unpacked sizes) (found lead) (now (script .entry)) at (now (rows .entry)) (now (rows .exit)) (found r) ⌝ }
 {
     if packed::REFUSED <= lead {
         return lead;
     }
-    read_term(&script[at..], at, limits::LEVELS, true, 0, 0, rows)
+    if no_block_byte(&script[at..]) {
+        return packed::refused(limits::NO_BLOCK, at);
+    }
+    let levels = sizes / limits::LEVELS_UNIT % limits::LEVELS_MODULUS;
+    read_block(sizes, &script[at..], at, 1, levels, 0, 0, rows)
 }
 
 // What is left after the outermost term (LANGUAGE 5.9): 19 at the first byte left.
 fn end_answer(script: &[u8], at: usize, got: usize) -> usize
-    requires { ⌜ length (now script) ≤ 4096 ⌝ }
+    requires { ⌜ length (now script) ≤ 32768 ⌝ }
     ensures { λ r. ⌜ found r ≡ endJudged (found got) (now (script .entry)) at ⌝ }
 {
     if packed::REFUSED <= got {
@@ -137,16 +144,21 @@ pub fn read_lead<'a>(reader: Reader<'a>) -> usize
 }
 
 // The outermost term (LANGUAGE 2.1), from the next offset on.
-pub fn read_outermost<'a, 'b>(reader: Reader<'a>, lead: usize, rows: &'b mut [u32]) -> usize
-    requires { ⌜ Inside (now (reader .script)) (reader .at) × (length (now rows) ≡ 2560) ⌝ }
-    ensures { λ r. ⌜ OutermostRead (found lead) (now (reader .entry .script)) (reader .entry .at) (now (rows .entry)) (now (rows .exit)) (found r) ⌝ }
+pub fn read_outermost<'a, 'b>(
+    sizes: usize,
+    reader: Reader<'a>,
+    lead: usize,
+    rows: &'b mut [u32],
+) -> usize
+    requires { ⌜ Inside (now (reader .script)) (reader .at) × RowsFor (unpacked sizes) (now rows) ⌝ }
+    ensures { λ r. ⌜ OutermostRead (unpacked sizes) (found lead) (now (reader .entry .script)) (reader .entry .at) (now (rows .entry)) (now (rows .exit)) (found r) ⌝ }
 {
-    outermost_answer(reader.script, reader.at, lead, rows)
+    outermost_answer(sizes, reader.script, reader.at, lead, rows)
 }
 
 // The end (LANGUAGE 2.1): no byte stands at the next offset, or 19.
 pub fn read_end<'a>(reader: Reader<'a>, got: usize) -> usize
-    requires { ⌜ length (now (reader .script)) ≤ 4096 ⌝ }
+    requires { ⌜ length (now (reader .script)) ≤ 32768 ⌝ }
     ensures { λ r. ⌜ found r ≡ endJudged (found got) (now (reader .entry .script)) (reader .entry .at) ⌝ }
 {
     end_answer(reader.script, reader.at, got)

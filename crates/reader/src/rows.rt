@@ -3,9 +3,10 @@
 ghost use mathlib.Core.Path.{_≡_};
 ghost use mathlib.Core.Bool.{false};
 ghost use mathlib.Core.List.{_∷_, []};
-ghost use Prim.Native.Nat.{_+_, _*_, _<_, _≤_};
+ghost use Prim.Native.Nat.{_<_, _≤_};
 ghost use lib.ListN.{length, drop};
 ghost use Rattle.reader.specs.Kinds.{until};
+ghost use Rattle.reader.specs.Limits.{rowNumbers, unpacked};
 ghost use Rattle.reader.specs.Parts.{IsKind, placeFields, fieldsOf};
 ghost use Rattle.reader.specs.RowParts.{fieldsFit, noBlock, rowNumber, RowsReady, termRows, blockRows, spanOf, spanned, bitsOf, firstUsed};
 use crate::fields::field_at;
@@ -15,10 +16,10 @@ use crate::opening::boxes_with;
 use crate::packed;
 
 // A place in its ranges (LANGUAGE 2.4, 2.5).
-fn place_fits(root: u32, follows: u32) -> bool
-    ensures { λ r. ⌜ r ≡ fieldsFit placeFields (root ∷ follows ∷ []) ⌝ }
+fn place_fits(variables: u32, root: u32, follows: u32) -> bool
+    ensures { λ r. ⌜ r ≡ fieldsFit (placeFields variables) (root ∷ follows ∷ []) ⌝ }
 {
-    root < limits::VARIABLES && follows < limits::FOLLOWS
+    root < variables && follows < limits::FOLLOWS
 }
 
 // Fields that the kind does not use are 0 (LANGUAGE 2.10).
@@ -45,25 +46,26 @@ fn one_fits(low: u32, high: u32, a: u32, b: u32, c: u32, d: u32) -> bool
 }
 
 // 14 is not met (LANGUAGE 5.4): the operands of a kind are in their ranges (2.4), and the fields after them 0 (2.10).
-fn fields_fit(kind: u32, a: u32, b: u32, c: u32, d: u32) -> bool
+fn fields_fit(sizes: usize, kind: u32, a: u32, b: u32, c: u32, d: u32) -> bool
     requires { ⌜ IsKind kind ⌝ }
-    ensures { λ r. ⌜ r ≡ fieldsFit (fieldsOf kind) (a ∷ b ∷ c ∷ d ∷ []) ⌝ }
+    ensures { λ r. ⌜ r ≡ fieldsFit (fieldsOf (unpacked sizes) kind) (a ∷ b ∷ c ∷ d ∷ []) ⌝ }
 {
+    let variables = (sizes % limits::VARIABLES_MODULUS) as u32;
     match kind {
         kinds::NUMBER => all_zero(0, b, c, d),
         kinds::READING => one_fits(0, limits::READINGS, a, b, c, d),
         kinds::BOX => all_zero(a, b, c, d),
-        kinds::LET => one_fits(0, limits::VARIABLES, a, b, c, d),
-        kinds::BELOW => place_fits(a, b) && place_fits(c, d),
+        kinds::LET => one_fits(0, variables, a, b, c, d),
+        kinds::BELOW => place_fits(variables, a, b) && place_fits(variables, c, d),
         kinds::BLOCK => one_fits(1, limits::BLOCK, a, b, c, d),
-        _ => place_fits(a, b) && all_zero(0, 0, c, d),
+        _ => place_fits(variables, a, b) && all_zero(0, 0, c, d),
     }
 }
 
 // 18 (LANGUAGE 5.4): the first row is a term's, and not a block's. No other row can meet that, so it is asked once,
 // before the rows are judged one after the other.
 pub fn no_block(rows: &[u32]) -> bool
-    requires { ⌜ length (now rows) ≡ 2560 ⌝ }
+    requires { ⌜ 5 ≤ length (now rows) ⌝ }
     ensures { λ r. ⌜ r ≡ noBlock (now (rows .entry)) ⌝ }
 {
     let kind = field_at(rows, 0, 0);
@@ -71,12 +73,12 @@ pub fn no_block(rows: &[u32]) -> bool
 }
 
 // The number of the refusal at row i, in the order 12, 13, 15, 17, 14 (LANGUAGE 5.12); 0 where there is none.
-// 16 cannot be met, since 512 rows hold no more than 512 terms.
-fn row_number(rows: &[u32], i: usize, levels: usize, boxes: usize) -> u32
-    requires { ⌜ length (now rows) ≡ 2560 ⌝ }
-    ensures { λ r. ⌜ r ≡ rowNumber levels false (now (rows .entry)) i boxes ⌝ }
+// 16 cannot be met, since the rows hold no more terms than the set has.
+fn row_number(sizes: usize, rows: &[u32], i: usize, levels: usize, boxes: usize) -> u32
+    requires { ⌜ (length (now rows) ≡ rowNumbers (unpacked sizes)) × (i < 8192) ⌝ }
+    ensures { λ r. ⌜ r ≡ rowNumber (unpacked sizes) levels false (now (rows .entry)) i boxes ⌝ }
 {
-    if limits::TERMS <= i {
+    if sizes / limits::TERMS_UNIT <= i {
         return limits::ENDED;
     }
     let kind = field_at(rows, i, 0);
@@ -90,7 +92,7 @@ fn row_number(rows: &[u32], i: usize, levels: usize, boxes: usize) -> u32
         return limits::TOO_DEEP;
     }
     if kind == kinds::BOX {
-        if limits::BOXES <= boxes {
+        if sizes / limits::BOXES_UNIT % limits::BOXES_MODULUS <= boxes {
             return limits::TOO_MANY_BOXES;
         }
     }
@@ -98,7 +100,7 @@ fn row_number(rows: &[u32], i: usize, levels: usize, boxes: usize) -> u32
     let b = field_at(rows, i, 2);
     let c = field_at(rows, i, 3);
     let d = field_at(rows, i, 4);
-    if fields_fit(kind, a, b, c, d) {
+    if fields_fit(sizes, kind, a, b, c, d) {
         return 0;
     }
     limits::OPERAND
@@ -106,15 +108,15 @@ fn row_number(rows: &[u32], i: usize, levels: usize, boxes: usize) -> u32
 
 // The term at row i (LANGUAGE 2.2), nested at most as deep as levels says, after so many boxes. Box, let and assign are
 // judged as their inner term is, one row on and one level deeper (2.7).
-fn judge_term(rows: &[u32], i: usize, levels: usize, boxes: usize) -> usize
-    requires { ⌜ RowsReady (now rows) i boxes ⌝ }
-    ensures { λ r. ⌜ spanned r ≡ spanOf (termRows levels false (now (rows .entry)) i boxes) ⌝ }
+fn judge_term(sizes: usize, rows: &[u32], i: usize, levels: usize, boxes: usize) -> usize
+    requires { ⌜ RowsReady (unpacked sizes) (now rows) i boxes ⌝ }
+    ensures { λ r. ⌜ spanned r ≡ spanOf (termRows (unpacked sizes) levels false (now (rows .entry)) i boxes) ⌝ }
 {
     let mut at = i;
     let mut left = levels;
     let mut boxed = boxes;
     loop {
-        let number = row_number(rows, at, left, boxed);
+        let number = row_number(sizes, rows, at, left, boxed);
         if number != 0 {
             return packed::refused(number, at);
         }
@@ -130,7 +132,7 @@ fn judge_term(rows: &[u32], i: usize, levels: usize, boxes: usize) -> usize
         left -= 1;
         if kind == kinds::BLOCK {
             let count = field_at(rows, at, 1) as usize;
-            return judge_block(rows, next, count, left, boxed);
+            return judge_block(sizes, rows, next, count, left, boxed);
         }
         boxed = boxes_with(kind, boxed);
         at = next;
@@ -138,15 +140,22 @@ fn judge_term(rows: &[u32], i: usize, levels: usize, boxes: usize) -> usize
 }
 
 // A block's terms (LANGUAGE 2.3): count of them one after the other from row i on, one at least.
-pub fn judge_block(rows: &[u32], i: usize, count: usize, levels: usize, boxes: usize) -> usize
-    requires { ⌜ RowsReady (now rows) i boxes × (0 < count) ⌝ }
-    ensures { λ r. ⌜ spanned r ≡ spanOf (blockRows levels count (now (rows .entry)) i boxes) ⌝ }
+pub fn judge_block(
+    sizes: usize,
+    rows: &[u32],
+    i: usize,
+    count: usize,
+    levels: usize,
+    boxes: usize,
+) -> usize
+    requires { ⌜ RowsReady (unpacked sizes) (now rows) i boxes × (0 < count) ⌝ }
+    ensures { λ r. ⌜ spanned r ≡ spanOf (blockRows (unpacked sizes) levels count (now (rows .entry)) i boxes) ⌝ }
 {
     let mut next = i;
     let mut boxed = boxes;
     let mut left = count;
     while 0 < left {
-        let span = judge_term(rows, next, levels, boxed);
+        let span = judge_term(sizes, rows, next, levels, boxed);
         if packed::REFUSED <= span {
             return span;
         }

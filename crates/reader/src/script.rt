@@ -4,8 +4,10 @@ ghost use mathlib.Core.Path.{_≡_};
 ghost use mathlib.Core.List.{_++_};
 ghost use Prim.Native.Nat.{_-_, _≤_};
 ghost use lib.ListN.{length, take};
+ghost use Rattle.reader.specs.Limits.{unpacked};
 ghost use Rattle.reader.specs.Layout.{lay, inRows, zeros};
 ghost use Rattle.reader.specs.ByteParts.{found, Reading, readScript};
+ghost use Rattle.reader.specs.Lent.{RowsFor};
 use crate::reader::advance;
 use crate::reader::new;
 use crate::reader::read_end;
@@ -13,14 +15,14 @@ use crate::reader::read_lead;
 use crate::reader::read_outermost;
 
 // Reads mark, version and outermost term in this order (LANGUAGE 5.9): one reader, moved past each.
-pub fn read_script(script: &[u8], rows: &mut [u32]) -> usize
-    requires { ⌜ (length (now script) ≤ 4096) × (length (now rows) ≡ 2560) ⌝ }
-    ensures { λ r. ⌜ Reading (lay inRows) (readScript (now (script .entry))) 0 (now (rows .entry)) (now (rows .exit)) (found r) ⌝ }
+pub fn read_script(sizes: usize, script: &[u8], rows: &mut [u32]) -> usize
+    requires { ⌜ (length (now script) ≤ 32768) × RowsFor (unpacked sizes) (now rows) ⌝ }
+    ensures { λ r. ⌜ Reading (lay inRows) (readScript (unpacked sizes) (now (script .entry))) 0 (now (rows .entry)) (now (rows .exit)) (found r) ⌝ }
 {
     let start = new(script);
     let lead = read_lead(start);
     let block = advance(start, lead);
-    let got = read_outermost(block, lead, rows);
+    let got = read_outermost(sizes, block, lead, rows);
     let end = advance(block, got);
     read_end(end, got)
 }

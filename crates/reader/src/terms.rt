@@ -1,7 +1,8 @@
 // Terms and blocks in a script's bytes. Each term is read from the part of the script that begins at its kind byte
 // (LANGUAGE 2.2).
-ghost use mathlib.Core.Path.{_≡_};
-ghost use Prim.Native.Nat.{_<_, _≤_};
+ghost use mathlib.Core.Bool.{false};
+ghost use Prim.Native.Nat.{_<_};
+ghost use Rattle.reader.specs.Limits.{unpacked};
 ghost use Rattle.reader.specs.Layout.{lay, lays, inRows};
 ghost use Rattle.reader.specs.ByteParts.{Ready, found, Reading, readTerm, readBlock};
 use crate::kinds;
@@ -12,51 +13,69 @@ use crate::operands::read_operands;
 use crate::packed;
 
 // A term (LANGUAGE 2.2): what stands at its kind byte (5.10), its operands (5.11), its inner terms one level deeper
-// (2.7). tail begins at the kind byte, which stands at offset at of the script.
-pub fn read_term(
+// (2.7). tail begins at the kind byte, which stands at offset at of the script. Box, let and assign go round the loop,
+// so that only a block costs a call.
+fn read_term(
+    sizes: usize,
     tail: &[u8],
     at: usize,
     levels: usize,
-    outer: bool,
     terms: usize,
     boxes: usize,
     rows: &mut [u32],
 ) -> usize
-    requires { ⌜ Ready (now tail) at boxes (now rows) ⌝ }
-    ensures { λ r. ⌜ Reading (lay inRows) (readTerm levels outer (now (tail .entry)) at terms boxes) terms (now (rows .entry)) (now (rows .exit)) (found r) ⌝ }
+    requires { ⌜ Ready (unpacked sizes) (now tail) at boxes (now rows) ⌝ }
+    ensures { λ r. ⌜ Reading (lay inRows) (readTerm (unpacked sizes) levels false (now (tail .entry)) at terms boxes) terms (now (rows .entry)) (now (rows .exit)) (found r) ⌝ }
 {
-    let number = opening_number(tail, levels, outer, terms, boxes);
-    if number != 0 {
-        return packed::refused(number, at);
-    }
-    let kind = tail[0] as u32;
-    let fields = read_operands(tail, at, kind, terms, rows);
-    match fields {
-        Fields::Refused(number, place) => packed::refused(number, place),
-        Fields::Fine(used) => {
-            let next = at + used;
-            let met = terms + 1;
-            let leaf = packed::fine(next, met, boxes);
-            // The kinds without inner terms come first, since most terms are of those.
-            if kind < kinds::BOX {
-                return leaf;
+    let mut next = at;
+    let mut left = levels;
+    let mut met = terms;
+    let mut boxed = boxes;
+    loop {
+        let used = next - at;
+        let number = opening_number(sizes, &tail[used..], left, met, boxed);
+        if number != 0 {
+            return packed::refused(number, next);
+        }
+        let kind = tail[used] as u32;
+        let fields = read_operands(sizes, &tail[used..], next, kind, met, rows);
+        match fields {
+            Fields::Refused(number, place) => {
+                return packed::refused(number, place);
             }
-            if kind == kinds::BELOW {
-                return leaf;
+            Fields::Fine(taken) => {
+                next += taken;
+                met += 1;
+                // The kinds without inner terms come first, since most terms are of those.
+                if kind < kinds::BOX {
+                    return packed::fine(next, met, boxed);
+                }
+                if kind == kinds::BELOW {
+                    return packed::fine(next, met, boxed);
+                }
+                left -= 1;
+                if kind == kinds::BLOCK {
+                    let count = tail[used + 1] as usize;
+                    return read_block(
+                        sizes,
+                        &tail[next - at..],
+                        next,
+                        count,
+                        left,
+                        met,
+                        boxed,
+                        rows,
+                    );
+                }
+                boxed = boxes_with(kind, boxed);
             }
-            let deeper = levels - 1;
-            if kind == kinds::BLOCK {
-                let count = tail[1] as usize;
-                return read_block(&tail[used..], next, count, deeper, met, boxes, rows);
-            }
-            let boxed = boxes_with(kind, boxes);
-            read_term(&tail[used..], next, deeper, false, met, boxed, rows)
         }
     }
 }
 
 // A block's terms (LANGUAGE 2.3): count of them one after the other, one at least.
 pub fn read_block(
+    sizes: usize,
     tail: &[u8],
     at: usize,
     count: usize,
@@ -65,8 +84,8 @@ pub fn read_block(
     boxes: usize,
     rows: &mut [u32],
 ) -> usize
-    requires { ⌜ Ready (now tail) at boxes (now rows) × (0 < count) × (terms < 1024) ⌝ }
-    ensures { λ r. ⌜ Reading (lays inRows) (readBlock levels count (now (tail .entry)) at terms boxes) terms (now (rows .entry)) (now (rows .exit)) (found r) ⌝ }
+    requires { ⌜ Ready (unpacked sizes) (now tail) at boxes (now rows) × (0 < count) × (terms < 8192) ⌝ }
+    ensures { λ r. ⌜ Reading (lays inRows) (readBlock (unpacked sizes) levels count (now (tail .entry)) at terms boxes) terms (now (rows .entry)) (now (rows .exit)) (found r) ⌝ }
 {
     let mut next = at;
     let mut met = terms;
@@ -74,7 +93,7 @@ pub fn read_block(
     let mut left = count;
     while 0 < left {
         let used = next - at;
-        let got = read_term(&tail[used..], next, levels, false, met, boxed, rows);
+        let got = read_term(sizes, &tail[used..], next, levels, met, boxed, rows);
         if packed::REFUSED <= got {
             return got;
         }

@@ -1,45 +1,28 @@
 -- Rows that the check accepts run safely (LANGUAGE 7.4): what the check's answer says of the rows, and safety of their script.
-use Prim.Native.Nat.{ℕ, _+_, _*_}
-use mathlib.Core.Path.{_≡_, sym, ap, _∙_}
+use Prim.Native.Nat.{ℕ}
+use mathlib.Core.Path.{_≡_, ap, _∙_}
 use mathlib.Core.List.{List}
-use lib.ListN.{length}
 use mir.Syntax.{w32}
 use mir.Val.{toZ}
-use borrow.Author.Tests.{eq-eqb}
-use Rattle.reader.specs.Result.{ok, need, _>>=_}
-use Rattle.reader.specs.Limits.{Limits, rowNumbers}
-use Rattle.reader.specs.Script.{Term}
-use Rattle.reader.proofs.RoundTrip.{rows-length}
+use Rattle.reader.specs.Limits.{Limits}
 use Rattle.ownership.proofs.Accepted.{accepted}
 use Rattle.machine.specs.Values.{closed}
-use Rattle.machine.specs.Store.{Store, State, Ran}
-use Rattle.machine.specs.Run.{runScript}
-use Rattle.machine.specs.Answers.{bitsOf, runFits, runnable, ranInto, runInto, runOf}
-use Rattle.safety.specs.Safety.{Safe}
+use Rattle.machine.specs.Store.{Store, State}
+use Rattle.machine.specs.Answers.{answered, bitsOf, ranInto, runOf}
 use Rattle.safety.proofs.Demand3.{demand-three}
+use Rattle.safety.proofs.Larger.{one-end}
 use Rattle.room.specs.Accepted.{AcceptedRuns}
-
--- The run does not depend on the store before it, so its end is one.
-module _ (l : Limits) (t : Term) (readings : ℕ → ℕ) (a b : Store) (p : Safe l t readings a) (q : Safe l t readings b) where
-  one-end : _≡_ {A = State × ℕ} (p .final, p .answer) (q .final, q .answer)
-  unfolding runScript
-  one-end =
-      let e : _≡_ {A = Ran (State × ℕ)} (ok (p .final, p .answer)) (ok (q .final, q .answer)) = sym (p .ends) ∙ q .ends in
-      cc
-
-  one-answer : p .answer ≡ q .answer
-  one-answer = ap (λ (k : State × ℕ). k .1) one-end
-
-  one-count : p .final .taken ≡ q .final .taken
-  one-count = ap (λ (k : State × ℕ). k .0 .taken) one-end
+use Rattle.room.proofs.TreeRows.{runs-tree}
 
 pub accepted-runs : (l : Limits) → AcceptedRuns l
-unfolding runOf runnable runFits runInto ranInto need _>>=_
+unfolding ranInto
 accepted-runs l rows n u e readings store eight long =
     let a = accepted l rows n u e in
     let safe = demand-three l (a .script) (a .within) (a .judged) (bitsOf readings) in
     let s = safe (λ x. closed) in
-    let full : length rows ≡ rowNumbers l = ap (λ (r : List _). length r) (a .laid) ∙ rows-length l (a .script) (a .within) in
+    let one : (earlier : Store) → _≡_ {A = State × ℕ} (s .final, s .answer) (safe earlier .final, safe earlier .answer) =
+    λ earlier. one-end l l (a .script) (bitsOf readings) (λ x. closed) earlier s (safe earlier)
+    in
     record {
       script = a .script;
       decodes = a .decodes;
@@ -47,7 +30,8 @@ accepted-runs l rows n u e readings store eight long =
       safe = safe;
       answer = toZ w32 (s .answer);
       cells = s .final .taken;
-      its-answer = λ earlier. ap (toZ w32) (one-answer l (a .script) (bitsOf readings) (λ x. closed) earlier s (safe earlier));
-      its-cells = λ earlier. one-count l (a .script) (bitsOf readings) (λ x. closed) earlier s (safe earlier);
-      ran = rw (eq-eqb (length rows) (rowNumbers l) full, eq-eqb (length store) (3 * (l .variables + l .boxes)) long, eq-eqb (length readings) 8 eight, a .decodes, s .ends, s .numbers);
+      its-answer = λ earlier. ap (λ (k : State × ℕ). toZ w32 (k .1)) (one earlier);
+      its-cells = λ earlier. ap (λ (k : State × ℕ). k .0 .taken) (one earlier);
+      ran = ap (λ (r : List ℕ). runOf l r readings store) (a .laid) ∙ runs-tree l (a .script) (a .ranges) (a .within) readings store eight long ∙ ap (ranInto l) (s .ends)
+          ∙ ap (λ (x : List ℕ). (answered (toZ w32 (s .answer)) (s .final .taken), x)) (s .numbers);
     }

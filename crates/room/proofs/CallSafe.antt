@@ -1,5 +1,5 @@
--- The safety of a call, from the equation that its answer meets.
-use Prim.Native.Nat.{ℕ, _+_, _-_}
+-- The safety of a call under any set, from the equation that its answer meets.
+use Prim.Native.Nat.{ℕ, _-_}
 use native.Mathlib.Omega.{arith}
 use mathlib.Core.Path.{_≡_, refl, sym, ap, _∙_, subst}
 use mathlib.Core.List.{List, _++_}
@@ -7,7 +7,7 @@ use lib.IntN.{ℤ}
 use mir.Syntax.{w32}
 use mir.Val.{toZ}
 use Rattle.reader.specs.Result.{Result, ok, err, Refusal}
-use Rattle.reader.specs.Limits.{base, rowNumbers}
+use Rattle.reader.specs.Limits.{Limits, rowNumbers, storeRows}
 use Rattle.reader.specs.Layout.{rowsOf, zeros}
 use Rattle.reader.specs.Script.{Term}
 use Rattle.reader.specs.Reader.{parse}
@@ -25,16 +25,16 @@ use Rattle.machine.proofs.Apart.{err≢ok}
 use Rattle.safety.proofs.Demand3.{demand-three}
 use Rattle.room.specs.Calling.{CallAnswer, called, refused, CallMade, callFits, runCalled, judgedCalled, parsedCalled, fitCalled, callOf, SafeCall}
 
-called-refused : {A : Type 0} {n c m p : ℕ} {a : ℤ} → called n a c ≡ refused m p → A
+pub called-refused : {A : Type 0} {n c m p : ℕ} {a : ℤ} → called n a c ≡ refused m p → A
 called-refused e = let z : _≡_ {A = ℕ} 0 1 = cc in absurd (omega arith)
 
-module _ (script : List ℕ) (readings : List ℤ) (rows store : List ℕ) (u : Under 256 script) where
+module _ (l : Limits) (script : List ℕ) (readings : List ℤ) (rows store : List ℕ) (u : Under 256 script) where
   -- What is shown of each answer, with the rows and the store that come with it.
   abbrev Left : CallMade → Type 0
-  Left m = SafeCall base script readings (m .0) store (m .1 .1)
+  Left m = SafeCall l script readings (m .0) store (m .1 .1)
 
-  accepted-safe : (t : Term) → parse base script ≡ ok t → judgeScript (base .variables) t ≡ ok tt → (earlier : Store) → Safe base t (bitsOf readings) earlier
-  accepted-safe t w j earlier = demand-three base t (parsed base script t u w .1) j (bitsOf readings) earlier
+  accepted-safe : (t : Term) → parse l script ≡ ok t → judgeScript (l .variables) t ≡ ok tt → (earlier : Store) → Safe l t (bitsOf readings) earlier
+  accepted-safe t w j earlier = demand-three l t (parsed l script t u w .1) j (bitsOf readings) earlier
 
   unchanged : (n p : ℕ) (after : List ℕ) → Left (refused n p, (after, store))
   unchanged n p after = record {
@@ -44,11 +44,11 @@ module _ (script : List ℕ) (readings : List ℤ) (rows store : List ℕ) (u : 
     untouched = λ m q e. refl;
   }
 
-  module _ (t : Term) (w : parse base script ≡ ok t) (j : judgeScript (base .variables) t ≡ ok tt) where
-    safely : Safe base t (bitsOf readings) (λ x. closed)
+  module _ (t : Term) (w : parse l script ≡ ok t) (j : judgeScript (l .variables) t ≡ ok tt) where
+    safely : Safe l t (bitsOf readings) (λ x. closed)
     safely = accepted-safe t w j (λ x. closed)
 
-    ran : (x : Ran (State × ℕ)) → runScript (bitsOf readings) t (λ x. closed) ≡ x → Left (runCalled base t x)
+    ran : (x : Ran (State × ℕ)) → runScript (bitsOf readings) t (λ x. closed) ≡ x → Left (runCalled l t x)
     unfolding runCalled
     ran (err f) e = absurd (err≢ok (sym e ∙ safely .ends))
     ran (ok r) e =
@@ -66,26 +66,26 @@ module _ (script : List ℕ) (readings : List ℤ) (rows store : List ℕ) (u : 
               (t, w, p, safely, y ∙ v, o ∙ x);
           tidy = λ n a c k.
               let y : r .0 .taken ≡ c = cc in
-              ap (λ (x : State). encode (base .variables) (base .variables + base .boxes) (x .store)) z ∙ safely .numbers
-              ∙ ap (λ (x : ℕ). closedRows (base .variables) ++ (givenRows x ++ closedRows (base .boxes - x))) (sym x ∙ y);
+              ap (λ (x : State). encode (l .variables) (storeRows l) (x .store)) z ∙ safely .numbers
+              ∙ ap (λ (x : ℕ). closedRows (l .variables) ++ (givenRows x ++ closedRows (l .boxes - x))) (sym x ∙ y);
           untouched = λ n p k. called-refused k;
         }
 
-  left : Left (callOf base script readings rows store)
+  left : Left (callOf l script readings rows store)
   unfolding callOf fitCalled parsedCalled judgedCalled
-  left = fit (callFits base script readings rows store)
+  left = fit (callFits l script readings rows store)
     where
-      judged : (t : Term) → parse base script ≡ ok t → (j : Result Refusal (Unit {0})) → judgeScript (base .variables) t ≡ j → Left (judgedCalled base readings store t j)
+      judged : (t : Term) → parse l script ≡ ok t → (j : Result Refusal (Unit {0})) → judgeScript (l .variables) t ≡ j → Left (judgedCalled l readings store t j)
       judged t w (ok x) e = ran t w e (runScript (bitsOf readings) t (λ x. closed)) refl
-      judged t w (err f) e = unchanged (f .0) (f .1) (rowsOf base t)
+      judged t w (err f) e = unchanged (f .0) (f .1) (rowsOf l t)
 
-      read : (t : Result Refusal Term) → parse base script ≡ t → Left (parsedCalled base readings store t)
-      read (ok t) e = judged t e (judgeScript (base .variables) t) refl
-      read (err f) e = unchanged (f .0) (f .1) (zeros (rowNumbers base))
+      read : (t : Result Refusal Term) → parse l script ≡ t → Left (parsedCalled l readings store t)
+      read (ok t) e = judged t e (judgeScript (l .variables) t) refl
+      read (err f) e = unchanged (f .0) (f .1) (zeros (rowNumbers l))
 
-      fit : (f : Result Refusal (Unit {0})) → Left (fitCalled f rows store (parsedCalled base readings store (parse base script)))
-      fit (ok x) = read (parse base script) refl
+      fit : (f : Result Refusal (Unit {0})) → Left (fitCalled f rows store (parsedCalled l readings store (parse l script)))
+      fit (ok x) = read (parse l script) refl
       fit (err f) = unchanged (f .0) (f .1) rows
 
-  pub safe-call : (r : CallAnswer) (rows₁ store₁ : List ℕ) → (r, (rows₁, store₁)) ≡ callOf base script readings rows store → SafeCall base script readings r store store₁
+  pub safe-call : (r : CallAnswer) (rows₁ store₁ : List ℕ) → (r, (rows₁, store₁)) ≡ callOf l script readings rows store → SafeCall l script readings r store store₁
   safe-call r rows₁ store₁ e = subst Left (sym e) left

@@ -6,6 +6,7 @@ use Rattle.reader.specs.Kinds
 use Rattle.reader.specs.Layout
 use Rattle.reader.specs.Reader
 use Rattle.reader.specs.Measures
+use Rattle.reader.specs.Answers as Reading
 use Rattle.rules.specs.Links
 use Rattle.rules.specs.Environment
 use Rattle.rules.specs.Follow
@@ -29,11 +30,12 @@ unfolding
     Line.digitsBy Line.decimal Line.signed Line.lineOf Line.shortLine Line.readingsOf Line.inFront Line.reported Line.reportCall Line.reportOf
     Calling.callFits Calling.runCalled Calling.judgedCalled Calling.parsedCalled Calling.fitCalled Calling.callOf Calling.readingAt
     Result._>>=_ Result.need
-    Limits.base Limits.maxBytes Limits.rowNumbers
+    Limits.base Limits.inRanges Limits.maxBytes Limits.rowNumbers Limits.storeNumbers
     Kinds.byteOf Kinds.kinds Kinds.among Kinds.kindOf Kinds.fields
     Layout.bytesOf Layout.lay Layout.head Layout.wordOf Layout.unused Layout.zeros Layout.others
     Reader._>>=_ Reader.done Reader.placeIn Reader.expect Reader.first Reader.peek Reader.skip Reader.next Reader.ranged Reader.field Reader.operands Reader.restOfRow Reader.is Reader.boxesOf Reader.ended Reader.known Reader.kind Reader.opening Reader.counted Reader.several Reader.built Reader.term Reader.nothingLeft Reader.over Reader.script Reader.mark Reader.version Reader.leading Reader.answer Reader.parse
     Measures.size
+    Reading.lengthsFit
     Links.leadingBoxes Links.maxLinks Links.noShared Links.isNumber Links.copies Links.sameLink Links.sameLinks
     Environment.update Environment.isFree Environment.levelOf Environment.borrowOf Environment.livesAt Environment.leaveSlot Environment.leave
     Follow.through Follow.followAt Follow.follow Follow.wholeAt Follow.wholeThere Follow.valueWhole

@@ -1,5 +1,5 @@
 -- The safety of accepted scripts (LANGUAGE 7.4), from the check's answer on: what `run` does with rows that `check` accepts.
-use Prim.Native.Nat.{ℕ, _+_, _-_, _*_}
+use Prim.Native.Nat.{ℕ, _-_}
 use mathlib.Core.Path.{_≡_}
 use mathlib.Core.List.{List, _++_}
 use lib.IntN.{ℤ}
@@ -7,7 +7,7 @@ use lib.ListN.{length}
 use mir.Syntax.{w32}
 use mir.Val.{toZ}
 use Rattle.reader.specs.Result.{ok}
-use Rattle.reader.specs.Limits.{Limits}
+use Rattle.reader.specs.Limits.{Limits, storeNumbers}
 use Rattle.reader.specs.Script.{Term}
 use Rattle.reader.specs.Reader.{decode}
 use Rattle.reader.specs.Measures.{size}
@@ -34,5 +34,5 @@ pub record SafeRun (l : Limits) (rows : List ℕ) (n : ℕ) (readings : List ℤ
 abbrev pub AcceptedRuns : Limits → Type 0
 AcceptedRuns l =
     (rows : List ℕ) (n : ℕ) → Under 4294967296 rows → checkOf l rows ≡ ok n
-    → (readings : List ℤ) (store : List ℕ) → length readings ≡ 8 → length store ≡ 3 * (l .variables + l .boxes)
+    → (readings : List ℤ) (store : List ℕ) → length readings ≡ 8 → length store ≡ storeNumbers l
     → SafeRun l rows n readings store

@@ -7,12 +7,13 @@ use lib.IntN.{ℤ, pos}
 use lib.ListN.{length, getD}
 use mir.Syntax.{w32}
 use mir.Val.{toZ}
-use Rattle.reader.specs.Result.{Result, ok, err, Refusal, need, pick, _>>=_}
-use Rattle.reader.specs.Limits.{Limits, maxBytes, rowNumbers}
+use Rattle.reader.specs.Result.{Result, ok, err, Refusal, pick, _>>=_}
+use Rattle.reader.specs.Limits.{Limits, rowNumbers, storeRows}
 use Rattle.reader.specs.Script.{Term}
 use Rattle.reader.specs.Layout.{rowsOf, zeros}
 use Rattle.reader.specs.Reader.{parse}
 use Rattle.reader.specs.Measures.{size}
+use Rattle.reader.specs.Answers.{lengthsFit}
 use Rattle.rules.specs.Judge.{judgeScript}
 use Rattle.machine.specs.Values.{closed}
 use Rattle.machine.specs.Store.{Store, State, Ran}
@@ -37,16 +38,17 @@ toldCall (Refused n p) = refused n p
 abbrev pub CallMade : Type 0
 CallMade = CallAnswer × (List ℕ × List ℕ)
 
--- The caller's numbers, lowest first (LANGUAGE 5.3, 5.8): a script over the byte limit is 1, then 2 to 4; all at place 0.
+-- The caller's numbers (LANGUAGE 5.3), all at place 0: 74, 1 and 2 as reading has them, then 3 and 4 as running has them, so that 74 goes before
+-- every other and then the lowest (5.8).
 unfoldable pub callFits : Limits → List ℕ → List ℤ → List ℕ → List ℕ → Result Refusal (Unit {0})
 callFits l script readings rows store =
-    need (leb (length script) maxBytes) (1, 0) >>= λ _.
+    lengthsFit l script rows >>= λ _.
     runFits l rows readings store
 
 -- The run of an accepted script. It does not come to a fault (LANGUAGE 7.4), so the second clause is never asked.
 unfoldable pub runCalled : Limits → Term → Ran (State × ℕ) → CallMade
-runCalled l t (ok e) = (called (size t) (toZ w32 (e .1)) (e .0 .taken), (rowsOf l t, encode (l .variables) (l .variables + l .boxes) (e .0 .store)))
-runCalled l t (err f) = (refused (f .number) (f .term), (rowsOf l t, encode (l .variables) (l .variables + l .boxes) (f .state .store)))
+runCalled l t (ok e) = (called (size t) (toZ w32 (e .1)) (e .0 .taken), (rowsOf l t, encode (l .variables) (storeRows l) (e .0 .store)))
+runCalled l t (err f) = (refused (f .number) (f .term), (rowsOf l t, encode (l .variables) (storeRows l) (f .state .store)))
 
 -- 30 to 43 leave the script's rows, and the store unchanged (LANGUAGE 5.5).
 unfoldable pub judgedCalled : Limits → List ℤ → List ℕ → Term → Result Refusal (Unit {0}) → CallMade
@@ -58,7 +60,7 @@ unfoldable pub parsedCalled : Limits → List ℤ → List ℕ → Result Refusa
 parsedCalled l readings store (ok t) = judgedCalled l readings store t (judgeScript (l .variables) t)
 parsedCalled l readings store (err e) = (refused (e .0) (e .1), (zeros (rowNumbers l), store))
 
--- 1 to 4 change no lent memory (LANGUAGE 5.3).
+-- 74 and 1 to 4 change no lent memory (LANGUAGE 5.3).
 unfoldable pub fitCalled : Result Refusal (Unit {0}) → List ℕ → List ℕ → CallMade → CallMade
 fitCalled (ok u) rows store made = made
 fitCalled (err e) rows store made = (refused (e .0) (e .1), (rows, store))

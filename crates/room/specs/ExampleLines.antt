@@ -5,7 +5,7 @@ use Prim.Native.String.{String}
 use mathlib.Core.Path.{_≡_}
 use mathlib.Core.List.{List, [], _∷_, _++_, map}
 use lib.ListN.{take}
-use Rattle.reader.specs.Limits.{base}
+use Rattle.reader.specs.Limits.{base, rowNumbers, storeNumbers}
 use Rattle.reader.specs.Script.{Term}
 use Rattle.reader.specs.Layout.{zeros, bytesOf}
 use Rattle.safety.specs.Examples.{e1Bytes, e2, e3, e4, e5, e6, e7, e9, nine, eight, e11}
@@ -17,7 +17,7 @@ lineIn r = take (r .0) (r .1 .1 .1)
 
 -- What is printed for an input, with rows, store and buffer of their lengths.
 unfoldable pub printed : List ℕ → List ℕ
-printed input = lineIn (reportOf base input (zeros 2560) (zeros 384) (zeros 80))
+printed input = lineIn (reportOf base input (zeros (rowNumbers base)) (zeros (storeNumbers base)) (zeros 80))
 
 -- Readings 185 and 200 for E1, the others 0; no other example has a reading.
 unfoldable pub e1Readings : List ℕ

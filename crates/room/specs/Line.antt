@@ -7,7 +7,8 @@ use lib.Dec.{ltb}
 use lib.IntN.{ℤ, pos, negsuc}
 use lib.ListN.{length, drop}
 use Rattle.reader.specs.Result.{pick}
-use Rattle.reader.specs.Limits.{Limits}
+use Rattle.reader.specs.Layout.{zeros}
+use Rattle.reader.specs.Limits.{Limits, base, rowNumbers, storeNumbers}
 use Rattle.room.specs.Calling.{CallAnswer, called, refused, CallMade, callOf, readingAt}
 
 -- The bytes of a text: its characters' codes. Every text here is ASCII.
@@ -64,3 +65,11 @@ reportOf l input rows store line =
     pick (ltb (length input) 32)
     (reported shortLine rows store line)
     (reportCall (callOf l (drop 32 input) (readingsOf input) rows store) line)
+
+-- The length of the line and the line's buffer, which is what outlives the program's own rows and store.
+abbrev pub lineReported : Reported → ℕ × List ℕ
+lineReported r = (r .0, r .1 .1 .1)
+
+-- `report_base`: that of `report` under the language's own set (LANGUAGE 2.8), with rows and store of the set's lengths (2.9, 4.1) that are all 0.
+unfoldable pub baseReportOf : List ℕ → List ℕ → ℕ × List ℕ
+baseReportOf input line = lineReported (reportOf base input (zeros (rowNumbers base)) (zeros (storeNumbers base)) line)

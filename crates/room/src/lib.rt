@@ -6,10 +6,10 @@ ghost use mathlib.Core.Path.{_≡_};
 ghost use Prim.Native.Nat.{_≤_};
 ghost use lib.ListN.{length};
 ghost use Rattle.reader.specs.Result.{ok};
-ghost use Rattle.reader.specs.Limits.{base};
+ghost use Rattle.reader.specs.Limits.{storeNumbers};
 ghost use Rattle.reader.specs.Answers.{judgedOf};
 ghost use Rattle.room.specs.Calling.{toldCall, callOf, SafeCall, readingAt};
-ghost use Rattle.room.specs.Line.{readingsOf, reportOf};
+ghost use Rattle.room.specs.Line.{readingsOf, reportOf, baseReportOf};
 ghost use Rattle.room.specs.Parts.{fitNumber, checkedRun};
 use machine::RunOutcome;
 use machine::signed::number_of;
@@ -17,6 +17,7 @@ use ownership::Checked;
 use reader::Outcome;
 use reader::fields::word_at;
 use reader::limits;
+use reader::limits::Limits;
 
 // The bytes of the eight readings before the script.
 pub const READINGS: usize = 32;
@@ -24,23 +25,31 @@ pub const READINGS: usize = 32;
 // The bytes of a buffer that holds every line (`line.rt`).
 pub const LINE: usize = 80;
 
+// The lengths of term rows and store for the language's set (LANGUAGE 2.8, 2.9, 4.1).
+const ROWS: usize = 5 * limits::BASE.terms as usize;
+
+const STORE: usize = 3 * (limits::BASE.variables as usize + limits::BASE.boxes as usize);
+
 // The terms, the answer and the cells taken; or the refusal's number and place (LANGUAGE 6.7).
 pub enum Called {
     Answered(usize, i32, usize),
     Refused(u32, usize),
 }
 
-// The number of the caller's refusal, lowest first (LANGUAGE 5.8); 0 for none.
-fn fit_number(script: usize, rows: usize, store: usize, readings: usize) -> u32
-    ensures { λ r. ⌜ r ≡ fitNumber script rows store readings ⌝ }
+// The number of the caller's refusal: 74 for the set, then the lowest (LANGUAGE 5.8); 0 for none.
+fn fit_number(set: Limits, script: usize, rows: usize, store: usize, readings: usize) -> u32
+    ensures { λ r. ⌜ r ≡ fitNumber set script rows store readings ⌝ }
 {
+    if !limits::in_ranges(set) {
+        return limits::SET_OUTSIDE;
+    }
     if limits::BYTES < script {
         return limits::SCRIPT_TOO_LONG;
     }
-    if rows != limits::ROW_NUMBERS {
+    if rows != limits::row_numbers(set) {
         return limits::ROWS_LENGTH;
     }
-    if store != limits::STORE_NUMBERS {
+    if store != limits::store_numbers(set) {
         return limits::STORE_LENGTH;
     }
     if readings != limits::READINGS as usize {
@@ -50,15 +59,21 @@ fn fit_number(script: usize, rows: usize, store: usize, readings: usize) -> u32
 }
 
 // The check of rows that were read, and the run of what it accepts. Neither judges the rows again.
-fn run_checked(terms: usize, rows: &[u32], readings: &[i32], store: &mut [u32]) -> Called
-    requires { ⌜ (judgedOf base (now rows) ≡ ok terms) × (length (now readings) ≡ 8) × (length (now store) ≡ 384) ⌝ }
-    ensures { λ r. ⌜ (toldCall r, now (store .exit)) ≡ checkedRun base terms (now (rows .entry)) (now (readings .entry)) (now (store .entry)) ⌝ }
+fn run_checked(
+    set: Limits,
+    terms: usize,
+    rows: &[u32],
+    readings: &[i32],
+    store: &mut [u32],
+) -> Called
+    requires { ⌜ (judgedOf set (now rows) ≡ ok terms) × (length (now readings) ≡ 8) × (length (now store) ≡ storeNumbers set) ⌝ }
+    ensures { λ r. ⌜ (toldCall r, now (store .exit)) ≡ checkedRun set terms (now (rows .entry)) (now (readings .entry)) (now (store .entry)) ⌝ }
 {
-    let checked = ownership::check_judged(rows, terms);
+    let checked = ownership::check_judged(set, rows, terms);
     match checked {
         Checked::Refused(number, term) => Called::Refused(number, term),
         Checked::Accepted(n) => {
-            let ran = machine::run_judged(rows, readings, store);
+            let ran = machine::run_judged(set, rows, readings, store);
             match ran {
                 RunOutcome::Answered(answer, cells) => Called::Answered(terms, answer, cells),
                 RunOutcome::Refused(number, place) => Called::Refused(number, place),
@@ -68,20 +83,26 @@ fn run_checked(terms: usize, rows: &[u32], readings: &[i32], store: &mut [u32]) 
     }
 }
 
-// A call (LANGUAGE 6.7). The caller's refusals (1 to 4) change nothing; those of the bytes (10 to 19) leave all rows 0;
-// those of the ownership rules (30 to 43) leave the rows of the script. In all of these the store is unchanged.
-pub fn call(script: &[u8], readings: &[i32], rows: &mut [u32], store: &mut [u32]) -> Called
-    ensures answered { λ r. ⌜ (toldCall r, (now (rows .exit), now (store .exit))) ≡ callOf base (now (script .entry)) (now (readings .entry)) (now (rows .entry)) (now (store .entry)) ⌝ }
-    ensures safe { λ r. ⌜ SafeCall base (now (script .entry)) (now (readings .entry)) (toldCall r) (now (store .entry)) (now (store .exit)) ⌝ }
+// A call (LANGUAGE 6.7). The caller's refusals (74, 1 to 4) change nothing; those of the bytes (10 to 19) leave all
+// rows 0; those of the ownership rules (30 to 43) leave the rows of the script. In all of these the store is unchanged.
+pub fn call(
+    set: Limits,
+    script: &[u8],
+    readings: &[i32],
+    rows: &mut [u32],
+    store: &mut [u32],
+) -> Called
+    ensures answered { λ r. ⌜ (toldCall r, (now (rows .exit), now (store .exit))) ≡ callOf set (now (script .entry)) (now (readings .entry)) (now (rows .entry)) (now (store .entry)) ⌝ }
+    ensures safe { λ r. ⌜ SafeCall set (now (script .entry)) (now (readings .entry)) (toldCall r) (now (store .entry)) (now (store .exit)) ⌝ }
 {
-    let number = fit_number(script.len(), rows.len(), store.len(), readings.len());
+    let number = fit_number(set, script.len(), rows.len(), store.len(), readings.len());
     if number != 0 {
         return Called::Refused(number, 0);
     }
-    let read = reader::read(script, rows);
+    let read = reader::read(set, script, rows);
     match read {
         Outcome::Refused(number, place) => Called::Refused(number, place),
-        Outcome::Count(terms) => run_checked(terms, rows, readings, store),
+        Outcome::Count(terms) => run_checked(set, terms, rows, readings, store),
     }
 }
 
@@ -116,14 +137,30 @@ fn readings_of(input: &[u8]) -> [i32; 8]
 
 // The program's work (LANGUAGE 6.8): the line for an input of eight readings and a script goes to the front of `line`,
 // and the answer is its length.
-pub fn report(input: &[u8], rows: &mut [u32], store: &mut [u32], line: &mut [u8; LINE]) -> usize
-    ensures answered { λ r. ⌜ (r, (now (rows .exit), (now (store .exit), now (line .exit)))) ≡ reportOf base (now (input .entry)) (now (rows .entry)) (now (store .entry)) (now (line .entry)) ⌝ }
+pub fn report(
+    set: Limits,
+    input: &[u8],
+    rows: &mut [u32],
+    store: &mut [u32],
+    line: &mut [u8; LINE],
+) -> usize
+    ensures answered { λ r. ⌜ (r, (now (rows .exit), (now (store .exit), now (line .exit)))) ≡ reportOf set (now (input .entry)) (now (rows .entry)) (now (store .entry)) (now (line .entry)) ⌝ }
     ensures within { λ r. ⌜ r ≤ length (now (line .exit)) ⌝ }
 {
     if input.len() < READINGS {
         return line::put_text(line, 0, b"readings short\n");
     }
     let readings = readings_of(input);
-    let called = call(&input[READINGS..], &readings, rows, store);
+    let called = call(set, &input[READINGS..], &readings, rows, store);
     line::put_called(line, called)
+}
+
+// The program's work (LANGUAGE 6.8) under the language's own set (2.8), with rows and store of its own.
+pub fn report_base(input: &[u8], line: &mut [u8; LINE]) -> usize
+    ensures answered { λ r. ⌜ (r, now (line .exit)) ≡ baseReportOf (now (input .entry)) (now (line .entry)) ⌝ }
+    ensures within { λ r. ⌜ r ≤ length (now (line .exit)) ⌝ }
+{
+    let mut rows = [0u32; ROWS];
+    let mut store = [0u32; STORE];
+    report(limits::BASE, input, &mut rows, &mut store, line)
 }

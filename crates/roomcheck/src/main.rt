@@ -1,5 +1,5 @@
 // The program (LANGUAGE 6.9 to 6.11). Reads eight readings and a script from standard input, and prints the line that
-// `room::report` makes of them. Where reading fails there is no line: what was read may not be the whole input.
+// `room::report_base` makes of them. Where reading fails there is no line: what was read may not be the whole input.
 ghost use lib.ListN.{length};
 ghost use Rattle.roomcheck.specs.Input.{Within};
 use libc::STDERR_FILENO;
@@ -53,10 +53,8 @@ fn main() {
         );
         return;
     };
-    let mut rows = [0u32; limits::ROW_NUMBERS];
-    let mut store = [0u32; limits::STORE_NUMBERS];
     let mut line = [0u8; room::LINE];
-    let length = room::report(&input[..n], &mut rows, &mut store, &mut line);
+    let length = room::report_base(&input[..n], &mut line);
     if !io::write_all(STDOUT_FILENO, &line[..length]) {
         io::write_all(
             STDERR_FILENO,

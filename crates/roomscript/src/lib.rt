@@ -1,6 +1,6 @@
-// The C interface: numbers and slices. `bindings/` has the header, and a safe Rust wrapper.
+// The C interface: the set of limits (LANGUAGE 2.8) by value, numbers and slices. `bindings/` has the header, and a
+// safe Rust wrapper.
 ghost use mathlib.Core.Path.{_≡_};
-ghost use Rattle.reader.specs.Limits.{base};
 ghost use Rattle.reader.specs.Answers.{told, readOf, judgedOf, writtenOf};
 ghost use Rattle.ownership.specs.Answers.{toldChecked, checkOf};
 ghost use Rattle.machine.specs.Answers.{toldRun, runOf};
@@ -9,6 +9,7 @@ ghost use Rattle.roomscript.specs.Answers.{answerIn, ranIn, calledIn, in
 use machine::RunOutcome;
 use ownership::Checked;
 use reader::Outcome;
+use reader::limits::Limits;
 use room::Called;
 
 // refused is 0 or 1. Where it is 0, value is the count (terms, or bytes written) and number is 0;
@@ -38,31 +39,31 @@ fn c_answer(outcome: Outcome) -> Answer
 }
 
 #[no_mangle]
-pub extern "C" fn roomscript_read(script: &[u8], rows: &mut [u32]) -> Answer
-    ensures { λ r. ⌜ (r, now (rows .exit)) ≡ inC answerIn (readOf base (now (script .entry)) (now (rows .entry))) ⌝ }
+pub extern "C" fn roomscript_read(limits: Limits, script: &[u8], rows: &mut [u32]) -> Answer
+    ensures { λ r. ⌜ (r, now (rows .exit)) ≡ inC answerIn (readOf limits (now (script .entry)) (now (rows .entry))) ⌝ }
 {
-    c_answer(reader::read(script, rows))
+    c_answer(reader::read(limits, script, rows))
 }
 
 #[no_mangle]
-pub extern "C" fn roomscript_judge_rows(rows: &[u32]) -> Answer
-    ensures { λ r. ⌜ r ≡ answerIn (judgedOf base (now (rows .entry))) ⌝ }
+pub extern "C" fn roomscript_judge_rows(limits: Limits, rows: &[u32]) -> Answer
+    ensures { λ r. ⌜ r ≡ answerIn (judgedOf limits (now (rows .entry))) ⌝ }
 {
-    c_answer(reader::judge_rows(rows))
+    c_answer(reader::judge_rows(limits, rows))
 }
 
 #[no_mangle]
-pub extern "C" fn roomscript_write(rows: &[u32], output: &mut [u8]) -> Answer
-    ensures { λ r. ⌜ (r, now (output .exit)) ≡ inC answerIn (writtenOf base (now (rows .entry)) (now (output .entry))) ⌝ }
+pub extern "C" fn roomscript_write(limits: Limits, rows: &[u32], output: &mut [u8]) -> Answer
+    ensures { λ r. ⌜ (r, now (output .exit)) ≡ inC answerIn (writtenOf limits (now (rows .entry)) (now (output .entry))) ⌝ }
 {
-    c_answer(reader::write(rows, output))
+    c_answer(reader::write(limits, rows, output))
 }
 
 #[no_mangle]
-pub extern "C" fn roomscript_check(rows: &[u32]) -> Answer
-    ensures { λ r. ⌜ r ≡ answerIn (checkOf base (now (rows .entry))) ⌝ }
+pub extern "C" fn roomscript_check(limits: Limits, rows: &[u32]) -> Answer
+    ensures { λ r. ⌜ r ≡ answerIn (checkOf limits (now (rows .entry))) ⌝ }
 {
-    c_checked(ownership::check(rows))
+    c_checked(ownership::check(limits, rows))
 }
 
 fn c_checked(checked: Checked) -> Answer
@@ -118,10 +119,15 @@ fn c_ran(ran: RunOutcome) -> Ran
 }
 
 #[no_mangle]
-pub extern "C" fn roomscript_run(rows: &[u32], readings: &[i32], store: &mut [u32]) -> Ran
-    ensures { λ r. ⌜ (r, now (store .exit)) ≡ inC ranIn (runOf base (now (rows .entry)) (now (readings .entry)) (now (store .entry))) ⌝ }
+pub extern "C" fn roomscript_run(
+    limits: Limits,
+    rows: &[u32],
+    readings: &[i32],
+    store: &mut [u32],
+) -> Ran
+    ensures { λ r. ⌜ (r, now (store .exit)) ≡ inC ranIn (runOf limits (now (rows .entry)) (now (readings .entry)) (now (store .entry))) ⌝ }
 {
-    c_ran(machine::run(rows, readings, store))
+    c_ran(machine::run(limits, rows, readings, store))
 }
 
 // refused is 0 or 1; where it is 1, number and place say why, and the others are 0.
@@ -160,13 +166,14 @@ fn c_called(called: Called) -> Call
 
 #[no_mangle]
 pub extern "C" fn roomscript_call(
+    limits: Limits,
     script: &[u8],
     readings: &[i32],
     rows: &mut [u32],
     store: &mut [u32],
 ) -> Call
-    ensures answered { λ r. ⌜ (r, (now (rows .exit), now (store .exit))) ≡ inC calledIn (callOf base (now (script .entry)) (now (readings .entry)) (now (rows .entry)) (now (store .entry))) ⌝ }
-    ensures safe { λ r. ⌜ SafeInC base (now (script .entry)) (now (readings .entry)) r (now (store .entry)) (now (store .exit)) ⌝ }
+    ensures answered { λ r. ⌜ (r, (now (rows .exit), now (store .exit))) ≡ inC calledIn (callOf limits (now (script .entry)) (now (readings .entry)) (now (rows .entry)) (now (store .entry))) ⌝ }
+    ensures safe { λ r. ⌜ SafeInC limits (now (script .entry)) (now (readings .entry)) r (now (store .entry)) (now (store .exit)) ⌝ }
 {
-    c_called(room::call(script, readings, rows, store))
+    c_called(room::call(limits, script, readings, rows, store))
 }

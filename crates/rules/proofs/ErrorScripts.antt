@@ -25,7 +25,8 @@ outliving =
     (more (block 5 (more (declare 6 2 (borrowExclusive 7 (v 1 0))) (more (declare 8 3 (number 9 2)) (more (assign 10 (v 2 1) (borrowShared 11 (v 3 0))) (last (number 12 0))))))
     (last (number 13 0)))))
 
-pub scripts-refused : (judgeScript 64 moving ≡ err (33, 4)) × (judgeScript 64 outliving ≡ err (40, 10))
+-- With the four variables that they have; under every larger set it is the same (LANGUAGE 7.7).
+pub scripts-refused : (judgeScript 4 moving ≡ err (33, 4)) × (judgeScript 4 outliving ≡ err (40, 10))
 unfolding
     judgeScript judge need _>>=_
     Links.leadingBoxes Links.maxLinks Links.noShared Links.isNumber Links.copies Links.sameLink Links.sameLinks

@@ -1,4 +1,4 @@
--- The notes stay right: when an entry changes, when a block's variables leave scope, and in a table of 0.
+-- The notes stay right: when an entry changes, and when a block's variables leave scope.
 use Prim.Native.Nat.{ℕ, suc, _+_, _*_, _<_, _≤_}
 use native.Mathlib.Omega.{arith}
 use native.Mathlib.Decide.{ℕ-discrete, decLt}

@@ -114,6 +114,7 @@ pub record Noted (env : List ℕ) (n : ℕ) : Type 0 where
   pub most : noteAt env (suc n) ≤ n
   pub untaken : (x : ℕ) → noteAt env (suc n) ≤ x → entryAt env x ≡ entry.Free
 
--- With at most 128 variables no sum of follows along a path wraps, and the holders of shared borrows stay below 65536.
+-- No set has more than 128 variables (LANGUAGE 2.8): with so many no sum of follows along a path wraps, and the holders of shared borrows
+-- stay below 65536.
 abbrev pub TableFor : List ℕ → ℕ → Type 0
 TableFor env n = (length env ≡ n * 8 + 16) × (n ≤ 128) × Noted env n

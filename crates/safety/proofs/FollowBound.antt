@@ -45,7 +45,7 @@ borrow-one (in-shared q j h) p i = ap some (elim h [ inl y ↦ elim i [ inl z �
 borrow-one (in-exclusive q j h) p i = ap some (elim h [ inl y ↦ elim i [ inl z ↦ y ∙ sym z | inr z ↦ absurd z ] | inr y ↦ absurd y ])
 
 module _ {nv : ℕ} {Γ : Environment} {o : Option Ty} {lv : ℕ} {s : State} {v : Value} (I : Invariant nv Γ o lv s v) where
-  low : (x : ℕ) (u : Variable) → Γ x ≡ live u → x < nv
+  pub low : (x : ℕ) (u : Variable) → Γ x ≡ live u → x < nv
   low x u e = let C = covered-live (I .Θ (var x)) (Γ x) u (I .vars x) e in I .typed .bound x (C .0) (C .1)
 
   falls : (x : ℕ) (u : Variable) (p : Place) → Γ x ≡ live u → Among p (places (u .borrow)) → leadingBoxes (u .chain) < u .movedFrom
@@ -90,7 +90,7 @@ module _ {nv : ℕ} {Γ : Environment} {o : Option Ty} {lv : ℕ} {s : State} {v
 -- ---- so where the invariant holds, the number of variables is bound enough
 
 module _ {nv : ℕ} {Γ : Environment} {o : Option Ty} {lv : ℕ} {s : State} {v : Value} (I : Invariant nv Γ o lv s v) where
-  bound-enough : (n x r : ℕ) → nv ≤ n → follow n Γ x r ≡ follow nv Γ x r
+  pub bound-enough : (n x r : ℕ) → nv ≤ n → follow n Γ x r ≡ follow nv Γ x r
   bound-enough n x r l = go (follow n Γ x r) refl (follow nv Γ x r) refl
     where
       found : (m : ℕ) (q : Place) → follow m Γ x r ≡ some q → (k : ℕ) → nv ≤ k → follow k Γ x r ≡ some q
@@ -115,7 +115,7 @@ backed : {nv : ℕ} {Γ : Environment} {o : Option Ty} {lv : ℕ} {s : State} {v
 backed {nv} {Γ} {o} {lv} {s} {v} I = record { value = o; level = lv; state = s; content = v; holds = I }
 
 -- The readings of that run. Judging does not look at any.
-silent : ℕ → ℕ
+pub silent : ℕ → ℕ
 silent n = 0
 
 module _ (nv : ℕ) where

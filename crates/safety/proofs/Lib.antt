@@ -60,3 +60,7 @@ pub mod Demand3
 -- The bound of following.
 pub mod Pigeon
 pub mod FollowBound
+-- Larger sets of limits.
+pub mod LargerRules
+pub mod LargerJudge
+pub mod Larger

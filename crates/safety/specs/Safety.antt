@@ -1,9 +1,9 @@
 -- The safety of accepted scripts (LANGUAGE 7.4): one claim about a whole run.
-use Prim.Native.Nat.{ℕ, zero, suc, _+_, _-_, _≤_, _<_}
+use Prim.Native.Nat.{ℕ, zero, suc, _-_, _≤_, _<_}
 use mathlib.Core.Path.{_≡_}
 use mathlib.Core.List.{List, [], _∷_, _++_}
 use Rattle.reader.specs.Result.{ok}
-use Rattle.reader.specs.Limits.{Limits}
+use Rattle.reader.specs.Limits.{Limits, storeRows}
 use Rattle.reader.specs.Script.{Term}
 use Rattle.reader.specs.Within.{Within}
 use Rattle.rules.specs.Judge.{judgeScript}
@@ -38,7 +38,7 @@ pub record Safe (l : Limits) (t : Term) (readings : ℕ → ℕ) (earlier : Stor
   pub given : (c : ℕ) → c < final .taken → final .store (cell c) ≡ givenBack
   -- so of all the lent numbers.
   pub numbers :
-      encode (l .variables) (l .variables + l .boxes) (final .store)
+      encode (l .variables) (storeRows l) (final .store)
       ≡ closedRows (l .variables) ++ (givenRows (final .taken) ++ closedRows (l .boxes - final .taken))
   -- The cells taken, which the run reports, the boxes that finished, and the cells given back are equally many.
   pub boxes : final .taken ≡ boxesRun readings t (begun earlier)

@@ -1,21 +1,24 @@
 -- `ownership::check_judged` meets its contract. Assumes nothing.
 use native.Mathlib.Omega.{arith}
-use mathlib.Core.Path.{refl}
 use borrow.Author.Needs.{needs}
 use Rattle.ownership.specs.Answers.{toldChecked}
-use Rattle.ownership.proofs.ScriptLaws.{zeros-free, zeros-noted}
-use Rattle.ownership.proofs.CheckLaws.{under-words, script-is, rules-accepted, rules-refused}
+use Rattle.ownership.proofs.CheckLaws.{under-words, set-ranged, script-is, rules-accepted, rules-refused}
 use Rattle.ownership.proofs.check_judged.Statement.{statement}
 use Rattle.ownership.proofs.check_judged.Tie as tie
 
-slice-aggregate-judge-script : tie.Need-slice-aggregate-judge-script
-slice-aggregate-judge-script c = search needs
+cast-levels : tie.Need-cast-levels
+cast-levels c = search needs
 
-cast-judge-script : tie.Need-cast-judge-script
-cast-judge-script c = search needs
+cast-variables : tie.Need-cast-variables
+cast-variables c = search needs
 
-judge-script-requires : tie.Need-judge-script-requires
-judge-script-requires c κs = (script-is (c .before .before .args .rows .now) (under-words (c .before .before .args .rows .now) (c .before .shared-slice-known .given)) _ (c .before .before .pre), (refl, omega arith, zeros-noted 528 64), zeros-free 528 64, omega arith)
+judge-alone-requires : tie.Need-judge-alone-requires
+judge-alone-requires c κs =
+    let start = c .before .before .before in
+    let rows = start .args .rows .now in
+    let under = under-words rows (c .before .before .shared-slice-known .given) in
+    let ranges = set-ranged (start .args .set) rows under _ (start .pre) in
+    (script-is (start .args .set) rows under _ (start .pre), ranges .variables .1, omega (arith, ranges .levels .1))
 
 enum-told : tie.Need-enum-told
 enum-told c = search needs
@@ -25,19 +28,29 @@ enum-known-verdict c = search needs
 
 returns : tie.Need-returns
 unfolding toldChecked
-returns c = rules-accepted (c .before .before .before .before .before .before .args .rows .now) (under-words (c .before .before .before .before .before .before .args .rows .now) (c .before .before .before .before .before .shared-slice-known .given)) _ (c .before .before .before .before .before .before .pre) _ (c .before .before .before .judge-script .ensures) (c .enum-told .given .1)
+returns c =
+    let at-judge-alone = c .before .before in
+    let start = at-judge-alone .before .before .before .before in
+    let rows = start .args .rows .now in
+    let under = under-words rows (at-judge-alone .before .before .before .shared-slice-known .given) in
+    rules-accepted (start .args .set) rows under _ (start .pre) _ (at-judge-alone .judge-alone .ensures) (c .enum-told .given .1)
 
 returns-2 : tie.Need-returns-2
 unfolding toldChecked
-returns-2 c = rules-refused (c .before .before .before .before .before .before .before .args .rows .now) (under-words (c .before .before .before .before .before .before .before .args .rows .now) (c .before .before .before .before .before .before .shared-slice-known .given)) _ (c .before .before .before .before .before .before .before .pre) _ (c .before .before .before .before .judge-script .ensures) _ _ (c .before .verdict .given .1)
+returns-2 c =
+    let at-judge-alone = c .before .before .before in
+    let start = at-judge-alone .before .before .before .before in
+    let rows = start .args .rows .now in
+    let under = under-words rows (at-judge-alone .before .before .before .shared-slice-known .given) in
+    rules-refused (start .args .set) rows under _ (start .pre) _ (at-judge-alone .judge-alone .ensures) _ _ (c .before .verdict .given .1)
 
 pub check-judged-spec : {M : Type 1} → statement M
 check-judged-spec =
     tie.close
     (tie.spec
-    slice-aggregate-judge-script
-    cast-judge-script
-    judge-script-requires
+    cast-levels
+    cast-variables
+    judge-alone-requires
     enum-told
     enum-known-verdict
     returns

@@ -12,8 +12,8 @@ fit-number-requires c κs = search needs
 
 returns : tie.Need-returns
 returns c =
-    let e = call-unfit _ (c .before .before .before .before .before .args .readings .now) _ _ _ (c .before .fit-number .ensures) (c .if1 .taken) in
-    (e, safe-call _ _ _ _ (under-bytes (c .before .before .before .before .before .args .script .now) (c .before .before .before .before .shared-slice-known .given)) _ _ _ e)
+    let e = call-unfit _ _ (c .before .before .before .before .before .args .readings .now) _ _ _ (c .before .fit-number .ensures) (c .if1 .taken) in
+    (e, safe-call _ _ _ _ _ (under-bytes (c .before .before .before .before .before .args .script .now) (c .before .before .before .before .shared-slice-known .given)) _ _ _ e)
 
 read-requires : tie.Need-read-requires
 read-requires c κs = search needs
@@ -26,7 +26,7 @@ enum-known-read-2 c = search needs
 
 run-checked-requires : tie.Need-run-checked-requires
 run-checked-requires c κs =
-    let lengths = fit-lengths (c .before .before .before .before .before .before .before .before .before .before .before .before .before .before .args .script .now) (c .before .before .before .before .before .before .before .before .before .before .before .before .before .before .args .readings .now) (c .before .before .before .before .before .before .before .before .before .before .before .before .before .before .args .rows .now) (c .before .before .before .before .before .before .before .before .before .before .before .before .before .before .args .store .now) _ (c .before .before .before .before .before .before .before .before .before .before .fit-number .ensures) (c .before .before .before .before .before .before .before .before .before .if1 .left) in
+    let lengths = fit-lengths _ (c .before .before .before .before .before .before .before .before .before .before .before .before .before .before .args .script .now) (c .before .before .before .before .before .before .before .before .before .before .before .before .before .before .args .readings .now) (c .before .before .before .before .before .before .before .before .before .before .before .before .before .before .args .rows .now) (c .before .before .before .before .before .before .before .before .before .before .before .before .before .before .args .store .now) _ (c .before .before .before .before .before .before .before .before .before .before .fit-number .ensures) (c .before .before .before .before .before .before .before .before .before .if1 .left) in
     let bytes = under-bytes (c .before .before .before .before .before .before .before .before .before .before .before .before .before .before .args .script .now) (c .before .before .before .before .before .before .before .before .before .before .before .before .before .shared-slice-known .given) in
     (read-judged _ _ bytes _ _ _ _ (c .before .before .before .before .before .before .before .read .ensures) (c .before .before .before .read3 .given .1), lengths .0, lengths .1)
 
@@ -35,8 +35,8 @@ same-length c = search needs
 
 returns-2 : tie.Need-returns-2
 returns-2 c =
-    let e = call-unread _ (c .before .before .before .before .before .before .before .before .before .before .before .before .args .readings .now) _ _ _ (c .before .before .before .before .before .before .before .before .fit-number .ensures) (c .before .before .before .before .before .before .before .if1 .left) _ _ (c .before .before .before .before .before .read .ensures) _ _ (c .before .read2 .given .1) in
-    (e, safe-call _ _ _ _ (under-bytes (c .before .before .before .before .before .before .before .before .before .before .before .before .args .script .now) (c .before .before .before .before .before .before .before .before .before .before .before .shared-slice-known .given)) _ _ _ e)
+    let e = call-unread _ _ (c .before .before .before .before .before .before .before .before .before .before .before .before .args .readings .now) _ _ _ (c .before .before .before .before .before .before .before .before .fit-number .ensures) (c .before .before .before .before .before .before .before .if1 .left) _ _ (c .before .before .before .before .before .read .ensures) _ _ (c .before .read2 .given .1) in
+    (e, safe-call _ _ _ _ _ (under-bytes (c .before .before .before .before .before .before .before .before .before .before .before .before .args .script .now) (c .before .before .before .before .before .before .before .before .before .before .before .shared-slice-known .given)) _ _ _ e)
 
 same-length-2 : tie.Need-same-length-2
 same-length-2 c = search needs
@@ -47,8 +47,8 @@ same-length-3 c = search needs
 returns-3 : tie.Need-returns-3
 returns-3 c =
     let u = under-bytes (c .before .before .before .before .before .before .before .before .before .before .before .before .before .before .before .before .before .args .script .now) (c .before .before .before .before .before .before .before .before .before .before .before .before .before .before .before .before .shared-slice-known .given) in
-    let e = call-read _ (c .before .before .before .before .before .before .before .before .before .before .before .before .before .before .before .before .before .args .readings .now) _ _ _ (c .before .before .before .before .before .before .before .before .before .before .before .before .before .fit-number .ensures) (c .before .before .before .before .before .before .before .before .before .before .before .before .if1 .left) _ _ (c .before .before .before .before .before .before .before .before .before .before .read .ensures) u _ (c .before .before .before .before .before .before .read3 .given .1) _ _ (c .before .before .run-checked .ensures) in
-    (e, safe-call _ _ _ _ u _ _ _ e)
+    let e = call-read _ _ (c .before .before .before .before .before .before .before .before .before .before .before .before .before .before .before .before .before .args .readings .now) _ _ _ (c .before .before .before .before .before .before .before .before .before .before .before .before .before .fit-number .ensures) (c .before .before .before .before .before .before .before .before .before .before .before .before .if1 .left) _ _ (c .before .before .before .before .before .before .before .before .before .before .read .ensures) u _ (c .before .before .before .before .before .before .read3 .given .1) _ _ (c .before .before .run-checked .ensures) in
+    (e, safe-call _ _ _ _ _ u _ _ _ e)
 
 pub call-spec : {M : Type 1} → statement M
 call-spec =

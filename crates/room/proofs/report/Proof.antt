@@ -19,7 +19,7 @@ returns : tie.Need-returns
 unfolding shortLine
 returns c =
     let l : length (c .before .before .before .before .before .before .before .args .line .now) ≡ 80 = search needs in
-    (report-short _ _ _ _ _ _ (c .before .before .before .if1 .taken) (c .put-text .ensures) (omega arith), omega (arith, c .put-text .kept .0))
+    (report-short _ _ _ _ _ _ _ (c .before .before .before .if1 .taken) (c .put-text .ensures) (omega arith), omega (arith, c .put-text .kept .0))
 
 readings-of-requires : tie.Need-readings-of-requires
 readings-of-requires c κs = search needs
@@ -51,7 +51,7 @@ same-length-2 c = search needs
 returns-2 : tie.Need-returns-2
 returns-2 c =
     let l : length (c .before .before .before .before .before .before .before .before .before .before .before .before .before .before .before .before .args .line .now) ≡ 80 = search needs in
-    (report-called _ _ _ _ _ _ (c .before .before .before .before .before .before .before .before .before .before .before .before .if1 .left) _ _ _ _ _ (part-all (c .before .before .before .before .before .before .before .before .before .before .before .before .before .before .before .before .args .input .now) 32) (c .before .before .before .before .before .before .before .before .before .before .before .readings-of .ensures) (c .before .before .before .before .before .before .call .ensures .0) (c .put-called .ensures .0) (omega (arith, c .put-called .ensures .1)), omega (arith, c .put-called .ensures .1, c .put-called .kept .0))
+    (report-called _ _ _ _ _ _ _ (c .before .before .before .before .before .before .before .before .before .before .before .before .if1 .left) _ _ _ _ _ (part-all (c .before .before .before .before .before .before .before .before .before .before .before .before .before .before .before .before .args .input .now) 32) (c .before .before .before .before .before .before .before .before .before .before .before .readings-of .ensures) (c .before .before .before .before .before .before .call .ensures .0) (c .put-called .ensures .0) (omega (arith, c .put-called .ensures .1)), omega (arith, c .put-called .ensures .1, c .put-called .kept .0))
 
 pub report-spec : {M : Type 1} → statement M
 report-spec =

@@ -29,7 +29,7 @@ enum-known-ran-3 : tie.Need-enum-known-ran-3
 enum-known-ran-3 c = search needs
 
 returns : tie.Need-returns
-returns c = run-unaccepted _ _ _ _ _ (c .before .before .before .check-judged .ensures) _ _ (c .before .checked .given .1)
+returns c = run-unaccepted _ _ _ _ _ _ (c .before .before .before .check-judged .ensures) _ _ (c .before .checked .given .1)
 
 same-length : tie.Need-same-length
 same-length c = search needs
@@ -37,19 +37,19 @@ same-length c = search needs
 returns-2 : tie.Need-returns-2
 returns-2 c =
     let h : SFits w32 (c .before .ran .given .0 .0) = search needs in
-    rw (toZ-ofZ h) (run-answered _ _ _ _ _ (c .before .before .before .before .before .before .before .before .before .before .check-judged .ensures) _ (c .before .before .before .before .before .before .before .before .checked2 .given .1) _ _ (c .before .before .before .before .before .run-judged .ensures) _ _ (c .before .ran .given .1))
+    rw (toZ-ofZ h) (run-answered _ _ _ _ _ _ (c .before .before .before .before .before .before .before .before .before .before .check-judged .ensures) _ (c .before .before .before .before .before .before .before .before .checked2 .given .1) _ _ (c .before .before .before .before .before .run-judged .ensures) _ _ (c .before .ran .given .1))
 
 same-length-2 : tie.Need-same-length-2
 same-length-2 c = search needs
 
 returns-3 : tie.Need-returns-3
-returns-3 c = run-refused _ _ _ _ _ (c .before .before .before .before .before .before .before .before .before .before .check-judged .ensures) _ (c .before .before .before .before .before .before .before .before .checked2 .given .1) _ _ (c .before .before .before .before .before .run-judged .ensures) _ _ (c .before .ran2 .given .1)
+returns-3 c = run-refused _ _ _ _ _ _ (c .before .before .before .before .before .before .before .before .before .before .check-judged .ensures) _ (c .before .before .before .before .before .before .before .before .checked2 .given .1) _ _ (c .before .before .before .before .before .run-judged .ensures) _ _ (c .before .ran2 .given .1)
 
 same-length-3 : tie.Need-same-length-3
 same-length-3 c = search needs
 
 returns-4 : tie.Need-returns-4
-returns-4 c = run-faulted _ _ _ _ _ (c .before .before .before .before .before .before .before .before .before .before .check-judged .ensures) _ (c .before .before .before .before .before .before .before .before .checked2 .given .1) _ _ (c .before .before .before .before .before .run-judged .ensures) _ _ (c .before .ran3 .given .1)
+returns-4 c = run-faulted _ _ _ _ _ _ (c .before .before .before .before .before .before .before .before .before .before .check-judged .ensures) _ (c .before .before .before .before .before .before .before .before .checked2 .given .1) _ _ (c .before .before .before .before .before .run-judged .ensures) _ _ (c .before .ran3 .given .1)
 
 pub run-checked-spec : {M : Type 1} → statement M
 run-checked-spec =

@@ -29,23 +29,17 @@ returns c = search needs
 array-share-prefix-input : tie.Need-array-share-prefix-input
 array-share-prefix-input c = rw (c .before .n .given .1) at (c .before .before .before .before .read-input .ensures)
 
-slice-aggregate-report : tie.Need-slice-aggregate-report
-slice-aggregate-report c = sym (length-take-le _ _ (rw (c .before .before .n .given .1) at (c .before .before .before .before .before .read-input .ensures)))
+slice-aggregate-report-base : tie.Need-slice-aggregate-report-base
+slice-aggregate-report-base c = sym (length-take-le _ _ (rw (c .before .before .n .given .1) at (c .before .before .before .before .before .read-input .ensures)))
 
-slice-aggregate-report-2 : tie.Need-slice-aggregate-report-2
-slice-aggregate-report-2 c = search needs
-
-slice-aggregate-report-3 : tie.Need-slice-aggregate-report-3
-slice-aggregate-report-3 c = search needs
-
-report-requires : tie.Need-report-requires
-report-requires c κs = search needs
+report-base-requires : tie.Need-report-base-requires
+report-base-requires c κs = search needs
 
 array-share-prefix-line : tie.Need-array-share-prefix-line
-array-share-prefix-line c = c .before .before .report .ensures .1
+array-share-prefix-line c = c .report-base .ensures .1
 
 slice-aggregate-write-all-2 : tie.Need-slice-aggregate-write-all-2
-slice-aggregate-write-all-2 c = sym (length-take-le _ _ (c .before .before .before .report .ensures .1))
+slice-aggregate-write-all-2 c = sym (length-take-le _ _ (c .before .report-base .ensures .1))
 
 write-all-requires-2 : tie.Need-write-all-requires-2
 write-all-requires-2 c κs = search needs
@@ -74,10 +68,8 @@ main-spec =
     write-all-requires
     returns
     array-share-prefix-input
-    slice-aggregate-report
-    slice-aggregate-report-2
-    slice-aggregate-report-3
-    report-requires
+    slice-aggregate-report-base
+    report-base-requires
     array-share-prefix-line
     slice-aggregate-write-all-2
     write-all-requires-2

@@ -12,7 +12,7 @@ same-length : tie.Need-same-length
 same-length c = search needs
 
 returns : tie.Need-returns
-returns c = place-stops _ _ _ _ _ _ (c .before .before .locate .ensures) (c .if1 .taken) (c .before .before .before .before .before .pre .0)
+returns c = place-stops _ _ _ _ _ _ _ (c .before .before .locate .ensures) (c .if1 .taken) (c .before .before .before .before .before .pre .0)
 
 load-requires : tie.Need-load-requires
 load-requires c κs = (c .before .before .before .before .before .before .pre .0, c .before .before .before .locate .ensures .inside)
@@ -21,19 +21,19 @@ drop-any-requires : tie.Need-drop-any-requires
 drop-any-requires c κs = (c .before .before .before .before .before .before .before .before .pre .0, c .before .load .ensures .sound)
 
 same-length-2 : tie.Need-same-length-2
-same-length-2 c = c .before .before .before .drop-any .kept .0
+same-length-2 c = c .before .before .before .drop-any .kept .1 .0
 
 returns-2 : tie.Need-returns-2
-returns-2 c = place-drops _ _ _ _ _ _ (c .before .before .before .before .before .before .before .before .before .locate .ensures) (c .before .before .before .before .before .before .before .if1 .left) _ (c .before .before .before .before .before .load .ensures) _ _ (c .before .before .before .drop-any .ensures) (c .if2 .taken)
+returns-2 c = place-drops _ _ _ _ _ _ _ (c .before .before .before .before .before .before .before .before .before .locate .ensures) (c .before .before .before .before .before .before .before .if1 .left) _ (c .before .before .before .before .before .load .ensures) _ _ (c .before .before .before .drop-any .ensures) (c .if2 .taken)
 
 write-open-requires : tie.Need-write-open-requires
 write-open-requires c κs = (c .before .before .before .before .drop-any .ensures .tidy, c .before .before .before .before .before .before .before .before .before .before .locate .ensures .inside, c .before .before .before .before .before .before .before .before .before .before .before .before .before .pre .2)
 
 same-length-3 : tie.Need-same-length-3
-same-length-3 c = c .before .before .write-open .kept .0 ∙ c .before .before .before .before .before .before .before .drop-any .kept .0
+same-length-3 c = c .before .before .write-open .kept .1 .0 ∙ c .before .before .before .before .before .before .before .drop-any .kept .1 .0
 
 returns-3 : tie.Need-returns-3
-returns-3 c = place-writes _ _ _ _ _ _ (c .before .before .before .before .before .before .before .before .before .before .before .before .before .locate .ensures) (c .before .before .before .before .before .before .before .before .before .before .before .if1 .left) _ (c .before .before .before .before .before .before .before .before .before .load .ensures) _ _ (c .before .before .before .before .before .before .before .drop-any .ensures) (c .before .before .before .before .if2 .left) _ (c .before .before .write-open .ensures)
+returns-3 c = place-writes _ _ _ _ _ _ _ (c .before .before .before .before .before .before .before .before .before .before .before .before .before .locate .ensures) (c .before .before .before .before .before .before .before .before .before .before .before .if1 .left) _ (c .before .before .before .before .before .before .before .before .before .load .ensures) _ _ (c .before .before .before .before .before .before .before .drop-any .ensures) (c .before .before .before .before .if2 .left) _ (c .before .before .write-open .ensures)
 
 pub assign-place-spec : {M : Type 1} → statement M
 assign-place-spec =

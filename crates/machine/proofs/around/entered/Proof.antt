@@ -5,12 +5,12 @@ use mathlib.Core.Path.{refl}
 use Rattle.machine.proofs.around.entered.Statement.{statement}
 use Rattle.machine.proofs.around.entered.Tie as tie
 
-add-t4 : tie.Need-add-t4
-add-t4 c = search needs
+add-t5 : tie.Need-add-t5
+add-t5 c = search needs
 
 returns : tie.Need-returns
 unfolding enteredAt
 returns c = refl
 
 pub entered-spec : {M : Type 1} → statement M
-entered-spec = tie.close (tie.spec add-t4 returns)
+entered-spec = tie.close (tie.spec add-t5 returns)

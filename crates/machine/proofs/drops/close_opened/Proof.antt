@@ -17,16 +17,16 @@ load-requires : tie.Need-load-requires
 load-requires c κs = (c .before .before .before .before .pre .0, omega (arith, c .before .before .before .before .pre .2))
 
 put-row-requires : tie.Need-put-row-requires
-put-row-requires c κs = (c .before .before .before .before .before .before .pre .0, omega (arith, c .before .before .before .before .before .before .pre .2), closed-row)
+put-row-requires c κs = (c .before .before .before .before .before .before .pre .0, omega (arith, c .before .before .before .before .before .before .pre .2), (closed-row _))
 
 drop-any-requires : tie.Need-drop-any-requires
 drop-any-requires c κs = (c .before .before .before .put-row .ensures .tidy, c .before .before .before .before .before .load .ensures .sound)
 
 same-length : tie.Need-same-length
-same-length c = c .before .before .drop-any .kept .0 ∙ c .before .before .before .before .before .before .put-row .kept .0
+same-length c = c .before .before .drop-any .kept .1 .0 ∙ c .before .before .before .before .before .before .put-row .kept .1 .0
 
 returns : tie.Need-returns
-returns c = close-one _ _ (c .before .before .before .before .before .before .before .before .before .before .before .before .before .pre .2) _ (c .before .before .before .before .before .before .before .before .load .ensures) _ (c .before .before .before .before .before .before .put-row .ensures) _ _ (c .before .before .drop-any .ensures)
+returns c = close-one _ _ _ (c .before .before .before .before .before .before .before .before .before .before .before .before .before .pre .2) _ (c .before .before .before .before .before .before .before .before .load .ensures) _ (c .before .before .before .before .before .before .put-row .ensures) _ _ (c .before .before .drop-any .ensures)
 
 pub close-opened-spec : {M : Type 1} → statement M
 close-opened-spec =

@@ -5,7 +5,7 @@ use Rattle.machine.proofs.drops.drop_any.Statement.{statement}
 use Rattle.machine.proofs.drops.drop_any.Tie as tie
 
 returns : tie.Need-returns
-returns c = drop-other _ _ _ (c .if1 .taken) (c .before .before .pre .0)
+returns c = drop-other _ _ _ _ (c .if1 .taken) (c .before .before .pre .0)
 
 drop-value-requires : tie.Need-drop-value-requires
 drop-value-requires c κs = search needs

@@ -11,13 +11,13 @@ failed-requires : tie.Need-failed-requires
 failed-requires c κs = search needs
 
 returns : tie.Need-returns
-returns c = copy-stops _ _ _ _ (c .before .before .before .locate .ensures) (c .before .if1 .taken) _ (record { is = c .failed .ensures .0; none = c .failed .ensures .1; zero = c .failed .ensures .2 })
+returns c = copy-stops _ _ _ _ _ (c .before .before .before .locate .ensures) (c .before .if1 .taken) _ (record { is = c .failed .ensures .0; none = c .failed .ensures .1; zero = c .failed .ensures .2 })
 
 read-row-requires : tie.Need-read-row-requires
 read-row-requires c κs = (c .before .before .before .before .pre .0, c .before .before .locate .ensures .inside)
 
 returns-2 : tie.Need-returns-2
-returns-2 c = copy-goes _ _ _ _ (c .before .before .before .locate .ensures) (c .before .if1 .left) _ (c .read-row .ensures)
+returns-2 c = copy-goes _ _ _ _ _ (c .before .before .before .locate .ensures) (c .before .if1 .left) _ (c .read-row .ensures)
 
 pub run-copy-spec : {M : Type 1} → statement M
 run-copy-spec =

@@ -25,16 +25,16 @@ numbered-requires : tie.Need-numbered-requires
 numbered-requires c κs = search needs
 
 reading-bits-requires : tie.Need-reading-bits-requires
-reading-bits-requires c κs = omega (arith, c .before .before .before .before .before .before .before .before .pre .eight, c .before .before .before .index-of .ensures, c .before .before .before .before .field-at2 .ensures, reading-leaf _ _ (c .before .before .before .before .before .before .before .before .pre .leaf) (sym (c .before .before .before .before .before .field-at .ensures) ∙ c .match .keys2) .0)
+reading-bits-requires c κs = omega (arith, c .before .before .before .before .before .before .before .before .pre .eight, c .before .before .before .index-of .ensures, c .before .before .before .before .field-at2 .ensures, reading-leaf _ _ _ (c .before .before .before .before .before .before .before .before .pre .leaf) (sym (c .before .before .before .before .before .field-at .ensures) ∙ c .match .keys2) .0)
 
 numbered-requires-2 : tie.Need-numbered-requires-2
 numbered-requires-2 c κs = search needs
 
 run-copy-requires : tie.Need-run-copy-requires
-run-copy-requires c κs = ((c .before .before .before .before .before .before .before .before .before .pre .tidy), omega (arith, c .before .before .before .before .index-of .ensures, c .before .before .before .before .before .field-at2 .ensures, copy-leaf _ _ (c .before .before .before .before .before .before .before .before .before .pre .leaf) (sym (c .before .before .before .before .before .before .field-at .ensures) ∙ c .before .match .keys3) .0))
+run-copy-requires c κs = ((c .before .before .before .before .before .before .before .before .before .pre .tidy), omega (arith, c .before .before .before .before .index-of .ensures, c .before .before .before .before .before .field-at2 .ensures, copy-leaf _ _ _ (c .before .before .before .before .before .before .before .before .before .pre .leaf) (sym (c .before .before .before .before .before .before .field-at .ensures) ∙ c .before .match .keys3) .0))
 
 run-move-requires : tie.Need-run-move-requires
-run-move-requires c κs = ((c .before .before .before .before .before .before .before .before .before .pre .tidy), omega (arith, c .before .before .before .before .index-of .ensures, c .before .before .before .before .before .field-at2 .ensures, move-leaf _ _ (c .before .before .before .before .before .before .before .before .before .pre .leaf) (sym (c .before .before .before .before .before .before .field-at .ensures) ∙ c .before .match .keys4) .0))
+run-move-requires c κs = ((c .before .before .before .before .before .before .before .before .before .pre .tidy), omega (arith, c .before .before .before .before .index-of .ensures, c .before .before .before .before .before .field-at2 .ensures, move-leaf _ _ _ (c .before .before .before .before .before .before .before .before .before .pre .leaf) (sym (c .before .before .before .before .before .before .field-at .ensures) ∙ c .before .match .keys4) .0))
 
 field-at-requires-4 : tie.Need-field-at-requires-4
 field-at-requires-4 c κs = (c .before .before .before .before .before .before .before .before .pre .room, omega arith)
@@ -49,36 +49,36 @@ index-of-requires-4 : tie.Need-index-of-requires-4
 index-of-requires-4 c κs = search needs
 
 run-below-requires : tie.Need-run-below-requires
-run-below-requires c κs = ((c .before .before .before .before .before .before .before .before .before .before .before .before .before .pre .tidy), omega (arith, c .before .before .before .before .before .before .before .before .index-of .ensures, c .before .before .before .before .before .before .before .before .before .field-at2 .ensures, below-leaf _ _ (c .before .before .before .before .before .before .before .before .before .before .before .before .before .pre .leaf) (sym (c .before .before .before .before .before .before .before .before .before .before .field-at .ensures) ∙ c .before .before .before .before .before .match .keys5) .0), omega (arith, c .before .before .before .index-of3 .ensures, c .before .before .before .before .field-at4 .ensures, below-leaf _ _ (c .before .before .before .before .before .before .before .before .before .before .before .before .before .pre .leaf) (sym (c .before .before .before .before .before .before .before .before .before .before .field-at .ensures) ∙ c .before .before .before .before .before .match .keys5) .1))
+run-below-requires c κs = ((c .before .before .before .before .before .before .before .before .before .before .before .before .before .pre .tidy), omega (arith, c .before .before .before .before .before .before .before .before .index-of .ensures, c .before .before .before .before .before .before .before .before .before .field-at2 .ensures, below-leaf _ _ _ (c .before .before .before .before .before .before .before .before .before .before .before .before .before .pre .leaf) (sym (c .before .before .before .before .before .before .before .before .before .before .field-at .ensures) ∙ c .before .before .before .before .before .match .keys5) .0), omega (arith, c .before .before .before .index-of3 .ensures, c .before .before .before .before .field-at4 .ensures, below-leaf _ _ _ (c .before .before .before .before .before .before .before .before .before .before .before .before .before .pre .leaf) (sym (c .before .before .before .before .before .before .before .before .before .before .field-at .ensures) ∙ c .before .before .before .before .before .match .keys5) .1))
 
 run-borrow-requires : tie.Need-run-borrow-requires
 run-borrow-requires c κs =
     let r = c .before .match .rest in
-    ((c .before .before .before .before .before .before .before .before .before .pre .tidy), omega (arith, c .before .before .before .before .index-of .ensures, c .before .before .before .before .before .field-at2 .ensures, borrow-leaf _ _ (c .before .before .before .before .before .before .before .before .before .pre .leaf) _ (c .before .before .before .before .before .before .field-at .ensures) (r .0 .0 .0 .0 .1) (r .0 .0 .0 .1) (r .0 .0 .1) (r .0 .1) (r .1) .0))
+    ((c .before .before .before .before .before .before .before .before .before .pre .tidy), omega (arith, c .before .before .before .before .index-of .ensures, c .before .before .before .before .before .field-at2 .ensures, borrow-leaf _ _ _ (c .before .before .before .before .before .before .before .before .before .pre .leaf) _ (c .before .before .before .before .before .before .field-at .ensures) (r .0 .0 .0 .0 .1) (r .0 .0 .0 .1) (r .0 .0 .1) (r .0 .1) (r .1) .0))
 
 returns : tie.Need-returns
-returns c = leaf-number _ _ (c .before .before .before .before .before .before .before .before .before .pre .leaf) _ _ (sym (c .before .before .before .before .before .before .field-at .ensures) ∙ c .before .match .keys1) (c .before .before .before .before .before .before .before .before .before .pre .tidy) _ (c .before .before .before .before .before .field-at2 .ensures) _ (record { fine = c .numbered .ensures .0; kind = c .numbered .ensures .1; is = c .numbered .ensures .2 })
+returns c = leaf-number _ _ _ (c .before .before .before .before .before .before .before .before .before .pre .leaf) _ _ (sym (c .before .before .before .before .before .before .field-at .ensures) ∙ c .before .match .keys1) (c .before .before .before .before .before .before .before .before .before .pre .tidy) _ (c .before .before .before .before .before .field-at2 .ensures) _ (record { fine = c .numbered .ensures .0; kind = c .numbered .ensures .1; is = c .numbered .ensures .2 })
 
 returns-2 : tie.Need-returns-2
-returns-2 c = leaf-reading _ _ (c .before .before .before .before .before .before .before .before .before .before .pre .leaf) _ _ (sym (c .before .before .before .before .before .before .before .field-at .ensures) ∙ c .before .before .match .keys2) (c .before .before .before .before .before .before .before .before .before .before .pre .tidy) _ _ (c .before .before .before .before .before .index-of .ensures ∙ c .before .before .before .before .before .before .field-at2 .ensures) (c .before .reading-bits .ensures) _ (record { fine = c .numbered2 .ensures .0; kind = c .numbered2 .ensures .1; is = c .numbered2 .ensures .2 })
+returns-2 c = leaf-reading _ _ _ (c .before .before .before .before .before .before .before .before .before .before .pre .leaf) _ _ (sym (c .before .before .before .before .before .before .before .field-at .ensures) ∙ c .before .before .match .keys2) (c .before .before .before .before .before .before .before .before .before .before .pre .tidy) _ _ (c .before .before .before .before .before .index-of .ensures ∙ c .before .before .before .before .before .before .field-at2 .ensures) (c .before .reading-bits .ensures) _ (record { fine = c .numbered2 .ensures .0; kind = c .numbered2 .ensures .1; is = c .numbered2 .ensures .2 })
 
 same-length : tie.Need-same-length
 same-length c = search needs
 
 returns-3 : tie.Need-returns-3
-returns-3 c = leaf-copy _ _ (c .before .before .before .before .before .before .before .before .before .before .pre .leaf) _ _ _ _ (c .before .before .before .before .before .index-of .ensures ∙ c .before .before .before .before .before .before .field-at2 .ensures) (c .before .before .before .index-of2 .ensures ∙ c .before .before .before .before .field-at3 .ensures) (sym (c .before .before .before .before .before .before .before .field-at .ensures) ∙ c .before .before .match .keys3) (c .before .before .before .before .before .before .before .before .before .before .pre .tidy) _ (c .run-copy .ensures)
+returns-3 c = leaf-copy _ _ _ (c .before .before .before .before .before .before .before .before .before .before .pre .leaf) _ _ _ _ (c .before .before .before .before .before .index-of .ensures ∙ c .before .before .before .before .before .before .field-at2 .ensures) (c .before .before .before .index-of2 .ensures ∙ c .before .before .before .before .field-at3 .ensures) (sym (c .before .before .before .before .before .before .before .field-at .ensures) ∙ c .before .before .match .keys3) (c .before .before .before .before .before .before .before .before .before .before .pre .tidy) _ (c .run-copy .ensures)
 
 same-length-2 : tie.Need-same-length-2
-same-length-2 c = c .before .before .run-move .kept .0
+same-length-2 c = c .before .before .run-move .kept .1 .0
 
 returns-4 : tie.Need-returns-4
-returns-4 c = leaf-move _ _ (c .before .before .before .before .before .before .before .before .before .before .before .before .pre .leaf) _ _ _ _ (c .before .before .before .before .before .before .before .index-of .ensures ∙ c .before .before .before .before .before .before .before .before .field-at2 .ensures) (c .before .before .before .before .before .index-of2 .ensures ∙ c .before .before .before .before .before .before .field-at3 .ensures) (sym (c .before .before .before .before .before .before .before .before .before .field-at .ensures) ∙ c .before .before .before .before .match .keys4) _ _ (c .before .before .run-move .ensures)
+returns-4 c = leaf-move _ _ _ (c .before .before .before .before .before .before .before .before .before .before .before .before .pre .leaf) _ _ _ _ (c .before .before .before .before .before .before .before .index-of .ensures ∙ c .before .before .before .before .before .before .before .before .field-at2 .ensures) (c .before .before .before .before .before .index-of2 .ensures ∙ c .before .before .before .before .before .before .field-at3 .ensures) (sym (c .before .before .before .before .before .before .before .before .before .field-at .ensures) ∙ c .before .before .before .before .match .keys4) _ _ (c .before .before .run-move .ensures)
 
 same-length-3 : tie.Need-same-length-3
 same-length-3 c = search needs
 
 returns-5 : tie.Need-returns-5
-returns-5 c = leaf-below _ _ (c .before .before .before .before .before .before .before .before .before .before .before .before .before .before .pre .leaf) _ _ _ _ (c .before .before .before .before .before .before .before .before .before .index-of .ensures ∙ c .before .before .before .before .before .before .before .before .before .before .field-at2 .ensures) (c .before .before .before .before .before .before .before .index-of2 .ensures ∙ c .before .before .before .before .before .before .before .before .field-at3 .ensures) (sym (c .before .before .before .before .before .before .before .before .before .before .before .field-at .ensures) ∙ c .before .before .before .before .before .before .match .keys5) (c .before .before .before .before .before .before .before .before .before .before .before .before .before .before .pre .tidy) _ _ (c .before .before .before .before .index-of3 .ensures ∙ c .before .before .before .before .before .field-at4 .ensures) (c .before .before .index-of4 .ensures ∙ c .before .before .before .field-at5 .ensures) _ (c .run-below .ensures)
+returns-5 c = leaf-below _ _ _ (c .before .before .before .before .before .before .before .before .before .before .before .before .before .before .pre .leaf) _ _ _ _ (c .before .before .before .before .before .before .before .before .before .index-of .ensures ∙ c .before .before .before .before .before .before .before .before .before .before .field-at2 .ensures) (c .before .before .before .before .before .before .before .index-of2 .ensures ∙ c .before .before .before .before .before .before .before .before .field-at3 .ensures) (sym (c .before .before .before .before .before .before .before .before .before .before .before .field-at .ensures) ∙ c .before .before .before .before .before .before .match .keys5) (c .before .before .before .before .before .before .before .before .before .before .before .before .before .before .pre .tidy) _ _ (c .before .before .before .before .index-of3 .ensures ∙ c .before .before .before .before .before .field-at4 .ensures) (c .before .before .index-of4 .ensures ∙ c .before .before .before .field-at5 .ensures) _ (c .run-below .ensures)
 
 same-length-4 : tie.Need-same-length-4
 same-length-4 c = search needs
@@ -86,7 +86,7 @@ same-length-4 c = search needs
 returns-6 : tie.Need-returns-6
 returns-6 c =
     let r = c .before .before .match .rest in
-    leaf-borrow _ _ (c .before .before .before .before .before .before .before .before .before .before .pre .leaf) _ _ _ _ (c .before .before .before .before .before .index-of .ensures ∙ c .before .before .before .before .before .before .field-at2 .ensures) (c .before .before .before .index-of2 .ensures ∙ c .before .before .before .before .field-at3 .ensures) _ (c .before .before .before .before .before .before .before .field-at .ensures) (r .0 .0 .0 .0 .1) (r .0 .0 .0 .1) (r .0 .0 .1) (r .0 .1) (r .1) (c .before .before .before .before .before .before .before .before .before .before .pre .tidy) _ (c .run-borrow .ensures)
+    leaf-borrow _ _ _ (c .before .before .before .before .before .before .before .before .before .before .pre .leaf) _ _ _ _ (c .before .before .before .before .before .index-of .ensures ∙ c .before .before .before .before .before .before .field-at2 .ensures) (c .before .before .before .index-of2 .ensures ∙ c .before .before .before .before .field-at3 .ensures) _ (c .before .before .before .before .before .before .before .field-at .ensures) (r .0 .0 .0 .0 .1) (r .0 .0 .0 .1) (r .0 .0 .1) (r .0 .1) (r .1) (c .before .before .before .before .before .before .before .before .before .before .pre .tidy) _ (c .run-borrow .ensures)
 
 pub run-leaf-spec : {M : Type 1} → statement M
 run-leaf-spec =

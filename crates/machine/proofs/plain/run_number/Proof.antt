@@ -8,16 +8,16 @@ run-copy-requires : tie.Need-run-copy-requires
 run-copy-requires c κs = search needs
 
 returns : tie.Need-returns
-returns c = number-stops _ _ _ _ (c .before .before .run-copy .ensures) (c .if1 .taken)
+returns c = number-stops _ _ _ _ _ (c .before .before .run-copy .ensures) (c .if1 .taken)
 
 failed-requires : tie.Need-failed-requires
 failed-requires c κs = search needs
 
 returns-2 : tie.Need-returns-2
-returns-2 c = number-wrong _ _ _ _ (c .before .before .before .before .before .run-copy .ensures) (c .before .before .before .if1 .left) (c .before .if2 .taken) _ (record { is = c .failed .ensures .0; none = c .failed .ensures .1; zero = c .failed .ensures .2 })
+returns-2 c = number-wrong _ _ _ _ _ (c .before .before .before .before .before .run-copy .ensures) (c .before .before .before .if1 .left) (c .before .if2 .taken) _ (record { is = c .failed .ensures .0; none = c .failed .ensures .1; zero = c .failed .ensures .2 })
 
 returns-3 : tie.Need-returns-3
-returns-3 c = number-goes _ _ _ _ (c .before .before .before .before .run-copy .ensures) (c .before .before .if1 .left) (c .if2 .left)
+returns-3 c = number-goes _ _ _ _ _ (c .before .before .before .before .run-copy .ensures) (c .before .before .if1 .left) (c .if2 .left)
 
 pub run-number-spec : {M : Type 1} → statement M
 run-number-spec =

@@ -1,5 +1,6 @@
 -- `machine::store::put_row` meets its contract. Assumes nothing.
 use Rattle.machine.proofs.WordLaws.{written}
+use Rattle.reader.specs.Limits.{storeNumbers}
 use borrow.Author.Needs.{needs}
 use native.Mathlib.Omega.{arith}
 use mathlib.Core.Path.{refl}
@@ -26,25 +27,28 @@ mul-store : tie.Need-mul-store
 mul-store c = search needs
 
 slice-write-store : tie.Need-slice-write-store
+unfolding storeNumbers
 slice-write-store c = omega (arith, c .pre .0 .long)
 
 mul-store-2 : tie.Need-mul-store-2
 mul-store-2 c = search needs
 
 slice-write-store-2 : tie.Need-slice-write-store-2
+unfolding storeNumbers
 slice-write-store-2 c = simp length-set (omega (arith, c .pre .0 .long))
 
 mul-store-3 : tie.Need-mul-store-3
 mul-store-3 c = search needs
 
 slice-write-store-3 : tie.Need-slice-write-store-3
+unfolding storeNumbers
 slice-write-store-3 c = simp length-set (omega (arith, c .pre .0 .long))
 
 same-length : tie.Need-same-length
 same-length c = search needs
 
 returns : tie.Need-returns
-returns c = written _ _ _ _ _ _ (c .pre .0) (c .pre .1) (c .pre .2) refl
+returns c = written _ _ _ _ _ _ _ (c .pre .0) (c .pre .1) (c .pre .2) refl
 
 pub put-row-spec : {M : Type 1} → statement M
 put-row-spec =

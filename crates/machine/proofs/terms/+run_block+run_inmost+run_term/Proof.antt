@@ -1,5 +1,6 @@
 -- Terms and blocks, which call each other. The measure is three times the levels left, one more for a term and two for a block. The block's loop has the invariant `Going`, the term's two loops `Inwards` and `Outwards`. Assumes nothing.
 use Rattle.reader.specs.Kinds.{wrapsOf}
+use Rattle.reader.specs.Limits.{rowNumbers, unpacked}
 use Rattle.reader.proofs.RowTreeLaws.{has-level, has-room}
 use Rattle.machine.proofs.BlockRunLaws.{Going, going-ends, going-drops, turn-ready, going-stops, going-goes, going-enters, block-ready, block-ending, block-returns}
 use Rattle.machine.proofs.WrapLaws.{inmost-ready, inmost-returns, Inwards, Outwards, inwards-starts, inwards-here, inwards-room, inwards-level, inwards-goes, outwards-starts, outwards-ends, outwards-after, outwards-goes}
@@ -31,13 +32,13 @@ use Rattle.machine.proofs.terms.+run_block+run_inmost+run_term.{stateme
 use Rattle.machine.proofs.terms.+run_block+run_inmost+run_term.Tie.{close}
 
 abbrev μ-run-block : Measures 4 run-block-kinds.ps ℕ
-μ-run-block κs a = a .1 .1 .0 * 3 + 2
+μ-run-block κs a = a .1 .1 .1 .0 * 3 + 2
 
 abbrev μ-run-inmost : Measures 4 run-inmost-kinds.ps ℕ
-μ-run-inmost κs a = a .1 .1 .0 * 3
+μ-run-inmost κs a = a .1 .1 .1 .0 * 3
 
 abbrev μ-run-term : Measures 4 run-term-kinds.ps ℕ
-μ-run-term κs a = a .1 .1 .0 * 3 + 1
+μ-run-term κs a = a .1 .1 .1 .0 * 3 + 1
 
 abbrev run-block-at : ℕ → In 4 run-block-kinds.ps
 run-block-at t = and 4 run-block-kinds.ps (is 4 run-block-kinds.ps μ-run-block t) run-block.Pre
@@ -62,10 +63,10 @@ run-term-below t =
     and 4 run-term-kinds.ps (falls 4 run-term-kinds.ps _<_ μ-run-term t) run-term.Pre
 
 abbrev run-block-Inv-loop : run-block-lts.InvT-loop
-run-block-Inv-loop rows block levels readings store₀ opened₀ count taken left₀ at₀ store opened left at = Going rows block levels readings store₀ opened₀ count taken store opened left at
+run-block-Inv-loop sizes rows block levels readings store₀ opened₀ count taken left₀ at₀ store opened left at = Going (unpacked sizes) rows block levels readings store₀ opened₀ count taken store opened left at
 
 abbrev run-block-μ-loop : run-block-lts.MeasureT-loop
-run-block-μ-loop rows block levels readings store₀ opened₀ count taken left₀ at₀ store opened left at = left
+run-block-μ-loop sizes rows block levels readings store₀ opened₀ count taken left₀ at₀ store opened left at = left
 
 abbrev run-block-claims : ℕ → run-block-lts.Claims
 run-block-claims t = (field-at-reads.Asked, field-at-reads.Learnt, index-of-reads.Asked, index-of-reads.Learnt, entered-reads.Asked, entered-reads.Learnt, drop-any-reads.Asked, drop-any-reads.Learnt, without-value-reads.Asked, without-value-reads.Learnt, run-term-below t, run-term.Post)
@@ -77,6 +78,7 @@ abbrev run-term-claims : ℕ → run-term-lts.Claims
 run-term-claims t = (field-at-reads.Asked, field-at-reads.Learnt, wraps-reads.Asked, wraps-reads.Learnt, run-inmost-below t, run-inmost.Post, run-after-reads.Asked, run-after-reads.Learnt)
 
 run-block-field-at-requires : (t : ℕ) → run-block-lts.Need-field-at-requires (run-block-claims t) (run-block-at t) run-block.Post run-block-Inv-loop run-block-μ-loop
+unfolding rowNumbers
 run-block-field-at-requires t c κs = (omega (arith, c .before .before .before .pre .1 .room, c .before .before .before .pre .1 .ready .long), omega arith)
 
 run-block-index-of-requires : (t : ℕ) → run-block-lts.Need-index-of-requires (run-block-claims t) (run-block-at t) run-block.Post run-block-Inv-loop run-block-μ-loop
@@ -90,7 +92,7 @@ run-block-loop-holds t c =
     let at-index-of = c .before in
     let at-field-at = at-index-of .before in
     let start = at-field-at .before .before .before .before in
-    going-enters _ _ _ _ _ _ _ _ (start .pre .1) _ (at-index-of .index-of .ensures ∙ at-field-at .field-at .ensures) _ (c .entered .ensures)
+    going-enters _ _ _ _ _ _ _ _ _ (start .pre .1) _ (at-index-of .index-of .ensures ∙ at-field-at .field-at .ensures) _ (c .entered .ensures)
 
 run-block-drop-any-requires : (t : ℕ) → run-block-lts.Need-drop-any-requires (run-block-claims t) (run-block-at t) run-block.Post run-block-Inv-loop run-block-μ-loop
 run-block-drop-any-requires t c κs = (c .before .before .loop .inv .ready .tidy, c .before .before .loop .inv .sound)
@@ -107,8 +109,7 @@ run-block-same-length t c =
 run-block-same-length-2 : (t : ℕ) → run-block-lts.Need-same-length-2 (run-block-claims t) (run-block-at t) run-block.Post run-block-Inv-loop run-block-μ-loop
 run-block-same-length-2 t c =
     let at-loop = c .before .before .before .before .before .before .before in
-    let start = at-loop .before .before .before .before .before .before .before in
-    at-loop .loop .inv .ready .many ∙ sym (start .pre .1 .ready .many)
+    at-loop .loop .inv .same
 
 run-block-returns : (t : ℕ) → run-block-lts.Need-returns (run-block-claims t) (run-block-at t) run-block.Post run-block-Inv-loop run-block-μ-loop
 run-block-returns t c =
@@ -116,7 +117,7 @@ run-block-returns t c =
     let at-drop-any = at-if1 .before .before .before in
     let at-loop-test = at-drop-any .before .before in
     let at-loop = at-loop-test .before in
-    going-drops _ _ _ _ _ _ _ _ _ _ _ _ (at-loop .loop .inv) (at-loop-test .loop-test .taken) _ _ (at-drop-any .drop-any .ensures) (at-if1 .if1 .taken) _ (c .without-value .ensures)
+    going-drops _ _ _ _ _ _ _ _ _ _ _ _ _ (at-loop .loop .inv) (at-loop-test .loop-test .taken) _ _ (at-drop-any .drop-any .ensures) (at-if1 .if1 .taken) _ (c .without-value .ensures)
 
 run-block-run-term-requires : (t : ℕ) → run-block-lts.Need-run-term-requires (run-block-claims t) (run-block-at t) run-block.Post run-block-Inv-loop run-block-μ-loop
 run-block-run-term-requires t c κs =
@@ -125,7 +126,7 @@ run-block-run-term-requires t c κs =
     let at-loop-test = at-drop-any .before .before in
     let at-loop = at-loop-test .before in
     let start = at-loop .before .before .before .before .before .before .before in
-    (omega (arith, start .pre .0), turn-ready _ _ _ _ _ _ _ _ _ _ _ _ (at-loop .loop .inv) (at-loop-test .loop-test .taken) _ _ (at-drop-any .drop-any .ensures) (at-if1 .if1 .left))
+    (omega (arith, start .pre .0), turn-ready _ _ _ _ _ _ _ _ _ _ _ _ _ (at-loop .loop .inv) (at-loop-test .loop-test .taken) _ _ (at-drop-any .drop-any .ensures) (at-if1 .if1 .left))
 
 run-block-same-length-3 : (t : ℕ) → run-block-lts.Need-same-length-3 (run-block-claims t) (run-block-at t) run-block.Post run-block-Inv-loop run-block-μ-loop
 run-block-same-length-3 t c =
@@ -137,8 +138,7 @@ run-block-same-length-4 : (t : ℕ) → run-block-lts.Need-same-length-4 (run-bl
 run-block-same-length-4 t c =
     let at-run-term = c .before .before .before .before .before .before in
     let at-loop = at-run-term .before .before .before .before .before .before .before .before .before in
-    let start = at-loop .before .before .before .before .before .before .before in
-    at-run-term .run-term .kept .1 .1 .1 .1 .1 .0 ∙ at-loop .loop .inv .ready .many ∙ sym (start .pre .1 .ready .many)
+    at-run-term .run-term .kept .1 .1 .1 .1 .1 .1 .0 ∙ at-loop .loop .inv .same
 
 run-block-returns-2 : (t : ℕ) → run-block-lts.Need-returns-2 (run-block-claims t) (run-block-at t) run-block.Post run-block-Inv-loop run-block-μ-loop
 run-block-returns-2 t c =
@@ -147,7 +147,7 @@ run-block-returns-2 t c =
     let at-drop-any = at-if1 .before .before .before in
     let at-loop-test = at-drop-any .before .before in
     let at-loop = at-loop-test .before in
-    going-stops _ _ _ _ _ _ _ _ _ _ _ _ (at-loop .loop .inv) (at-loop-test .loop-test .taken) _ _ (at-drop-any .drop-any .ensures) (at-if1 .if1 .left) _ _ _ (at-run-term .run-term .ensures) (c .if2 .taken)
+    going-stops _ _ _ _ _ _ _ _ _ _ _ _ _ (at-loop .loop .inv) (at-loop-test .loop-test .taken) _ _ (at-drop-any .drop-any .ensures) (at-if1 .if1 .left) _ _ _ (at-run-term .run-term .ensures) (c .if2 .taken)
 
 run-block-sub-left : (t : ℕ) → run-block-lts.Need-sub-left (run-block-claims t) (run-block-at t) run-block.Post run-block-Inv-loop run-block-μ-loop
 run-block-sub-left t c = omega arith
@@ -162,7 +162,7 @@ run-block-loop-again t c =
     let at-drop-any = at-if1 .before .before .before in
     let at-loop-test = at-drop-any .before .before in
     let at-loop = at-loop-test .before in
-    going-goes _ _ _ _ _ _ _ _ _ _ _ _ (at-loop .loop .inv) (at-loop-test .loop-test .taken) _ _ (at-drop-any .drop-any .ensures) (at-if1 .if1 .left) _ _ _ (at-run-term .run-term .ensures) (c .if2 .left) (at-run-term .run-term .kept .1 .1 .1 .1 .1 .0 ∙ at-loop .loop .inv .ready .many)
+    going-goes _ _ _ _ _ _ _ _ _ _ _ _ _ (at-loop .loop .inv) (at-loop-test .loop-test .taken) _ _ (at-drop-any .drop-any .ensures) (at-if1 .if1 .left) _ _ _ (at-run-term .run-term .ensures) (c .if2 .left) (at-run-term .run-term .kept .1 .1 .1 .1 .1 .1 .0)
 
 run-block-same-length-5 : (t : ℕ) → run-block-lts.Need-same-length-5 (run-block-claims t) (run-block-at t) run-block.Post run-block-Inv-loop run-block-μ-loop
 run-block-same-length-5 t c =
@@ -173,11 +173,10 @@ run-block-same-length-5 t c =
 run-block-same-length-6 : (t : ℕ) → run-block-lts.Need-same-length-6 (run-block-claims t) (run-block-at t) run-block.Post run-block-Inv-loop run-block-μ-loop
 run-block-same-length-6 t c =
     let at-loop = c .before in
-    let start = at-loop .before .before .before .before .before .before .before in
-    at-loop .loop .inv .ready .many ∙ sym (start .pre .1 .ready .many)
+    at-loop .loop .inv .same
 
 run-block-returns-3 : (t : ℕ) → run-block-lts.Need-returns-3 (run-block-claims t) (run-block-at t) run-block.Post run-block-Inv-loop run-block-μ-loop
-run-block-returns-3 t c = going-ends _ _ _ _ _ _ _ _ _ _ _ _ (c .before .loop .inv) (c .loop-test .left)
+run-block-returns-3 t c = going-ends _ _ _ _ _ _ _ _ _ _ _ _ _ (c .before .loop .inv) (c .loop-test .left)
 
 run-inmost-field-at-requires : (t : ℕ) → run-inmost-lts.Need-field-at-requires (run-inmost-claims t) (run-inmost-at t) run-inmost.Post
 run-inmost-field-at-requires t c κs = (has-room _ _ _ _ (c .before .before .before .pre .1 .0 .is), omega arith)
@@ -190,7 +189,7 @@ run-inmost-run-block-requires t c κs =
     let at-if1 = c .before .before in
     let at-field-at = at-if1 .before in
     let start = at-field-at .before .before .before .before in
-    (omega (arith, start .pre .0, has-level _ _ _ _ (start .pre .1 .0 .is)), block-ready _ _ _ _ _ _ _ _ (start .pre .1 .0) (sym (at-field-at .field-at .ensures) ∙ at-if1 .if1 .taken))
+    (omega (arith, start .pre .0, has-level _ _ _ _ (start .pre .1 .0 .is)), block-ready _ _ _ _ _ _ _ _ _ (start .pre .1 .0) (sym (at-field-at .field-at .ensures) ∙ at-if1 .if1 .taken))
 
 run-inmost-close-block-requires : (t : ℕ) → run-inmost-lts.Need-close-block-requires (run-inmost-claims t) (run-inmost-at t) run-inmost.Post
 run-inmost-close-block-requires t c κs =
@@ -198,7 +197,7 @@ run-inmost-close-block-requires t c κs =
     let at-if1 = at-run-block .before .before .before in
     let at-field-at = at-if1 .before in
     let start = at-field-at .before .before .before .before in
-    block-ending _ _ _ _ _ _ _ _ (start .pre .1 .0) (sym (at-field-at .field-at .ensures) ∙ at-if1 .if1 .taken) _ _ _ (at-run-block .run-block .ensures) (at-run-block .run-block .kept .1 .1 .1 .1 .1 .0 ∙ start .pre .1 .0 .ready .many)
+    block-ending _ _ _ _ _ _ _ _ _ (start .pre .1 .0) (sym (at-field-at .field-at .ensures) ∙ at-if1 .if1 .taken) _ _ _ (at-run-block .run-block .ensures) (at-run-block .run-block .kept .1 .1 .1 .1 .1 .1 .0)
 
 run-inmost-same-length : (t : ℕ) → run-inmost-lts.Need-same-length (run-inmost-claims t) (run-inmost-at t) run-inmost.Post
 run-inmost-same-length t c =
@@ -207,7 +206,7 @@ run-inmost-same-length t c =
     at-close-block .close-block .ensures .tidy .long ∙ sym (start .pre .1 .0 .ready .tidy .long)
 
 run-inmost-same-length-2 : (t : ℕ) → run-inmost-lts.Need-same-length-2 (run-inmost-claims t) (run-inmost-at t) run-inmost.Post
-run-inmost-same-length-2 t c = c .before .before .before .before .before .before .before .before .before .run-block .kept .1 .1 .1 .1 .1 .0
+run-inmost-same-length-2 t c = c .before .before .before .before .before .before .before .before .before .run-block .kept .1 .1 .1 .1 .1 .1 .0
 
 run-inmost-returns : (t : ℕ) → run-inmost-lts.Need-returns (run-inmost-claims t) (run-inmost-at t) run-inmost.Post
 run-inmost-returns t c =
@@ -216,14 +215,15 @@ run-inmost-returns t c =
     let at-if1 = at-run-block .before .before .before in
     let at-field-at = at-if1 .before in
     let start = at-field-at .before .before .before .before in
-    block-returns _ _ _ _ _ _ _ _ (start .pre .1 .0) (sym (at-field-at .field-at .ensures) ∙ at-if1 .if1 .taken) _ _ _ (at-run-block .run-block .ensures) _ _ (at-close-block .close-block .ensures)
+    block-returns _ _ _ _ _ _ _ _ _ (start .pre .1 .0) (sym (at-field-at .field-at .ensures) ∙ at-if1 .if1 .taken) _ _ _ (at-run-block .run-block .ensures) _ _ (at-close-block .close-block .ensures)
 
 run-inmost-run-plain-requires : (t : ℕ) → run-inmost-lts.Need-run-plain-requires (run-inmost-claims t) (run-inmost-at t) run-inmost.Post
+unfolding rowNumbers
 run-inmost-run-plain-requires t c κs =
     let at-if1 = c .before in
     let at-field-at = at-if1 .before in
     let start = at-field-at .before .before .before .before in
-    (inmost-ready _ _ _ _ _ _ _ _ (start .pre .1 .0) (start .pre .1 .1) _ (at-field-at .field-at .ensures) (at-if1 .if1 .left), omega (arith, has-room _ _ _ _ (start .pre .1 .0 .is), start .pre .1 .0 .ready .long))
+    (inmost-ready _ _ _ _ _ _ _ _ _ (start .pre .1 .0) (start .pre .1 .1) _ (at-field-at .field-at .ensures) (at-if1 .if1 .left), omega (arith, has-room _ _ _ _ (start .pre .1 .0 .is), start .pre .1 .0 .ready .long))
 
 run-inmost-same-length-3 : (t : ℕ) → run-inmost-lts.Need-same-length-3 (run-inmost-claims t) (run-inmost-at t) run-inmost.Post
 run-inmost-same-length-3 t c =
@@ -237,46 +237,46 @@ run-inmost-returns-2 t c =
     let at-if1 = at-run-plain .before .before in
     let at-field-at = at-if1 .before in
     let start = at-field-at .before .before .before .before in
-    inmost-returns _ _ _ _ _ _ _ _ (start .pre .1 .0) (start .pre .1 .1) _ (at-field-at .field-at .ensures) (at-if1 .if1 .left) _ _ (at-run-plain .run-plain .ensures)
+    inmost-returns _ _ _ _ _ _ _ _ _ (start .pre .1 .0) (start .pre .1 .1) _ (at-field-at .field-at .ensures) (at-if1 .if1 .left) _ _ (at-run-plain .run-plain .ensures)
 
 abbrev run-term-Inv-loop : run-term-lts.InvT-loop
-run-term-Inv-loop rows i levels readings store opened count taken around₀ around = Inwards rows i levels readings store opened count taken around
+run-term-Inv-loop sizes rows i levels readings store opened count taken around₀ around = Inwards (unpacked sizes) rows i levels readings store opened count taken around
 
 abbrev run-term-μ-loop : run-term-lts.MeasureT-loop
-run-term-μ-loop rows i levels readings store opened count taken around₀ around = levels - around
+run-term-μ-loop sizes rows i levels readings store opened count taken around₀ around = levels - around
 
 abbrev run-term-Inv-loop2 : run-term-lts.InvT-loop2
-run-term-Inv-loop2 rows i levels readings store₀ opened₀ count taken around₀ inmost deeper ran₀ store opened around ran = Outwards rows i levels readings count taken store₀ opened₀ around₀ ran₀ store opened around ran
+run-term-Inv-loop2 sizes rows i levels readings store₀ opened₀ count taken around₀ inmost deeper ran₀ store opened around ran = Outwards (unpacked sizes) rows i levels readings count taken store₀ opened₀ around₀ ran₀ store opened around ran
 
 abbrev run-term-μ-loop2 : run-term-lts.MeasureT-loop2
-run-term-μ-loop2 rows i levels readings store₀ opened₀ count taken around₀ inmost deeper ran₀ store opened around ran = around
+run-term-μ-loop2 sizes rows i levels readings store₀ opened₀ count taken around₀ inmost deeper ran₀ store opened around ran = around
 
 run-term-loop-holds : (t : ℕ) → run-term-lts.Need-loop-holds (run-term-claims t) (run-term-at t) run-term.Post run-term-Inv-loop run-term-μ-loop run-term-Inv-loop2 run-term-μ-loop2
-run-term-loop-holds t c = inwards-starts _ _ _ _ _ _ _ _ (c .before .before .before .pre .1)
+run-term-loop-holds t c = inwards-starts _ _ _ _ _ _ _ _ _ (c .before .before .before .pre .1)
 
 run-term-add-field-at : (t : ℕ) → run-term-lts.Need-add-field-at (run-term-claims t) (run-term-at t) run-term.Post run-term-Inv-loop run-term-μ-loop run-term-Inv-loop2 run-term-μ-loop2
-run-term-add-field-at t c = omega (arith, inwards-room _ _ _ _ _ _ _ _ _ (c .loop .inv))
+run-term-add-field-at t c = omega (arith, inwards-room _ _ _ _ _ _ _ _ _ _ (c .loop .inv))
 
 run-term-field-at-requires : (t : ℕ) → run-term-lts.Need-field-at-requires (run-term-claims t) (run-term-at t) run-term.Post run-term-Inv-loop run-term-μ-loop run-term-Inv-loop2 run-term-μ-loop2
-run-term-field-at-requires t c κs = (has-room _ _ _ _ (inwards-here _ _ _ _ _ _ _ _ _ (c .loop .inv) .is), omega arith)
+run-term-field-at-requires t c κs = (has-room _ _ _ _ (inwards-here _ _ _ _ _ _ _ _ _ _ (c .loop .inv) .is), omega arith)
 
 run-term-wraps-requires : (t : ℕ) → run-term-lts.Need-wraps-requires (run-term-claims t) (run-term-at t) run-term.Post run-term-Inv-loop run-term-μ-loop run-term-Inv-loop2 run-term-μ-loop2
 run-term-wraps-requires t c κs = search needs
 
 run-term-add-around : (t : ℕ) → run-term-lts.Need-add-around (run-term-claims t) (run-term-at t) run-term.Post run-term-Inv-loop run-term-μ-loop run-term-Inv-loop2 run-term-μ-loop2
-run-term-add-around t c = omega (arith, inwards-room _ _ _ _ _ _ _ _ _ (c .before .before .before .loop .inv))
+run-term-add-around t c = omega (arith, inwards-room _ _ _ _ _ _ _ _ _ _ (c .before .before .before .loop .inv))
 
 run-term-loop-less : (t : ℕ) → run-term-lts.Need-loop-less (run-term-claims t) (run-term-at t) run-term.Post run-term-Inv-loop run-term-μ-loop run-term-Inv-loop2 run-term-μ-loop2
-run-term-loop-less t c = omega (arith, inwards-level _ _ _ _ _ _ _ _ _ (c .before .before .before .loop .inv))
+run-term-loop-less t c = omega (arith, inwards-level _ _ _ _ _ _ _ _ _ _ (c .before .before .before .loop .inv))
 
 run-term-loop-again : (t : ℕ) → run-term-lts.Need-loop-again (run-term-claims t) (run-term-at t) run-term.Post run-term-Inv-loop run-term-μ-loop run-term-Inv-loop2 run-term-μ-loop2
-run-term-loop-again t c = inwards-goes _ _ _ _ _ _ _ _ _ (c .before .before .before .loop .inv) (ap wrapsOf (sym (c .before .before .field-at .ensures)) ∙ sym (c .before .wraps .ensures) ∙ c .if1 .taken)
+run-term-loop-again t c = inwards-goes _ _ _ _ _ _ _ _ _ _ (c .before .before .before .loop .inv) (ap wrapsOf (sym (c .before .before .field-at .ensures)) ∙ sym (c .before .wraps .ensures) ∙ c .if1 .taken)
 
 run-term-add-inmost : (t : ℕ) → run-term-lts.Need-add-inmost (run-term-claims t) (run-term-at t) run-term.Post run-term-Inv-loop run-term-μ-loop run-term-Inv-loop2 run-term-μ-loop2
-run-term-add-inmost t c = omega (arith, inwards-room _ _ _ _ _ _ _ _ _ (c .before .before .before .loop .inv))
+run-term-add-inmost t c = omega (arith, inwards-room _ _ _ _ _ _ _ _ _ _ (c .before .before .before .loop .inv))
 
 run-term-sub-deeper : (t : ℕ) → run-term-lts.Need-sub-deeper (run-term-claims t) (run-term-at t) run-term.Post run-term-Inv-loop run-term-μ-loop run-term-Inv-loop2 run-term-μ-loop2
-run-term-sub-deeper t c = omega (arith, inwards-level _ _ _ _ _ _ _ _ _ (c .before .before .before .loop .inv))
+run-term-sub-deeper t c = omega (arith, inwards-level _ _ _ _ _ _ _ _ _ _ (c .before .before .before .loop .inv))
 
 run-term-run-inmost-requires : (t : ℕ) → run-term-lts.Need-run-inmost-requires (run-term-claims t) (run-term-at t) run-term.Post run-term-Inv-loop run-term-μ-loop run-term-Inv-loop2 run-term-μ-loop2
 run-term-run-inmost-requires t c κs =
@@ -285,13 +285,10 @@ run-term-run-inmost-requires t c κs =
     let at-field-at = at-wraps .before in
     let at-loop = at-field-at .before in
     let start = at-loop .before .before .before .before in
-    (omega (arith, start .pre .0), (inwards-here _ _ _ _ _ _ _ _ _ (at-loop .loop .inv), ap wrapsOf (sym (at-field-at .field-at .ensures)) ∙ sym (at-wraps .wraps .ensures) ∙ at-if1 .if1 .left))
+    (omega (arith, start .pre .0), (inwards-here _ _ _ _ _ _ _ _ _ _ (at-loop .loop .inv), ap wrapsOf (sym (at-field-at .field-at .ensures)) ∙ sym (at-wraps .wraps .ensures) ∙ at-if1 .if1 .left))
 
 run-term-loop2-holds : (t : ℕ) → run-term-lts.Need-loop2-holds (run-term-claims t) (run-term-at t) run-term.Post run-term-Inv-loop run-term-μ-loop run-term-Inv-loop2 run-term-μ-loop2
-run-term-loop2-holds t c =
-    let at-run-inmost = c .before .before .before .before in
-    let start = at-run-inmost .before .before .before .before .before .before .before .before .before .before in
-    outwards-starts _ _ _ _ _ _ _ _ _ _ (at-run-inmost .run-inmost .kept .1 .1 .1 .1 .1 .0 ∙ start .pre .1 .ready .many)
+run-term-loop2-holds t c = outwards-starts _ _ _ _ _ _ _ _ _ _ _
 
 run-term-sub-around : (t : ℕ) → run-term-lts.Need-sub-around (run-term-claims t) (run-term-at t) run-term.Post run-term-Inv-loop run-term-μ-loop run-term-Inv-loop2 run-term-μ-loop2
 run-term-sub-around t c = omega arith
@@ -300,7 +297,7 @@ run-term-add-run-after : (t : ℕ) → run-term-lts.Need-add-run-after (run-term
 run-term-add-run-after t c =
     let at-loop2 = c .before in
     let at-loop = at-loop2 .before .before .before .before .before .before .before .before .before .before .before in
-    omega (arith, at-loop2 .loop2 .inv .some, inwards-room _ _ _ _ _ _ _ _ _ (at-loop .loop .inv))
+    omega (arith, at-loop2 .loop2 .inv .some, inwards-room _ _ _ _ _ _ _ _ _ _ (at-loop .loop .inv))
 
 run-term-run-after-requires : (t : ℕ) → run-term-lts.Need-run-after-requires (run-term-claims t) (run-term-at t) run-term.Post run-term-Inv-loop run-term-μ-loop run-term-Inv-loop2 run-term-μ-loop2
 run-term-run-after-requires t c κs =
@@ -308,7 +305,7 @@ run-term-run-after-requires t c κs =
     let at-loop2 = at-loop2-test .before in
     let at-run-inmost = at-loop2 .before .before .before .before .before in
     let at-loop = at-run-inmost .before .before .before .before .before .before in
-    outwards-after _ _ _ _ _ _ _ _ _ _ _ _ _ _ (at-loop2 .loop2 .inv) _ _ (at-loop .loop .inv) (at-run-inmost .run-inmost .ensures) (at-loop2-test .loop2-test .taken)
+    outwards-after _ _ _ _ _ _ _ _ _ _ _ _ _ _ _ (at-loop2 .loop2 .inv) _ _ (at-run-inmost .run-inmost .kept .1 .1 .1 .1 .1 .1 .0) (at-loop .loop .inv) (at-run-inmost .run-inmost .ensures) (at-loop2-test .loop2-test .taken)
 
 run-term-loop2-less : (t : ℕ) → run-term-lts.Need-loop2-less (run-term-claims t) (run-term-at t) run-term.Post run-term-Inv-loop run-term-μ-loop run-term-Inv-loop2 run-term-μ-loop2
 run-term-loop2-less t c = omega arith
@@ -318,7 +315,7 @@ run-term-loop2-again t c =
     let at-run-after = c .before .before .before .before in
     let at-loop2-test = at-run-after .before .before .before in
     let at-loop2 = at-loop2-test .before in
-    outwards-goes _ _ _ _ _ _ _ _ _ _ _ _ _ _ (at-loop2 .loop2 .inv) (at-loop2-test .loop2-test .taken) _ _ _ (at-run-after .run-after .ensures) (at-run-after .run-after .kept .1 .1 .1 .0 ∙ at-loop2 .loop2 .inv .long)
+    outwards-goes _ _ _ _ _ _ _ _ _ _ _ _ _ _ _ (at-loop2 .loop2 .inv) (at-loop2-test .loop2-test .taken) _ _ _ (at-run-after .run-after .ensures) (at-run-after .run-after .kept .1 .1 .1 .1 .0)
 
 run-term-same-length : (t : ℕ) → run-term-lts.Need-same-length (run-term-claims t) (run-term-at t) run-term.Post run-term-Inv-loop run-term-μ-loop run-term-Inv-loop2 run-term-μ-loop2
 run-term-same-length t c =
@@ -326,20 +323,20 @@ run-term-same-length t c =
     let at-run-inmost = at-loop2 .before .before .before .before .before in
     let at-loop = at-run-inmost .before .before .before .before .before .before in
     let start = at-loop .before .before .before .before in
-    at-loop2 .loop2 .inv .ran _ _ (at-loop .loop .inv) (at-run-inmost .run-inmost .ensures) .tidy .long ∙ sym (start .pre .1 .ready .tidy .long)
+    at-loop2 .loop2 .inv .ran _ _ (at-run-inmost .run-inmost .kept .1 .1 .1 .1 .1 .1 .0) (at-loop .loop .inv) (at-run-inmost .run-inmost .ensures) .tidy .long ∙ sym (start .pre .1 .ready .tidy .long)
 
 run-term-same-length-2 : (t : ℕ) → run-term-lts.Need-same-length-2 (run-term-claims t) (run-term-at t) run-term.Post run-term-Inv-loop run-term-μ-loop run-term-Inv-loop2 run-term-μ-loop2
 run-term-same-length-2 t c =
     let at-loop2 = c .before in
-    let start = at-loop2 .before .before .before .before .before .before .before .before .before .before .before .before .before .before .before in
-    at-loop2 .loop2 .inv .long ∙ sym (start .pre .1 .ready .many)
+    let at-run-inmost = at-loop2 .before .before .before .before .before in
+    at-loop2 .loop2 .inv .same ∙ at-run-inmost .run-inmost .kept .1 .1 .1 .1 .1 .1 .0
 
 run-term-returns : (t : ℕ) → run-term-lts.Need-returns (run-term-claims t) (run-term-at t) run-term.Post run-term-Inv-loop run-term-μ-loop run-term-Inv-loop2 run-term-μ-loop2
 run-term-returns t c =
     let at-loop2 = c .before in
     let at-run-inmost = at-loop2 .before .before .before .before .before in
     let at-loop = at-run-inmost .before .before .before .before .before .before in
-    outwards-ends _ _ _ _ _ _ _ _ _ _ _ _ _ _ (at-loop2 .loop2 .inv) _ _ (at-loop .loop .inv) (at-run-inmost .run-inmost .ensures) (c .loop2-test .left)
+    outwards-ends _ _ _ _ _ _ _ _ _ _ _ _ _ _ _ (at-loop2 .loop2 .inv) _ _ (at-run-inmost .run-inmost .kept .1 .1 .1 .1 .1 .1 .0) (at-loop .loop .inv) (at-run-inmost .run-inmost .ensures) (c .loop2-test .left)
 
 pub +run-block+run-inmost+run-term-spec : {M : Type 1} → statement M
 +run-block+run-inmost+run-term-spec =

@@ -48,7 +48,7 @@ returns c =
     let at-run-box = c .before .before in
     let at-match = at-run-box .before .before in
     let at-field-at = at-match .before in
-    after-box _ _ _ _ _ _ _ _ (at-field-at .field-at .ensures) (at-match .match .keys1) (at-run-box .run-box .ensures)
+    after-box _ _ _ _ _ _ _ _ _ (at-field-at .field-at .ensures) (at-match .match .keys1) (at-run-box .run-box .ensures)
 
 same-length-2 : tie.Need-same-length-2
 same-length-2 c = search needs
@@ -62,7 +62,7 @@ returns-2 c =
     let at-field-at2 = at-run-let .before in
     let at-match = at-field-at2 .before .before .before in
     let at-field-at = at-match .before in
-    after-let _ _ _ _ _ _ _ _ (at-field-at .field-at .ensures) _ (at-match .match .keys2) (rw (← at-field-at2 .field-at2 .ensures) (at-run-let .run-let .ensures))
+    after-let _ _ _ _ _ _ _ _ _ (at-field-at .field-at .ensures) _ (at-match .match .keys2) (rw (← at-field-at2 .field-at2 .ensures) (at-run-let .run-let .ensures))
 
 same-length-4 : tie.Need-same-length-4
 same-length-4 c = search needs
@@ -75,7 +75,7 @@ returns-3 c =
     let at-match = at-field-at3 .before .before in
     let at-field-at = at-match .before in
     let r = at-match .match .rest in
-    after-assign _ _ _ _ _ _ _ _ (at-field-at .field-at .ensures) (r .0 .1) (r .1) (rw (← at-field-at3 .field-at3 .ensures, ← at-field-at4 .field-at4 .ensures) (at-run-assign .run-assign .ensures))
+    after-assign _ _ _ _ _ _ _ _ _ (at-field-at .field-at .ensures) (r .0 .1) (r .1) (rw (← at-field-at3 .field-at3 .ensures, ← at-field-at4 .field-at4 .ensures) (at-run-assign .run-assign .ensures))
 
 pub run-after-spec : {M : Type 1} → statement M
 run-after-spec =

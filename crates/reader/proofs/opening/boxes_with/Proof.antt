@@ -17,4 +17,7 @@ unfolding boxesWith
 returns-2 c = rw (ne-eqb _ _ (c .if1 .left))
 
 pub boxes-with-spec : {M : Type 1} → statement M
-boxes-with-spec = tie.close (tie.spec add-result returns returns-2)
+boxes-with-spec = tie.close (tie.spec
+    add-result
+    returns
+    returns-2)

@@ -29,4 +29,10 @@ returns-4 c = rw (lt-leb _ _ (c .before .before .before .before .if1 .left), ←
 
 pub field-number-spec : {M : Type 1} → statement M
 field-number-spec =
-    tie.close (tie.spec returns shared-slice-read-wide wide-requires returns-2 returns-3 returns-4)
+    tie.close (tie.spec
+    returns
+    shared-slice-read-wide
+    wide-requires
+    returns-2
+    returns-3
+    returns-4)

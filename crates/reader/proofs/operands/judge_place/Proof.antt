@@ -9,8 +9,8 @@ use Rattle.reader.proofs.operands.judge_place.Tie as tie
 field-number-requires : tie.Need-field-number-requires
 field-number-requires c κs = search needs
 
-add-t8 : tie.Need-add-t8
-add-t8 c = search needs
+add-t9 : tie.Need-add-t9
+add-t9 c = search needs
 
 returns : tie.Need-returns
 unfolding judgedFields
@@ -22,15 +22,15 @@ add-j1 c = search needs
 field-number-requires-2 : tie.Need-field-number-requires-2
 field-number-requires-2 c κs = search needs
 
-add-t9 : tie.Need-add-t9
-add-t9 c = search needs
+add-t10 : tie.Need-add-t10
+add-t10 c = search needs
 
 returns-2 : tie.Need-returns-2
 unfolding judgedFields onNumber
 returns-2 c = rw (← c .before .before .before .field-number .ensures, c .before .before .if1 .left, ← c .before .field-number2 .ensures) (sym (number-stops _ _ _ (c .if2 .taken)))
 
-add-t10 : tie.Need-add-t10
-add-t10 c = search needs
+add-t11 : tie.Need-add-t11
+add-t11 c = search needs
 
 returns-3 : tie.Need-returns-3
 unfolding judgedFields onNumber
@@ -41,11 +41,11 @@ judge-place-spec =
     tie.close
     (tie.spec
     field-number-requires
-    add-t8
+    add-t9
     returns
     add-j1
     field-number-requires-2
-    add-t9
-    returns-2
     add-t10
+    returns-2
+    add-t11
     returns-3)

@@ -72,12 +72,16 @@ same-length-7 c = search needs
 returns-7 : tie.Need-returns-7
 returns-7 c =
     let r = c .before .before .before .before .match .rest in
-    rw (fields-place _ (r .0 .0 .0 .0 .0 .1) (r .0 .0 .0 .0 .1) (r .0 .0 .0 .1) (r .0 .0 .1) (r .0 .1) (r .1) (c .before .before .before .before .before .before .before .pre .2)) (c .before .before .read-place .ensures)
+    rw (fields-place _ (r .0 .0 .0 .0 .0 .1) (r .0 .0 .0 .0 .1) (r .0 .0 .0 .1) (r .0 .0 .1) (r .0 .1) (r .1) _ (c .before .before .before .before .before .before .before .pre .2)) (c .before .before .read-place .ensures)
+
+cast-variables : tie.Need-cast-variables
+cast-variables c = search needs
 
 pub read-operands-spec : {M : Type 1} → statement M
 read-operands-spec =
     tie.close
     (tie.spec
+    cast-variables
     read-word-requires
     read-one-requires
     put-row-requires

@@ -21,13 +21,13 @@ returns : tie.Need-returns
 returns c = (c .before .before .judge-place .ensures, rw (c .enum-told .given .1) tt)
 
 shared-slice-read-wide : tie.Need-shared-slice-read-wide
-shared-slice-read-wide c = let h = place-within _ _ 1 _ (sym (c .before .before .before .before .before .judge-place .ensures) ∙ c .before .before .before .place .given .1) in omega arith
+shared-slice-read-wide c = let h = place-within _ _ _ 1 _ (sym (c .before .before .before .before .before .judge-place .ensures) ∙ c .before .before .before .place .given .1) in omega arith
 
 wide-requires : tie.Need-wide-requires
 wide-requires c κs = search needs
 
 shared-slice-read-wide-2 : tie.Need-shared-slice-read-wide-2
-shared-slice-read-wide-2 c = place-within _ _ 1 _ (sym (c .before .before .before .before .before .before .before .judge-place .ensures) ∙ c .before .before .before .before .before .place .given .1)
+shared-slice-read-wide-2 c = place-within _ _ _ 1 _ (sym (c .before .before .before .before .before .before .before .judge-place .ensures) ∙ c .before .before .before .before .before .place .given .1)
 
 wide-requires-2 : tie.Need-wide-requires-2
 wide-requires-2 c κs = search needs

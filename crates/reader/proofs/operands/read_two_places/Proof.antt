@@ -24,9 +24,9 @@ unfolding onNumber
 follow-number zero p f g = refl
 follow-number (suc m) p f g = refl
 
-two-places : (t : List ℕ) (at : ℕ) → judgedFields twoPlaceFields t at 1 ≡ follow (judgedFields placeFields t at 1) (judgedFields placeFields t at 3)
+two-places : (nv : ℕ) (t : List ℕ) (at : ℕ) → judgedFields (twoPlaceFields nv) t at 1 ≡ follow (judgedFields (placeFields nv) t at 1) (judgedFields (placeFields nv) t at 3)
 unfolding judgedFields
-two-places t at = ap (onNumber _ _) (follow-number _ _ (Fine 3) _) ∙ follow-number _ _ _ _
+two-places nv t at = ap (onNumber _ _) (follow-number _ _ (Fine 3) _) ∙ follow-number _ _ _ _
 
 judge-place-requires : tie.Need-judge-place-requires
 judge-place-requires c κs = search needs
@@ -53,25 +53,25 @@ returns-2 : tie.Need-returns-2
 returns-2 c = (rw (two-places, ← c .before .before .before .before .before .before .judge-place .ensures, c .before .before .before .before .first .given .1) (c .before .before .judge-place2 .ensures), rw (c .enum-told2 .given .1) tt)
 
 shared-slice-read-wide : tie.Need-shared-slice-read-wide
-shared-slice-read-wide c = let h = place-within _ _ 3 _ (sym (c .before .before .before .before .before .judge-place2 .ensures) ∙ c .before .before .before .second .given .1) in omega arith
+shared-slice-read-wide c = let h = place-within _ _ _ 3 _ (sym (c .before .before .before .before .before .judge-place2 .ensures) ∙ c .before .before .before .second .given .1) in omega arith
 
 wide-requires : tie.Need-wide-requires
 wide-requires c κs = search needs
 
 shared-slice-read-wide-2 : tie.Need-shared-slice-read-wide-2
-shared-slice-read-wide-2 c = let h = place-within _ _ 3 _ (sym (c .before .before .before .before .before .before .before .judge-place2 .ensures) ∙ c .before .before .before .before .before .second .given .1) in omega arith
+shared-slice-read-wide-2 c = let h = place-within _ _ _ 3 _ (sym (c .before .before .before .before .before .before .before .judge-place2 .ensures) ∙ c .before .before .before .before .before .second .given .1) in omega arith
 
 wide-requires-2 : tie.Need-wide-requires-2
 wide-requires-2 c κs = search needs
 
 shared-slice-read-wide-3 : tie.Need-shared-slice-read-wide-3
-shared-slice-read-wide-3 c = let h = place-within _ _ 3 _ (sym (c .before .before .before .before .before .before .before .before .before .judge-place2 .ensures) ∙ c .before .before .before .before .before .before .before .second .given .1) in omega arith
+shared-slice-read-wide-3 c = let h = place-within _ _ _ 3 _ (sym (c .before .before .before .before .before .before .before .before .before .judge-place2 .ensures) ∙ c .before .before .before .before .before .before .before .second .given .1) in omega arith
 
 wide-requires-3 : tie.Need-wide-requires-3
 wide-requires-3 c κs = search needs
 
 shared-slice-read-wide-4 : tie.Need-shared-slice-read-wide-4
-shared-slice-read-wide-4 c = place-within _ _ 3 _ (sym (c .before .before .before .before .before .before .before .before .before .before .before .judge-place2 .ensures) ∙ c .before .before .before .before .before .before .before .before .before .second .given .1)
+shared-slice-read-wide-4 c = place-within _ _ _ 3 _ (sym (c .before .before .before .before .before .before .before .before .before .before .before .judge-place2 .ensures) ∙ c .before .before .before .before .before .before .before .before .before .second .given .1)
 
 wide-requires-4 : tie.Need-wide-requires-4
 wide-requires-4 c κs = search needs

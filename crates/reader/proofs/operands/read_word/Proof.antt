@@ -28,4 +28,10 @@ returns-2 c = (rw (le-ltb _ _ (c .before .before .before .before .before .if1 .l
 
 pub read-word-spec : {M : Type 1} → statement M
 read-word-spec =
-    tie.close (tie.spec add-t9 returns word-at-requires put-row-requires same-length returns-2)
+    tie.close (tie.spec
+    add-t9
+    returns
+    word-at-requires
+    put-row-requires
+    same-length
+    returns-2)

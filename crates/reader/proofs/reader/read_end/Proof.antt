@@ -106,11 +106,11 @@ module _ {M : Type 1} (𝓤 : URA M) (H : Heap 𝓤) (A : Atoms 𝓤) (W : Given
   abbrev to : EndAnswer 𝓤 H A mem run .Ghost
   to = (((κ, tt), (q, tt), tt, (d .script, (d .at, (n, tt))), passed), tt)
 
-  asked : length (now (d .script)) ≤ 4096 → ent 𝓤 (onEntry 𝓤 H A end.signature (κ, tt) (q, tt) (d .script, (d .at, (n, tt))) passed) (EndAnswer 𝓤 H A mem run .pre to)
+  asked : length (now (d .script)) ≤ 32768 → ent 𝓤 (onEntry 𝓤 H A end.signature (κ, tt) (q, tt) (d .script, (d .at, (n, tt))) passed) (EndAnswer 𝓤 H A mem run .pre to)
   asked within = qed W ((‵ (flft κ q) ⊛ ‵ ftrue) ∷ ‵ (owns (ShrSlice (named 0) κ u8 ∷ usize ∷ usize ∷ []) (d .script, (d .at, (n, tt))) passed) ∷ []) ∵ says ! within $ frame ! $ done !
 
   -- what the struct owns gives what the callee asks, and is kept
-  apart : length (now (d .script)) ≤ 4096 → d .at < 2 ^ 64 → ent 𝓤 (onEntry 𝓤 H A read-end.signature (κ, tt) (q, tt) (d, (n, tt)) at) (sep 𝓤 (EndAnswer 𝓤 H A mem run .pre to) (sem 𝓤 H A Own))
+  apart : length (now (d .script)) ≤ 32768 → d .at < 2 ^ 64 → ent 𝓤 (onEntry 𝓤 H A read-end.signature (κ, tt) (q, tt) (d, (n, tt)) at) (sep 𝓤 (EndAnswer 𝓤 H A mem run .pre to) (sem 𝓤 H A Own))
   apart within fits =
       qed W ((‵ (flft κ q) ⊛ ‵ ftrue) ∷ ‵ (owns (B (κ, tt) ∷ usize ∷ []) (d, (n, tt)) at) ∷ []) ∵
       move ! (1 ∷ []) $ fsplit ! $ move ! (1 ∷ []) $ drop ! $ use1 W (‵ Own ⊛ ‵ Own) (LL.copy D (T′.the-copy (namedLft 1 0 tt (κ, tt))) 𝓤 H A W .twice d (mach ∷ [])) $ split ! $
@@ -130,7 +130,7 @@ module _ {M : Type 1} (𝓤 : URA M) (H : Heap 𝓤) (A : Atoms 𝓤) (W : Given
       move ! (1 ∷ []) $ frame ! $ nothing ! $ owned ! usize (Is usize) (uint-makes 𝓤 H A W w64) n _ (refl, n-fits) $ fjoin ! $ move ! (2 ∷ 0 ∷ []) $ fjoin ! $ frame ! $ done !
 
   module _ (C : Calls 𝓤 H) (Λ : Loops 𝓤 H) (fm : FmC 𝓤 H (W .laws) C) (known : Triple 𝓤 (C #reader·reader·end-answer) (EndAnswer 𝓤 H A mem run)) where
-    walk : Holds (hasTy (T′.mir (named 0)) mach) × WT mach → length (now (d .script)) ≤ 4096 → ent 𝓤 (onEntry 𝓤 H A read-end.signature (κ, tt) (q, tt) (d, (n, tt)) at) (WpFn 𝓤 H C Λ code.function (mach ∷ vint w64 n ∷ []) Post)
+    walk : Holds (hasTy (T′.mir (named 0)) mach) × WT mach → length (now (d .script)) ≤ 32768 → ent 𝓤 (onEntry 𝓤 H A read-end.signature (κ, tt) (q, tt) (d, (n, tt)) at) (WpFn 𝓤 H C Λ code.function (mach ∷ vint w64 n ∷ []) Post)
     walk wt within =
         qed W (raw (onEntry 𝓤 H A read-end.signature (κ, tt) (q, tt) (d, (n, tt)) at) ∷ []) ∵ enter ! C Λ code.function (mach ∷ vint w64 n ∷ []) _ $
         alloc1 ! (λ l₀. alloc1 ! (λ l₁. alloc1 ! (λ l₂. alloc1 ! (λ l₃. alloc1 ! (λ l₄. alloc0 ! $ params1 ! $ pass1 ! (init ! 6 refl wt) $ pass1 ! (init ! 4 refl (tt, record { fits = n-fits })) $ pass0 ! $
@@ -150,7 +150,7 @@ module _ {M : Type 1} (𝓤 : URA M) (H : Heap 𝓤) (A : Atoms 𝓤) (W : Given
   read-end-walks : (C : Calls 𝓤 H) (Λ : Loops 𝓤 H) → FmC 𝓤 H (W .laws) C → Triple 𝓤 (C #reader·reader·end-answer) (EndAnswer 𝓤 H A mem run)
       → Walks 𝓤 H A read-end.ended stayed (WpFn 𝓤 H C Λ code.function) (read-end.clauses 𝓤 H A mem run)
   read-end-walks C Λ fm known = walked 𝓤 H A read-end.ended stayed (read-end.clauses 𝓤 H A mem run) (WpFn 𝓤 H C Λ code.function) (λ κs. (LL.vals (T.the-type (namedLft 1 0 tt κs)) (T′.the-laws (namedLft 1 0 tt κs)), (uint-vals w64, tt))) (λ κs. (LL.tells (T.the-type (namedLft 1 0 tt κs)) (T′.the-laws (namedLft 1 0 tt κs)), (uint-tells w64, tt)))
-      (λ κs qs bounds a g are. needs 𝓤 (length (a .0 .script .now) ≤ 4096) _ (λ within.
+      (λ κs qs bounds a g are. needs 𝓤 (length (a .0 .script .now) ≤ 32768) _ (λ within.
       walk 𝓤 H A W mem run (κs .0) (qs .0) (a .0) (a .1 .0) (are .1 .0 .1) C Λ fm known (LL.lawful (T.the-type (namedLft 1 0 tt κs)) (T′.the-laws (namedLft 1 0 tt κs)) 𝓤 H A W .typed (a .0) _ (are .0) .0) within))
 
 read-end-meets : {M : Type 1} (𝓤 : URA M) (H : Heap 𝓤) (A : Atoms 𝓤) (W : Given 𝓤 H A) (mem : Memory → SProp 𝓤) (run : Routine → Fun 𝓤) (𝓣 : Tables 𝓤 H)

@@ -6,7 +6,9 @@ use native.Mathlib.Omega.{arith}
 use mathlib.Core.Path.{_≡_, refl, sym, _∙_}
 use mathlib.Core.Bool.{false}
 use borrow.Author.Needs.{needs}
+use Rattle.reader.specs.Limits.{rowNumbers, unpacked}
 use Rattle.reader.specs.RowParts.{RowsReady, termRows, spanOf}
+use Rattle.reader.proofs.Ranges.{ranged}
 use Rattle.reader.proofs.PackedLaws.{spanned-refused, spanned-fine, refused-spanned, counted-spanned}
 use Rattle.reader.proofs.RowSpans.{refused-span, entered, boxed-few, leaf-spans, around-spans, block-spans, block-count, Words, restSpan, all-span, none-span, stop-span, rest-few, rest-span}
 use borrow.Fn.Kinds.{In}
@@ -26,10 +28,10 @@ use Rattle.reader.proofs.rows.+judge_block+judge_term.{statement}
 use Rattle.reader.proofs.rows.+judge_block+judge_term.Tie.{close}
 
 abbrev μ-judge-block : Measures 1 judge-block-kinds.ps ℕ
-μ-judge-block κs a = a .1 .1 .1 .0 * 2 + 1
+μ-judge-block κs a = a .1 .1 .1 .1 .0 * 2 + 1
 
 abbrev μ-judge-term : Measures 1 judge-term-kinds.ps ℕ
-μ-judge-term κs a = a .1 .1 .0 * 2
+μ-judge-term κs a = a .1 .1 .1 .0 * 2
 
 abbrev judge-block-at : ℕ → In 1 judge-block-kinds.ps
 judge-block-at t =
@@ -48,18 +50,18 @@ judge-term-below t =
     and 1 judge-term-kinds.ps (falls 1 judge-term-kinds.ps _<_ μ-judge-term t) judge-term.Pre
 
 abbrev judge-block-Inv-loop : judge-block-lts.InvT-loop
-judge-block-Inv-loop rows i count levels boxes next₀ boxed₀ left₀ next boxed left =
-    RowsReady rows next boxed × (restSpan levels rows left next boxed ≡ restSpan levels rows count i boxes)
+judge-block-Inv-loop sizes rows i count levels boxes next₀ boxed₀ left₀ next boxed left =
+    RowsReady (unpacked sizes) rows next boxed × (restSpan (unpacked sizes) levels rows left next boxed ≡ restSpan (unpacked sizes) levels rows count i boxes)
 
 abbrev judge-block-μ-loop : judge-block-lts.MeasureT-loop
-judge-block-μ-loop rows i count levels boxes next₀ boxed₀ left₀ next boxed left = left
+judge-block-μ-loop sizes rows i count levels boxes next₀ boxed₀ left₀ next boxed left = left
 
 abbrev judge-term-Inv-loop : judge-term-lts.InvT-loop
-judge-term-Inv-loop rows i levels boxes at₀ left₀ boxed₀ row left boxed =
-    RowsReady rows row boxed × (left ≤ levels) × (spanOf (termRows left false rows row boxed) ≡ spanOf (termRows levels false rows i boxes))
+judge-term-Inv-loop sizes rows i levels boxes at₀ left₀ boxed₀ row left boxed =
+    RowsReady (unpacked sizes) rows row boxed × (left ≤ levels) × (spanOf (termRows (unpacked sizes) left false rows row boxed) ≡ spanOf (termRows (unpacked sizes) levels false rows i boxes))
 
 abbrev judge-term-μ-loop : judge-term-lts.MeasureT-loop
-judge-term-μ-loop rows i levels boxes at₀ left₀ boxed₀ row left boxed = left
+judge-term-μ-loop sizes rows i levels boxes at₀ left₀ boxed₀ row left boxed = left
 
 abbrev judge-block-claims : ℕ → judge-block-lts.Claims
 judge-block-claims t = (judge-term-below t, judge-term.Post, counted-reads.Asked, counted-reads.Learnt)
@@ -76,7 +78,7 @@ judge-block-judge-term-requires t c κs = (omega (arith, c .before .before .befo
 judge-block-returns : (t : ℕ) → judge-block-lts.Need-returns (judge-block-claims t) (judge-block-at t) judge-block.Post judge-block-Inv-loop judge-block-μ-loop
 judge-block-returns t c =
     let q = spanned-refused _ (c .if1 .taken) in
-    q ∙ stop-span _ _ _ _ _ (c .before .before .loop-test .taken) _ _ (sym q ∙ c .before .judge-term .ensures) ∙ c .before .before .before .loop .inv .1 ∙ all-span _ _ _ _ _ (c .before .before .before .before .before .pre .1 .1)
+    q ∙ stop-span _ _ _ _ _ _ (c .before .before .loop-test .taken) _ _ (sym q ∙ c .before .judge-term .ensures) ∙ c .before .before .before .loop .inv .1 ∙ all-span _ _ _ _ _ _ (c .before .before .before .before .before .pre .1 .1)
 
 judge-block-sub-left : (t : ℕ) → judge-block-lts.Need-sub-left (judge-block-claims t) (judge-block-at t) judge-block.Post judge-block-Inv-loop judge-block-μ-loop
 judge-block-sub-left t c = omega arith
@@ -90,22 +92,22 @@ judge-block-loop-again t c =
     let l = c .before .before .before .loop in
     let words : Words (s .args .rows .now) = λ k. omega (arith, c .before .before .before .before .shared-slice-known .given k) in
     let q = sym (spanned-fine _ (c .if1 .left)) ∙ c .before .judge-term .ensures in
-    let few = rest-few (s .args .levels) _ (l .next) (l .boxed) words _ _ q in
-    (record { full = l .inv .0 .full; near = omega arith; few = few }, rest-span _ _ _ _ words _ _ q _ (c .before .before .loop-test .taken) ∙ l .inv .1)
+    let few = rest-few _ (s .args .levels) _ (l .next) (l .boxed) words _ _ q in
+    (record { ranges = l .inv .0 .ranges; full = l .inv .0 .full; near = omega arith; few = few }, rest-span _ _ _ _ _ words _ _ q _ (c .before .before .loop-test .taken) ∙ l .inv .1)
 
 judge-block-counted-requires : (t : ℕ) → judge-block-lts.Need-counted-requires (judge-block-claims t) (judge-block-at t) judge-block.Post judge-block-Inv-loop judge-block-μ-loop
-judge-block-counted-requires t c κs = (c .before .loop .inv .0 .near, omega (arith, c .before .loop .inv .0 .few))
+judge-block-counted-requires t c κs = (c .before .loop .inv .0 .near, omega (arith, c .before .loop .inv .0 .few, ranged _ (c .before .loop .inv .0 .ranges) .boxes))
 
 judge-block-returns-2 : (t : ℕ) → judge-block-lts.Need-returns-2 (judge-block-claims t) (judge-block-at t) judge-block.Post judge-block-Inv-loop judge-block-μ-loop
 judge-block-returns-2 t c =
     let l = c .before .before .loop in
-    counted-spanned _ _ _ (l .inv .0 .near) (omega (arith, l .inv .0 .few)) (c .counted .ensures) ∙ none-span _ _ _ _ _ (c .before .loop-test .left) ∙ l .inv .1 ∙ all-span _ _ _ _ _ (c .before .before .before .before .pre .1 .1)
+    counted-spanned _ _ _ (l .inv .0 .near) (omega (arith, l .inv .0 .few, ranged _ (l .inv .0 .ranges) .boxes)) (c .counted .ensures) ∙ none-span _ _ _ _ _ _ (c .before .loop-test .left) ∙ l .inv .1 ∙ all-span _ _ _ _ _ _ (c .before .before .before .before .pre .1 .1)
 
 judge-term-loop-holds : (t : ℕ) → judge-term-lts.Need-loop-holds (judge-term-claims t) (judge-term-at t) judge-term.Post judge-term-Inv-loop judge-term-μ-loop
 judge-term-loop-holds t c = (c .before .pre .1, omega arith, refl)
 
 judge-term-row-number-requires : (t : ℕ) → judge-term-lts.Need-row-number-requires (judge-term-claims t) (judge-term-at t) judge-term.Post judge-term-Inv-loop judge-term-μ-loop
-judge-term-row-number-requires t c κs = c .loop .inv .0 .full
+judge-term-row-number-requires t c κs = (c .loop .inv .0 .full, c .loop .inv .0 .near)
 
 judge-term-refused-requires : (t : ℕ) → judge-term-lts.Need-refused-requires (judge-term-claims t) (judge-term-at t) judge-term.Post judge-term-Inv-loop judge-term-μ-loop
 judge-term-refused-requires t c κs = omega (arith, c .before .before .loop .inv .0 .near)
@@ -114,53 +116,55 @@ judge-term-returns : (t : ℕ) → judge-term-lts.Need-returns (judge-term-claim
 judge-term-returns t c =
     let l = c .before .before .before .loop in
     let n = c .before .before .row-number in
-    refused-spanned _ (n .result) (l .at) (omega (arith, l .inv .0 .near)) (c .refused .ensures) ∙ refused-span _ _ _ _ _ (l .inv .0) _ (n .ensures) (c .before .if1 .taken) ∙ l .inv .2
+    refused-spanned _ (n .result) (l .at) (omega (arith, l .inv .0 .near)) (c .refused .ensures) ∙ refused-span _ _ _ _ _ _ (l .inv .0) _ (n .ensures) (c .before .if1 .taken) ∙ l .inv .2
 
 judge-term-field-at-requires : (t : ℕ) → judge-term-lts.Need-field-at-requires (judge-term-claims t) (judge-term-at t) judge-term.Post judge-term-Inv-loop judge-term-μ-loop
+unfolding rowNumbers
 judge-term-field-at-requires t c κs =
     let l = c .before .before .loop in
-    (omega (arith, l .inv .0 .full, entered _ _ _ _ _ (l .inv .0) _ (c .before .row-number .ensures) (c .if1 .left) .room), omega arith)
+    (omega (arith, l .inv .0 .full, entered _ _ _ _ _ _ (l .inv .0) _ (c .before .row-number .ensures) (c .if1 .left) .room), omega arith)
 
 judge-term-add-next : (t : ℕ) → judge-term-lts.Need-add-next (judge-term-claims t) (judge-term-at t) judge-term.Post judge-term-Inv-loop judge-term-μ-loop
 judge-term-add-next t c =
     let l = c .before .before .before .loop in
-    let e = entered _ _ _ _ _ (l .inv .0) _ (c .before .before .row-number .ensures) (c .before .if1 .left) in
-    omega (arith, e .room)
+    let e = entered _ _ _ _ _ _ (l .inv .0) _ (c .before .before .row-number .ensures) (c .before .if1 .left) in
+    omega (arith, e .room, ranged _ (l .inv .0 .ranges) .terms)
 
 judge-term-counted-requires : (t : ℕ) → judge-term-lts.Need-counted-requires (judge-term-claims t) (judge-term-at t) judge-term.Post judge-term-Inv-loop judge-term-μ-loop
 judge-term-counted-requires t c κs =
     let l = c .before .before .before .before .loop in
-    let e = entered _ _ _ _ _ (l .inv .0) _ (c .before .before .before .row-number .ensures) (c .before .before .if1 .left) in
-    (omega (arith, e .room), omega (arith, l .inv .0 .few))
+    let e = entered _ _ _ _ _ _ (l .inv .0) _ (c .before .before .before .row-number .ensures) (c .before .before .if1 .left) in
+    (omega (arith, e .room, ranged _ (l .inv .0 .ranges) .terms), omega (arith, l .inv .0 .few, ranged _ (l .inv .0 .ranges) .boxes))
 
 judge-term-returns-2 : (t : ℕ) → judge-term-lts.Need-returns-2 (judge-term-claims t) (judge-term-at t) judge-term.Post judge-term-Inv-loop judge-term-μ-loop
 judge-term-returns-2 t c =
     let l = c .before .before .before .before .before .loop in
-    let e = entered _ _ _ _ _ (l .inv .0) _ (c .before .before .before .before .row-number .ensures) (c .before .before .before .if1 .left) in
-    counted-spanned _ _ _ (omega (arith, e .room)) (omega (arith, l .inv .0 .few)) (c .counted .ensures) ∙ leaf-spans _ _ _ _ _ e (c .before .before .field-at .result) (c .before .before .field-at .ensures) (λ z. omega arith) (λ z. omega arith) (λ z. omega arith) (λ z. omega arith) ∙ l .inv .2
+    let e = entered _ _ _ _ _ _ (l .inv .0) _ (c .before .before .before .before .row-number .ensures) (c .before .before .before .if1 .left) in
+    counted-spanned _ _ _ (omega (arith, e .room, ranged _ (l .inv .0 .ranges) .terms)) (omega (arith, l .inv .0 .few, ranged _ (l .inv .0 .ranges) .boxes)) (c .counted .ensures) ∙ leaf-spans _ _ _ _ _ _ e (c .before .before .field-at .result) (c .before .before .field-at .ensures) (λ z. omega arith) (λ z. omega arith) (λ z. omega arith) (λ z. omega arith) ∙ l .inv .2
 
 judge-term-counted-requires-2 : (t : ℕ) → judge-term-lts.Need-counted-requires-2 (judge-term-claims t) (judge-term-at t) judge-term.Post judge-term-Inv-loop judge-term-μ-loop
 judge-term-counted-requires-2 t c κs =
     let l = c .before .before .before .before .before .loop in
-    let e = entered _ _ _ _ _ (l .inv .0) _ (c .before .before .before .before .row-number .ensures) (c .before .before .before .if1 .left) in
-    (omega (arith, e .room), omega (arith, l .inv .0 .few))
+    let e = entered _ _ _ _ _ _ (l .inv .0) _ (c .before .before .before .before .row-number .ensures) (c .before .before .before .if1 .left) in
+    (omega (arith, e .room, ranged _ (l .inv .0 .ranges) .terms), omega (arith, l .inv .0 .few, ranged _ (l .inv .0 .ranges) .boxes))
 
 judge-term-returns-3 : (t : ℕ) → judge-term-lts.Need-returns-3 (judge-term-claims t) (judge-term-at t) judge-term.Post judge-term-Inv-loop judge-term-μ-loop
 judge-term-returns-3 t c =
     let l = c .before .before .before .before .before .before .loop in
-    let e = entered _ _ _ _ _ (l .inv .0) _ (c .before .before .before .before .before .row-number .ensures) (c .before .before .before .before .if1 .left) in
-    counted-spanned _ _ _ (omega (arith, e .room)) (omega (arith, l .inv .0 .few)) (c .counted2 .ensures) ∙ leaf-spans _ _ _ _ _ e (c .before .before .before .field-at .result) (c .before .before .before .field-at .ensures) (λ z. omega arith) (λ z. omega arith) (λ z. omega arith) (λ z. omega arith) ∙ l .inv .2
+    let e = entered _ _ _ _ _ _ (l .inv .0) _ (c .before .before .before .before .before .row-number .ensures) (c .before .before .before .before .if1 .left) in
+    counted-spanned _ _ _ (omega (arith, e .room, ranged _ (l .inv .0 .ranges) .terms)) (omega (arith, l .inv .0 .few, ranged _ (l .inv .0 .ranges) .boxes)) (c .counted2 .ensures) ∙ leaf-spans _ _ _ _ _ _ e (c .before .before .before .field-at .result) (c .before .before .before .field-at .ensures) (λ z. omega arith) (λ z. omega arith) (λ z. omega arith) (λ z. omega arith) ∙ l .inv .2
 
 judge-term-sub-left : (t : ℕ) → judge-term-lts.Need-sub-left (judge-term-claims t) (judge-term-at t) judge-term.Post judge-term-Inv-loop judge-term-μ-loop
 judge-term-sub-left t c =
     let l = c .before .before .before .before .before .loop in
-    let e = entered _ _ _ _ _ (l .inv .0) _ (c .before .before .before .before .row-number .ensures) (c .before .before .before .if1 .left) in
+    let e = entered _ _ _ _ _ _ (l .inv .0) _ (c .before .before .before .before .row-number .ensures) (c .before .before .before .if1 .left) in
     omega (arith, e .deep)
 
 judge-term-field-at-requires-2 : (t : ℕ) → judge-term-lts.Need-field-at-requires-2 (judge-term-claims t) (judge-term-at t) judge-term.Post judge-term-Inv-loop judge-term-μ-loop
+unfolding rowNumbers
 judge-term-field-at-requires-2 t c κs =
     let l = c .before .before .before .before .before .before .loop in
-    (omega (arith, l .inv .0 .full, entered _ _ _ _ _ (l .inv .0) _ (c .before .before .before .before .before .row-number .ensures) (c .before .before .before .before .if1 .left) .room), omega arith)
+    (omega (arith, l .inv .0 .full, entered _ _ _ _ _ _ (l .inv .0) _ (c .before .before .before .before .before .row-number .ensures) (c .before .before .before .before .if1 .left) .room), omega arith)
 
 judge-term-cast-count : (t : ℕ) → judge-term-lts.Need-cast-count (judge-term-claims t) (judge-term-at t) judge-term.Post judge-term-Inv-loop judge-term-μ-loop
 judge-term-cast-count t c = search needs
@@ -168,32 +172,34 @@ judge-term-cast-count t c = search needs
 judge-term-judge-block-requires : (t : ℕ) → judge-term-lts.Need-judge-block-requires (judge-term-claims t) (judge-term-at t) judge-term.Post judge-term-Inv-loop judge-term-μ-loop
 judge-term-judge-block-requires t c κs =
     let l = c .before .before .before .before .before .before .before .loop in
-    let e = entered _ _ _ _ _ (l .inv .0) _ (c .before .before .before .before .before .before .row-number .ensures) (c .before .before .before .before .before .if1 .left) in
-    (omega (arith, c .before .before .before .before .before .before .before .before .before .pre .0, l .inv .1, e .deep), (record { full = l .inv .0 .full; near = omega (arith, e .room); few = l .inv .0 .few }, block-count _ _ _ _ _ e _ (c .before .before .before .before .field-at .ensures) (c .before .if4 .taken) _ (c .field-at2 .ensures)))
+    let e = entered _ _ _ _ _ _ (l .inv .0) _ (c .before .before .before .before .before .before .row-number .ensures) (c .before .before .before .before .before .if1 .left) in
+    (omega (arith, c .before .before .before .before .before .before .before .before .before .pre .0, l .inv .1, e .deep), (record { ranges = l .inv .0 .ranges; full = l .inv .0 .full; near = omega (arith, e .room, ranged _ (l .inv .0 .ranges) .terms); few = l .inv .0 .few }, block-count _ _ _ _ _ _ e _ (c .before .before .before .before .field-at .ensures) (c .before .if4 .taken) _ (c .field-at2 .ensures)))
 
 judge-term-returns-4 : (t : ℕ) → judge-term-lts.Need-returns-4 (judge-term-claims t) (judge-term-at t) judge-term.Post judge-term-Inv-loop judge-term-μ-loop
 judge-term-returns-4 t c =
     let l = c .before .before .before .before .before .before .before .before .loop in
-    let e = entered _ _ _ _ _ (l .inv .0) _ (c .before .before .before .before .before .before .before .row-number .ensures) (c .before .before .before .before .before .before .if1 .left) in
-    block-spans _ _ _ _ _ e _ (c .before .before .before .before .before .field-at .ensures) (c .before .before .if4 .taken) _ (c .before .field-at2 .ensures) _ (c .judge-block .ensures) ∙ l .inv .2
+    let e = entered _ _ _ _ _ _ (l .inv .0) _ (c .before .before .before .before .before .before .before .row-number .ensures) (c .before .before .before .before .before .before .if1 .left) in
+    block-spans _ _ _ _ _ _ e _ (c .before .before .before .before .before .field-at .ensures) (c .before .before .if4 .taken) _ (c .before .field-at2 .ensures) _ (c .judge-block .ensures) ∙ l .inv .2
 
 judge-term-boxes-with-requires : (t : ℕ) → judge-term-lts.Need-boxes-with-requires (judge-term-claims t) (judge-term-at t) judge-term.Post judge-term-Inv-loop judge-term-μ-loop
-judge-term-boxes-with-requires t c κs = c .before .before .before .before .before .before .loop .inv .0 .few
+judge-term-boxes-with-requires t c κs =
+    let l = c .before .before .before .before .before .before .loop in
+    omega (arith, l .inv .0 .few, ranged _ (l .inv .0 .ranges) .boxes)
 
 judge-term-loop-less : (t : ℕ) → judge-term-lts.Need-loop-less (judge-term-claims t) (judge-term-at t) judge-term.Post judge-term-Inv-loop judge-term-μ-loop
 judge-term-loop-less t c =
     let l = c .before .before .before .before .before .before .before .loop in
-    let e = entered _ _ _ _ _ (l .inv .0) _ (c .before .before .before .before .before .before .row-number .ensures) (c .before .before .before .before .before .if1 .left) in
+    let e = entered _ _ _ _ _ _ (l .inv .0) _ (c .before .before .before .before .before .before .row-number .ensures) (c .before .before .before .before .before .if1 .left) in
     omega (arith, e .deep)
 
 judge-term-loop-again : (t : ℕ) → judge-term-lts.Need-loop-again (judge-term-claims t) (judge-term-at t) judge-term.Post judge-term-Inv-loop judge-term-μ-loop
 judge-term-loop-again t c =
     let l = c .before .before .before .before .before .before .before .loop in
-    let e = entered _ _ _ _ _ (l .inv .0) _ (c .before .before .before .before .before .before .row-number .ensures) (c .before .before .before .before .before .if1 .left) in
+    let e = entered _ _ _ _ _ _ (l .inv .0) _ (c .before .before .before .before .before .before .row-number .ensures) (c .before .before .before .before .before .if1 .left) in
     let k = c .before .before .before .before .field-at in (
-      record { full = l .inv .0 .full; near = omega (arith, e .room); few = boxed-few _ _ _ _ _ e _ (k .ensures) _ (c .boxes-with .ensures) },
+      record { ranges = l .inv .0 .ranges; full = l .inv .0 .full; near = omega (arith, e .room, ranged _ (l .inv .0 .ranges) .terms); few = boxed-few _ _ _ _ _ _ e _ (k .ensures) _ (c .boxes-with .ensures) },
       omega (arith, l .inv .1),
-      around-spans _ _ _ _ _ e _ (k .ensures) (c .before .before .before .if2 .left) (c .before .before .if3 .left) (c .before .if4 .left) _ (c .boxes-with .ensures) _ refl ∙ l .inv .2,
+      around-spans _ _ _ _ _ _ e _ (k .ensures) (c .before .before .before .if2 .left) (c .before .before .if3 .left) (c .before .if4 .left) _ (c .boxes-with .ensures) _ refl ∙ l .inv .2,
     )
 
 pub +judge-block+judge-term-spec : {M : Type 1} → statement M

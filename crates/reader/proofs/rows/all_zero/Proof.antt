@@ -23,4 +23,8 @@ unfolding fieldsFit
 returns-4 c = rw (eq-eqb _ _ (c .before .before .if1 .left), eq-eqb _ _ (c .before .if2 .left), ne-eqb _ _ (c .if3 .left))
 
 pub all-zero-spec : {M : Type 1} → statement M
-all-zero-spec = tie.close (tie.spec returns returns-2 returns-3 returns-4)
+all-zero-spec = tie.close (tie.spec
+    returns
+    returns-2
+    returns-3
+    returns-4)

@@ -17,4 +17,7 @@ unfolding noBlock
 returns-2 c = rw (← c .before .field-at .ensures, le-ltb _ _ (c .if1 .left))
 
 pub no-block-spec : {M : Type 1} → statement M
-no-block-spec = tie.close (tie.spec field-at-requires returns returns-2)
+no-block-spec = tie.close (tie.spec
+    field-at-requires
+    returns
+    returns-2)

@@ -21,4 +21,8 @@ unfolding fieldsFit fieldFits
 returns-3 c = rw (le-leb _ _ (c .before .if1 .left), le-ltb _ _ (c .if2 .left))
 
 pub one-fits-spec : {M : Type 1} → statement M
-one-fits-spec = tie.close (tie.spec returns all-zero-requires returns-2 returns-3)
+one-fits-spec = tie.close (tie.spec
+    returns
+    all-zero-requires
+    returns-2
+    returns-3)

@@ -16,4 +16,6 @@ unfolding fieldsFit fieldFits
 returns-2 c = rw (leb·zero (c .before .args .root), le-ltb _ _ (c .if1 .left))
 
 pub place-fits-spec : {M : Type 1} → statement M
-place-fits-spec = tie.close (tie.spec returns returns-2)
+place-fits-spec = tie.close (tie.spec
+    returns
+    returns-2)

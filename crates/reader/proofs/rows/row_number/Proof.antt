@@ -6,26 +6,28 @@ use mathlib.Core.Bool.{Bool, true, false, _&&_}
 use lib.Dec.{leb, eqb}
 use borrow.Author.Needs.{needs}
 use borrow.Author.Tests.{eq-eqb, ne-eqb, lt-ltb, le-ltb, le-leb, lt-leb}
+use Rattle.reader.specs.Limits.{rowNumbers, unpacked}
 use Rattle.reader.specs.RowParts.{rowNumber}
 use Rattle.reader.proofs.rows.row_number.Statement.{statement}
 use Rattle.reader.proofs.rows.row_number.Tie as tie
 
 -- The test that looks at the kind and at the boxes: where it does not refuse.
-room-left : (kind boxes : ℕ) → boxes < 64 → (eqb kind 7 && leb 64 boxes) ≡ false
-room-left kind boxes h = rw (lt-leb 64 boxes h) (go (eqb kind 7))
+room-left : (most kind boxes : ℕ) → boxes < most → (eqb kind 7 && leb most boxes) ≡ false
+room-left most kind boxes h = rw (lt-leb most boxes h) (go (eqb kind 7))
   where
     go : (t : Bool) → (t && false) ≡ false
     go true = refl
     go false = refl
 
-no-box : (kind boxes : ℕ) → (kind ≡ 7 → ⊥) → (eqb kind 7 && leb 64 boxes) ≡ false
-no-box kind boxes n = rw (ne-eqb kind 7 n)
+no-box : (most kind boxes : ℕ) → (kind ≡ 7 → ⊥) → (eqb kind 7 && leb most boxes) ≡ false
+no-box most kind boxes n = rw (ne-eqb kind 7 n)
 
 returns : tie.Need-returns
 unfolding rowNumber
 returns c = rw (le-leb _ _ (c .if1 .taken))
 
 field-at-requires : tie.Need-field-at-requires
+unfolding rowNumbers
 field-at-requires c κs = search needs
 
 returns-2 : tie.Need-returns-2
@@ -45,15 +47,19 @@ unfolding rowNumber
 returns-5 c = rw (lt-leb _ _ (c .before .before .before .before .before .before .if1 .left), ← c .before .before .before .before .before .field-at .ensures, ne-eqb _ _ (c .before .before .before .before .if2 .left), le-ltb _ _ (c .before .before .before .if3 .left), ne-eqb _ _ (c .before .before .if4 .left), eq-eqb _ _ (c .before .if5 .taken), le-leb _ _ (c .if6 .taken))
 
 field-at-requires-2 : tie.Need-field-at-requires-2
+unfolding rowNumbers
 field-at-requires-2 c κs = search needs
 
 field-at-requires-3 : tie.Need-field-at-requires-3
+unfolding rowNumbers
 field-at-requires-3 c κs = search needs
 
 field-at-requires-4 : tie.Need-field-at-requires-4
+unfolding rowNumbers
 field-at-requires-4 c κs = search needs
 
 field-at-requires-5 : tie.Need-field-at-requires-5
+unfolding rowNumbers
 field-at-requires-5 c κs = search needs
 
 fields-fit-requires : tie.Need-fields-fit-requires
@@ -63,16 +69,20 @@ returns-6 : tie.Need-returns-6
 unfolding rowNumber
 returns-6 c =
     let kind = c .before .before .before .before .before .before .before .before .before .before .field-at .result in
-    let boxes = c .before .before .before .before .before .before .before .before .before .before .before .before .before .args .boxes in
-    let room : (eqb kind 7 && leb 64 boxes) ≡ false = ⊎-elim (λ w. room-left kind boxes (w .1 .left)) (λ w. no-box kind boxes (w .left)) (c .before .before .before .before .before .before .if5 .came) in
+    let a = c .before .before .before .before .before .before .before .before .before .before .before .before .before .args in
+    let boxes = a .boxes in
+    let most = unpacked (a .sizes) .boxes in
+    let room : (eqb kind 7 && leb most boxes) ≡ false = ⊎-elim (λ w. room-left most kind boxes (w .1 .left)) (λ w. no-box most kind boxes (w .left)) (c .before .before .before .before .before .before .if5 .came) in
     rw (lt-leb _ _ (c .before .before .before .before .before .before .before .before .before .before .before .if1 .left), ← c .before .before .before .before .before .before .before .before .before .before .field-at .ensures, ne-eqb _ _ (c .before .before .before .before .before .before .before .before .before .if2 .left), le-ltb _ _ (c .before .before .before .before .before .before .before .before .if3 .left), ne-eqb _ _ (c .before .before .before .before .before .before .before .if4 .left), room, ← c .before .before .before .before .before .field-at2 .ensures, ← c .before .before .before .before .field-at3 .ensures, ← c .before .before .before .field-at4 .ensures, ← c .before .before .field-at5 .ensures, ← c .before .fields-fit .ensures, c .if7 .taken)
 
 returns-7 : tie.Need-returns-7
 unfolding rowNumber
 returns-7 c =
     let kind = c .before .before .before .before .before .before .before .before .before .before .field-at .result in
-    let boxes = c .before .before .before .before .before .before .before .before .before .before .before .before .before .args .boxes in
-    let room : (eqb kind 7 && leb 64 boxes) ≡ false = ⊎-elim (λ w. room-left kind boxes (w .1 .left)) (λ w. no-box kind boxes (w .left)) (c .before .before .before .before .before .before .if5 .came) in
+    let a = c .before .before .before .before .before .before .before .before .before .before .before .before .before .args in
+    let boxes = a .boxes in
+    let most = unpacked (a .sizes) .boxes in
+    let room : (eqb kind 7 && leb most boxes) ≡ false = ⊎-elim (λ w. room-left most kind boxes (w .1 .left)) (λ w. no-box most kind boxes (w .left)) (c .before .before .before .before .before .before .if5 .came) in
     rw (lt-leb _ _ (c .before .before .before .before .before .before .before .before .before .before .before .if1 .left), ← c .before .before .before .before .before .before .before .before .before .before .field-at .ensures, ne-eqb _ _ (c .before .before .before .before .before .before .before .before .before .if2 .left), le-ltb _ _ (c .before .before .before .before .before .before .before .before .if3 .left), ne-eqb _ _ (c .before .before .before .before .before .before .before .if4 .left), room, ← c .before .before .before .before .before .field-at2 .ensures, ← c .before .before .before .before .field-at3 .ensures, ← c .before .before .before .field-at4 .ensures, ← c .before .before .field-at5 .ensures, ← c .before .fields-fit .ensures, c .if7 .left)
 
 pub row-number-spec : {M : Type 1} → statement M

@@ -1,16 +1,15 @@
 -- The term reader and the block reader, which call each other, meet their contracts. The measure is twice the levels left, one more for
--- the block; the loop's invariant is `Going`. Assumes nothing.
-use Prim.Native.Nat.{ℕ, _<_, _+_, _*_}
+-- the block; the loops' invariants are `Inner` and `Going`. Assumes nothing.
+use Prim.Native.Nat.{ℕ, _<_, _+_, _-_, _*_}
 use native.Mathlib.Omega.{arith}
 use mathlib.Core.Path.{_≡_, refl, sym, _∙_}
 use borrow.Author.Needs.{needs}
 use lib.ListN.{length}
-use Rattle.reader.proofs.Lists.{within-list}
-use Rattle.reader.proofs.ByteLaws.{opening-clear}
+use Rattle.reader.specs.Limits.{rowNumbers, unpacked}
+use Rattle.reader.proofs.Ranges.{ranged}
 use Rattle.reader.proofs.PackedLaws.{found-refused, found-fine, refused-found, fine-found}
-use Rattle.reader.proofs.Refusals.{operands-near}
-use Rattle.reader.proofs.TermLaws.{around-kind, leaf-kind, block-kind, head-of, filled-row, number-refused, operand-refused, leaf-returns, around-returns, block-returns, inner-ready, block-ready}
 use Rattle.reader.proofs.LoopLaws.{Going, going-start, going-ready, going-refused, going-on, going-end}
+use Rattle.reader.proofs.TermLoop.{Inner, inner-start, number-stops, clear, kind-within, kind-known, operand-stops, operand-near, rest-within, rest-near, leaf-stops, count-within, block-asks, block-stops, inner-on}
 use borrow.Fn.Kinds.{In}
 use borrow.Fn.PlainCycle.{Measures, is, falls, and}
 use Rattle.reader.proofs.terms.read_block.Reads as read-block
@@ -19,19 +18,19 @@ use Rattle.reader.proofs.terms.+read_block+read_term.Lts-read_block as 
 use Rattle.reader.proofs.terms.read_term.Reads as read-term
 use Rattle.reader.proofs.terms.read_term.Kinds as read-term-kinds
 use Rattle.reader.proofs.terms.+read_block+read_term.Lts-read_term as read-term-lts
+use Rattle.reader.proofs.opening.boxes_with.Reads as boxes-with-reads
 use Rattle.reader.proofs.opening.opening_number.Reads as opening-number-reads
 use Rattle.reader.proofs.operands.read_operands.Reads as read-operands-reads
 use Rattle.reader.proofs.packed.fine.Reads as fine-reads
 use Rattle.reader.proofs.packed.refused.Reads as refused-reads
-use Rattle.reader.proofs.opening.boxes_with.Reads as boxes-with-reads
 use Rattle.reader.proofs.terms.+read_block+read_term.{statement}
 use Rattle.reader.proofs.terms.+read_block+read_term.Tie.{close}
 
 abbrev μ-read-block : Measures 2 read-block-kinds.ps ℕ
-μ-read-block κs a = a .1 .1 .1 .0 * 2 + 1
+μ-read-block κs a = a .1 .1 .1 .1 .0 * 2 + 1
 
 abbrev μ-read-term : Measures 2 read-term-kinds.ps ℕ
-μ-read-term κs a = a .1 .1 .0 * 2
+μ-read-term κs a = a .1 .1 .1 .0 * 2
 
 abbrev read-block-at : ℕ → In 2 read-block-kinds.ps
 read-block-at t =
@@ -49,20 +48,20 @@ read-term-below t =
     and 2 read-term-kinds.ps (falls 2 read-term-kinds.ps _<_ μ-read-term t) read-term.Pre
 
 abbrev read-block-Inv-loop : read-block-lts.InvT-loop
-read-block-Inv-loop tail at count levels terms boxes rows₀ next₀ met₀ boxed₀ left₀ rows next met boxed left =
-    Going levels count tail at terms boxes rows₀ rows next met boxed left × (met < 1024) × (length rows ≡ length rows₀)
+read-block-Inv-loop sizes tail at count levels terms boxes rows₀ next₀ met₀ boxed₀ left₀ rows next met boxed left =
+    Going (unpacked sizes) levels count tail at terms boxes rows₀ rows next met boxed left × (met < 8192) × (length rows ≡ length rows₀)
 
 abbrev read-block-μ-loop : read-block-lts.MeasureT-loop
-read-block-μ-loop tail at count levels terms boxes rows₀ next₀ met₀ boxed₀ left₀ rows next met boxed left = left
+read-block-μ-loop sizes tail at count levels terms boxes rows₀ next₀ met₀ boxed₀ left₀ rows next met boxed left = left
 
 abbrev read-block-claims : ℕ → read-block-lts.Claims
 read-block-claims t = (read-term-below t, read-term.Post, fine-reads.Asked, fine-reads.Learnt)
 
 abbrev read-term-claims : ℕ → read-term-lts.Claims
-read-term-claims t = (opening-number-reads.Asked, opening-number-reads.Learnt, refused-reads.Asked, refused-reads.Learnt, read-operands-reads.Asked, read-operands-reads.Learnt, fine-reads.Asked, fine-reads.Learnt, read-block-below t, read-block.Post, boxes-with-reads.Asked, boxes-with-reads.Learnt, read-term-below t, read-term.Post)
+read-term-claims t = (opening-number-reads.Asked, opening-number-reads.Learnt, refused-reads.Asked, refused-reads.Learnt, read-operands-reads.Asked, read-operands-reads.Learnt, fine-reads.Asked, fine-reads.Learnt, read-block-below t, read-block.Post, boxes-with-reads.Asked, boxes-with-reads.Learnt)
 
 read-block-loop-holds : (t : ℕ) → read-block-lts.Need-loop-holds (read-block-claims t) (read-block-at t) read-block.Post read-block-Inv-loop read-block-μ-loop
-read-block-loop-holds t c = (going-start _ _ _ _ _ _ _ (c .before .before .pre .1 .0) (c .before .before .pre .1 .1), c .before .before .pre .1 .2, refl)
+read-block-loop-holds t c = (going-start _ _ _ _ _ _ _ _ (c .before .before .pre .1 .0) (c .before .before .pre .1 .1), c .before .before .pre .1 .2, refl)
 
 read-block-sub-used : (t : ℕ) → read-block-lts.Need-sub-used (read-block-claims t) (read-block-at t) read-block.Post read-block-Inv-loop read-block-μ-loop
 read-block-sub-used t c = c .before .loop .inv .0 .from
@@ -77,13 +76,13 @@ read-block-part-read-term-end : (t : ℕ) → read-block-lts.Need-part-read-term
 read-block-part-read-term-end t c = search needs
 
 read-block-read-term-requires : (t : ℕ) → read-block-lts.Need-read-term-requires (read-block-claims t) (read-block-at t) read-block.Post read-block-Inv-loop read-block-μ-loop
-read-block-read-term-requires t c κs = (omega (arith, c .before .before .before .before .before .before .pre .0), going-ready _ _ _ _ _ _ _ _ _ _ _ _ (c .before .before .before .loop .inv .0))
+read-block-read-term-requires t c κs = (omega (arith, c .before .before .before .before .before .before .pre .0), going-ready _ _ _ _ _ _ _ _ _ _ _ _ _ (c .before .before .before .loop .inv .0))
 
 read-block-same-length : (t : ℕ) → read-block-lts.Need-same-length (read-block-claims t) (read-block-at t) read-block.Post read-block-Inv-loop read-block-μ-loop
 read-block-same-length t c = c .before .before .before .read-term .kept .1 .1 .1 .1 .1 .1 .0 ∙ c .before .before .before .before .before .before .before .loop .inv .2
 
 read-block-returns : (t : ℕ) → read-block-lts.Need-returns (read-block-claims t) (read-block-at t) read-block.Post read-block-Inv-loop read-block-μ-loop
-read-block-returns t c = going-refused _ _ _ _ _ _ _ _ _ _ _ _ (c .before .before .before .before .before .before .before .loop .inv .0) (c .before .before .before .before .before .before .loop-test .taken) _ _ (c .before .before .before .read-term .ensures) _ _ (found-refused _ (c .if1 .taken))
+read-block-returns t c = going-refused _ _ _ _ _ _ _ _ _ _ _ _ _ (c .before .before .before .before .before .before .before .loop .inv .0) (c .before .before .before .before .before .before .loop-test .taken) _ _ (c .before .before .before .read-term .ensures) _ _ (found-refused _ (c .if1 .taken))
 
 read-block-sub-left : (t : ℕ) → read-block-lts.Need-sub-left (read-block-claims t) (read-block-at t) read-block.Post read-block-Inv-loop read-block-μ-loop
 read-block-sub-left t c = c .before .before .before .before .before .before .loop-test .taken
@@ -95,12 +94,12 @@ read-block-loop-again : (t : ℕ) → read-block-lts.Need-loop-again (read-block
 read-block-loop-again t c =
     let kept = c .before .before .before .read-term .kept .1 .1 .1 .1 .1 .1 .0 in
     let g = c .before .before .before .before .before .before .before .loop .inv .0 in
-    (going-on _ _ _ _ _ _ _ _ _ _ _ _ g (c .before .before .before .before .before .before .loop-test .taken) _ _ (c .before .before .before .read-term .ensures) _ _ _ (found-fine _ (c .if1 .left)) (kept ∙ g .ready .full), omega arith, kept ∙ c .before .before .before .before .before .before .before .loop .inv .2)
+    (going-on _ _ _ _ _ _ _ _ _ _ _ _ _ g (c .before .before .before .before .before .before .loop-test .taken) _ _ (c .before .before .before .read-term .ensures) _ _ _ (found-fine _ (c .if1 .left)) (kept ∙ g .ready .full), omega arith, kept ∙ c .before .before .before .before .before .before .before .loop .inv .2)
 
 read-block-fine-requires : (t : ℕ) → read-block-lts.Need-fine-requires (read-block-claims t) (read-block-at t) read-block.Post read-block-Inv-loop read-block-μ-loop
 read-block-fine-requires t c κs =
     let g = c .before .loop .inv .0 in
-    (omega (arith, g .ready .room), c .before .loop .inv .1, omega (arith, g .ready .few))
+    (omega (arith, g .ready .room), c .before .loop .inv .1, omega (arith, g .ready .few, ranged _ (g .ready .ranges) .boxes))
 
 read-block-same-length-2 : (t : ℕ) → read-block-lts.Need-same-length-2 (read-block-claims t) (read-block-at t) read-block.Post read-block-Inv-loop read-block-μ-loop
 read-block-same-length-2 t c = c .before .before .loop .inv .2
@@ -108,156 +107,150 @@ read-block-same-length-2 t c = c .before .before .loop .inv .2
 read-block-returns-2 : (t : ℕ) → read-block-lts.Need-returns-2 (read-block-claims t) (read-block-at t) read-block.Post read-block-Inv-loop read-block-μ-loop
 read-block-returns-2 t c =
     let g = c .before .before .loop .inv .0 in
-    let q = going-end _ _ _ _ _ _ _ _ _ _ _ _ g (c .before .loop-test .left) in
-    (fine-found _ _ _ _ (omega (arith, g .ready .room)) (c .before .before .loop .inv .1) (omega (arith, g .ready .few)) (c .fine .ensures) ∙ q .0, q .1)
+    let q = going-end _ _ _ _ _ _ _ _ _ _ _ _ _ g (c .before .loop-test .left) in
+    (fine-found _ _ _ _ (omega (arith, g .ready .room)) (c .before .before .loop .inv .1) (omega (arith, g .ready .few, ranged _ (g .ready .ranges) .boxes)) (c .fine .ensures) ∙ q .0, q .1)
 
-read-term-opening-number-requires : (t : ℕ) → read-term-lts.Need-opening-number-requires (read-term-claims t) (read-term-at t) read-term.Post
+abbrev read-term-Inv-loop : read-term-lts.InvT-loop
+read-term-Inv-loop sizes tail at levels terms boxes rows₀ next₀ left₀ met₀ boxed₀ rows next left met boxed =
+    Inner (unpacked sizes) levels tail at terms boxes rows₀ rows next left met boxed
+
+abbrev read-term-μ-loop : read-term-lts.MeasureT-loop
+read-term-μ-loop sizes tail at levels terms boxes rows₀ next₀ left₀ met₀ boxed₀ rows next left met boxed = left
+
+read-term-loop-holds : (t : ℕ) → read-term-lts.Need-loop-holds (read-term-claims t) (read-term-at t) read-term.Post read-term-Inv-loop read-term-μ-loop
+read-term-loop-holds t c = inner-start _ _ _ _ _ _ _ (c .before .before .pre .1)
+
+read-term-sub-used : (t : ℕ) → read-term-lts.Need-sub-used (read-term-claims t) (read-term-at t) read-term.Post read-term-Inv-loop read-term-μ-loop
+read-term-sub-used t c = c .loop .inv .from
+
+read-term-sub-opening-number : (t : ℕ) → read-term-lts.Need-sub-opening-number (read-term-claims t) (read-term-at t) read-term.Post read-term-Inv-loop read-term-μ-loop
+read-term-sub-opening-number t c = c .loop .inv .within
+
+read-term-part-opening-number-start : (t : ℕ) → read-term-lts.Need-part-opening-number-start (read-term-claims t) (read-term-at t) read-term.Post read-term-Inv-loop read-term-μ-loop
+read-term-part-opening-number-start t c = c .loop .inv .within
+
+read-term-part-opening-number-end : (t : ℕ) → read-term-lts.Need-part-opening-number-end (read-term-claims t) (read-term-at t) read-term.Post read-term-Inv-loop read-term-μ-loop
+read-term-part-opening-number-end t c = search needs
+
+read-term-opening-number-requires : (t : ℕ) → read-term-lts.Need-opening-number-requires (read-term-claims t) (read-term-at t) read-term.Post read-term-Inv-loop read-term-μ-loop
 read-term-opening-number-requires t c κs = search needs
 
-read-term-refused-requires : (t : ℕ) → read-term-lts.Need-refused-requires (read-term-claims t) (read-term-at t) read-term.Post
-read-term-refused-requires t c κs = omega (arith, c .before .before .before .before .pre .1 .room)
+read-term-refused-requires : (t : ℕ) → read-term-lts.Need-refused-requires (read-term-claims t) (read-term-at t) read-term.Post read-term-Inv-loop read-term-μ-loop
+read-term-refused-requires t c κs = omega (arith, c .before .before .before .loop .inv .ready .room)
 
-read-term-returns : (t : ℕ) → read-term-lts.Need-returns (read-term-claims t) (read-term-at t) read-term.Post
+read-term-same-length : (t : ℕ) → read-term-lts.Need-same-length (read-term-claims t) (read-term-at t) read-term.Post read-term-Inv-loop read-term-μ-loop
+read-term-same-length t c = c .before .before .before .before .loop .inv .same
+
+read-term-returns : (t : ℕ) → read-term-lts.Need-returns (read-term-claims t) (read-term-at t) read-term.Post read-term-Inv-loop read-term-μ-loop
 read-term-returns t c =
-    let q = number-refused _ _ _ _ _ _ _ _ (c .before .before .before .before .before .pre .1 .few) (c .before .before .opening-number .ensures) (c .before .if1 .taken) in
-    (refused-found _ (c .before .before .opening-number .result) (c .before .before .before .before .before .args .at) (omega (arith, c .before .before .before .before .before .pre .1 .room)) (c .refused .ensures) ∙ q .0, q .1)
+    let q = number-stops (c .before .before .before .before .loop .inv) (c .before .before .opening-number .ensures) (c .before .if1 .taken) in
+    (refused-found _ (c .before .before .opening-number .result) (c .before .before .before .before .loop .next) (omega (arith, c .before .before .before .before .loop .inv .ready .room)) (c .refused .ensures) ∙ q .0, q .1)
 
-read-term-shared-slice-read-kind : (t : ℕ) → read-term-lts.Need-shared-slice-read-kind (read-term-claims t) (read-term-at t) read-term.Post
-read-term-shared-slice-read-kind t c = opening-clear _ _ _ (c .before .before .before .before .before .args .at) _ _ (c .before .before .before .before .before .pre .1 .few) (sym (c .before .before .opening-number .ensures) ∙ c .before .if1 .left) .bytes
+read-term-shared-slice-read-kind : (t : ℕ) → read-term-lts.Need-shared-slice-read-kind (read-term-claims t) (read-term-at t) read-term.Post read-term-Inv-loop read-term-μ-loop
+read-term-shared-slice-read-kind t c = kind-within (c .before .before .before .before .loop .inv) (c .before .before .opening-number .ensures) (c .before .if1 .left)
 
-read-term-cast-kind : (t : ℕ) → read-term-lts.Need-cast-kind (read-term-claims t) (read-term-at t) read-term.Post
-read-term-cast-kind t c = omega (arith, c .shared-slice-known2 .given 0)
+read-term-cast-kind : (t : ℕ) → read-term-lts.Need-cast-kind (read-term-claims t) (read-term-at t) read-term.Post read-term-Inv-loop read-term-μ-loop
+read-term-cast-kind t c = omega (arith, c .shared-slice-known2 .given (c .before .before .before .before .loop .next - c .before .before .before .before .before .before .before .args .at))
 
-read-term-read-operands-requires : (t : ℕ) → read-term-lts.Need-read-operands-requires (read-term-claims t) (read-term-at t) read-term.Post
-read-term-read-operands-requires t c κs =
-    let k = opening-clear _ _ _ (c .before .before .before .before .before .before .args .at) _ _ (c .before .before .before .before .before .before .pre .1 .few) (sym (c .before .before .before .opening-number .ensures) ∙ c .before .before .if1 .left) in
-    (c .before .before .before .before .before .before .pre .1 .room, omega (arith, k .room, c .before .before .before .before .before .before .pre .1 .full), k .is-kind)
+read-term-sub-read-operands : (t : ℕ) → read-term-lts.Need-sub-read-operands (read-term-claims t) (read-term-at t) read-term.Post read-term-Inv-loop read-term-μ-loop
+read-term-sub-read-operands t c = c .before .before .before .before .loop .inv .within
 
-read-term-enum-known-fields : (t : ℕ) → read-term-lts.Need-enum-known-fields (read-term-claims t) (read-term-at t) read-term.Post
+read-term-part-read-operands-start : (t : ℕ) → read-term-lts.Need-part-read-operands-start (read-term-claims t) (read-term-at t) read-term.Post read-term-Inv-loop read-term-μ-loop
+read-term-part-read-operands-start t c = c .before .before .before .before .loop .inv .within
+
+read-term-part-read-operands-end : (t : ℕ) → read-term-lts.Need-part-read-operands-end (read-term-claims t) (read-term-at t) read-term.Post read-term-Inv-loop read-term-μ-loop
+read-term-part-read-operands-end t c = search needs
+
+read-term-read-operands-requires : (t : ℕ) → read-term-lts.Need-read-operands-requires (read-term-claims t) (read-term-at t) read-term.Post read-term-Inv-loop read-term-μ-loop
+unfolding rowNumbers
+read-term-read-operands-requires t c κs = (c .before .before .before .before .before .before .loop .inv .ready .room, omega (arith, clear (c .before .before .before .before .before .before .loop .inv) (c .before .before .before .before .opening-number .ensures) (c .before .before .before .if1 .left) .room, c .before .before .before .before .before .before .loop .inv .ready .full), kind-known (c .before .before .before .before .before .before .loop .inv) (c .before .before .before .before .opening-number .ensures) (c .before .before .before .if1 .left))
+
+read-term-enum-known-fields : (t : ℕ) → read-term-lts.Need-enum-known-fields (read-term-claims t) (read-term-at t) read-term.Post read-term-Inv-loop read-term-μ-loop
 read-term-enum-known-fields t c = search needs
 
-read-term-refused-requires-2 : (t : ℕ) → read-term-lts.Need-refused-requires-2 (read-term-claims t) (read-term-at t) read-term.Post
-read-term-refused-requires-2 t c κs = omega (arith, operands-near _ _ _ _ _ (sym (c .before .before .before .before .before .read-operands .ensures .0) ∙ c .before .fields .given .1) (c .before .before .before .before .before .before .before .before .before .before .before .before .pre .1 .room))
+read-term-refused-requires-2 : (t : ℕ) → read-term-lts.Need-refused-requires-2 (read-term-claims t) (read-term-at t) read-term.Post read-term-Inv-loop read-term-μ-loop
+read-term-refused-requires-2 t c κs = omega (arith, operand-near (c .before .before .before .before .before .before .before .before .before .before .before .before .loop .inv) (c .before .before .before .before .before .before .before .before .before .before .opening-number .ensures) (c .before .before .before .before .before .before .before .before .before .if1 .left) _ (c .before .before .before .before .before .read-operands .ensures) (c .before .fields .given .1))
 
-read-term-enum-known-fields-2 : (t : ℕ) → read-term-lts.Need-enum-known-fields-2 (read-term-claims t) (read-term-at t) read-term.Post
+read-term-same-length-2 : (t : ℕ) → read-term-lts.Need-same-length-2 (read-term-claims t) (read-term-at t) read-term.Post read-term-Inv-loop read-term-μ-loop
+read-term-same-length-2 t c = c .before .before .before .before .before .before .read-operands .kept .1 .1 .1 .1 .1 .0 ∙ c .before .before .before .before .before .before .before .before .before .before .before .before .before .loop .inv .same
+
+read-term-returns-2 : (t : ℕ) → read-term-lts.Need-returns-2 (read-term-claims t) (read-term-at t) read-term.Post read-term-Inv-loop read-term-μ-loop
+read-term-returns-2 t c =
+    let q = operand-stops (c .before .before .before .before .before .before .before .before .before .before .before .before .before .loop .inv) (c .before .before .before .before .before .before .before .before .before .before .before .opening-number .ensures) (c .before .before .before .before .before .before .before .before .before .before .if1 .left) _ (c .before .before .before .before .before .before .read-operands .ensures) (c .before .before .fields .given .1) in
+    (refused-found _ _ _ (omega (arith, operand-near (c .before .before .before .before .before .before .before .before .before .before .before .before .before .loop .inv) (c .before .before .before .before .before .before .before .before .before .before .before .opening-number .ensures) (c .before .before .before .before .before .before .before .before .before .before .if1 .left) _ (c .before .before .before .before .before .before .read-operands .ensures) (c .before .before .fields .given .1))) (c .refused2 .ensures) ∙ q .0, q .1)
+
+read-term-enum-known-fields-2 : (t : ℕ) → read-term-lts.Need-enum-known-fields-2 (read-term-claims t) (read-term-at t) read-term.Post read-term-Inv-loop read-term-μ-loop
 read-term-enum-known-fields-2 t c = search needs
 
-read-term-add-next : (t : ℕ) → read-term-lts.Need-add-next (read-term-claims t) (read-term-at t) read-term.Post
-read-term-add-next t c =
-    let k = opening-clear _ _ _ (c .before .before .before .before .before .before .before .before .before .before .before .before .args .at) _ _ (c .before .before .before .before .before .before .before .before .before .before .before .before .pre .1 .few) (sym (c .before .before .before .before .before .before .before .before .before .opening-number .ensures) ∙ c .before .before .before .before .before .before .before .before .if1 .left) in
-    let h = head-of _ _ _ (c .before .before .before .before .before .before .before .before .before .before .before .before .args .at) _ _ k _ (sym (c .before .before .before .before .before .read-operands .ensures .0) ∙ c .before .fields2 .given .1) in
-    omega (arith, h .within, c .before .before .before .before .before .before .before .before .before .before .before .before .pre .1 .room)
+read-term-add-next : (t : ℕ) → read-term-lts.Need-add-next (read-term-claims t) (read-term-at t) read-term.Post read-term-Inv-loop read-term-μ-loop
+read-term-add-next t c = omega (arith, rest-near (c .before .before .before .before .before .before .before .before .before .before .before .before .loop .inv) (c .before .before .before .before .before .before .before .before .before .before .opening-number .ensures) (c .before .before .before .before .before .before .before .before .before .if1 .left) _ (c .before .before .before .before .before .read-operands .ensures) (c .before .fields2 .given .1))
 
-read-term-add-met : (t : ℕ) → read-term-lts.Need-add-met (read-term-claims t) (read-term-at t) read-term.Post
-read-term-add-met t c = omega (arith, opening-clear _ _ _ (c .before .before .before .before .before .before .before .before .before .before .before .before .args .at) _ _ (c .before .before .before .before .before .before .before .before .before .before .before .before .pre .1 .few) (sym (c .before .before .before .before .before .before .before .before .before .opening-number .ensures) ∙ c .before .before .before .before .before .before .before .before .if1 .left) .room)
+read-term-add-met : (t : ℕ) → read-term-lts.Need-add-met (read-term-claims t) (read-term-at t) read-term.Post read-term-Inv-loop read-term-μ-loop
+read-term-add-met t c = omega (arith, clear (c .before .before .before .before .before .before .before .before .before .before .before .before .loop .inv) (c .before .before .before .before .before .before .before .before .before .before .opening-number .ensures) (c .before .before .before .before .before .before .before .before .before .if1 .left) .room)
 
-read-term-fine-requires : (t : ℕ) → read-term-lts.Need-fine-requires (read-term-claims t) (read-term-at t) read-term.Post
-read-term-fine-requires t c κs =
-    let k = opening-clear _ _ _ (c .before .before .before .before .before .before .before .before .before .before .before .before .args .at) _ _ (c .before .before .before .before .before .before .before .before .before .before .before .before .pre .1 .few) (sym (c .before .before .before .before .before .before .before .before .before .opening-number .ensures) ∙ c .before .before .before .before .before .before .before .before .if1 .left) in
-    let h = head-of _ _ _ (c .before .before .before .before .before .before .before .before .before .before .before .before .args .at) _ _ k _ (sym (c .before .before .before .before .before .read-operands .ensures .0) ∙ c .before .fields2 .given .1) in
-    (omega (arith, h .within, c .before .before .before .before .before .before .before .before .before .before .before .before .pre .1 .room), omega (arith, h .room), omega (arith, c .before .before .before .before .before .before .before .before .before .before .before .before .pre .1 .few))
+read-term-fine-requires : (t : ℕ) → read-term-lts.Need-fine-requires (read-term-claims t) (read-term-at t) read-term.Post read-term-Inv-loop read-term-μ-loop
+read-term-fine-requires t c κs = ((omega (arith, rest-near (c .before .before .before .before .before .before .before .before .before .before .before .before .before .loop .inv) (c .before .before .before .before .before .before .before .before .before .before .before .opening-number .ensures) (c .before .before .before .before .before .before .before .before .before .before .if1 .left) _ (c .before .before .before .before .before .before .read-operands .ensures) (c .before .before .fields2 .given .1))), (omega (arith, clear (c .before .before .before .before .before .before .before .before .before .before .before .before .before .loop .inv) (c .before .before .before .before .before .before .before .before .before .before .before .opening-number .ensures) (c .before .before .before .before .before .before .before .before .before .before .if1 .left) .room, ranged _ (c .before .before .before .before .before .before .before .before .before .before .before .before .before .loop .inv .ready .ranges) .terms)), (omega (arith, c .before .before .before .before .before .before .before .before .before .before .before .before .before .loop .inv .ready .few, ranged _ (c .before .before .before .before .before .before .before .before .before .before .before .before .before .loop .inv .ready .ranges) .boxes)))
 
-read-term-same-length : (t : ℕ) → read-term-lts.Need-same-length (read-term-claims t) (read-term-at t) read-term.Post
-read-term-same-length t c = c .before .before .before .before .before .before .before .read-operands .kept .1 .1 .1 .1 .0
+read-term-same-length-3 : (t : ℕ) → read-term-lts.Need-same-length-3 (read-term-claims t) (read-term-at t) read-term.Post read-term-Inv-loop read-term-μ-loop
+read-term-same-length-3 t c = c .before .before .before .before .before .before .before .read-operands .kept .1 .1 .1 .1 .1 .0 ∙ c .before .before .before .before .before .before .before .before .before .before .before .before .before .before .loop .inv .same
 
-read-term-returns-2 : (t : ℕ) → read-term-lts.Need-returns-2 (read-term-claims t) (read-term-at t) read-term.Post
-read-term-returns-2 t c =
-    let k = opening-clear _ _ _ (c .before .before .before .before .before .before .before .before .before .before .before .before .before .before .args .at) _ _ (c .before .before .before .before .before .before .before .before .before .before .before .before .before .before .pre .1 .few) (sym (c .before .before .before .before .before .before .before .before .before .before .before .opening-number .ensures) ∙ c .before .before .before .before .before .before .before .before .before .before .if1 .left) in
-    let h = head-of _ _ _ (c .before .before .before .before .before .before .before .before .before .before .before .before .before .before .args .at) _ _ k _ (sym (c .before .before .before .before .before .before .before .read-operands .ensures .0) ∙ c .before .before .before .fields2 .given .1) in
-    let q = leaf-returns _ _ _ _ _ _ _ h _ _ (filled-row _ _ _ _ _ _ _ (c .before .before .before .before .before .before .before .read-operands .ensures) (c .before .before .before .fields2 .given .1)) (leaf-kind _ (λ z. absurd (omega (arith, z, h .byte, c .if2 .taken))) (λ z. omega (arith, z, h .byte, c .if2 .taken))) in
-    (fine-found _ _ _ _ (omega (arith, h .within, c .before .before .before .before .before .before .before .before .before .before .before .before .before .before .pre .1 .room)) (omega (arith, h .room)) (omega (arith, c .before .before .before .before .before .before .before .before .before .before .before .before .before .before .pre .1 .few)) (c .before .fine .ensures) ∙ q .0, q .1)
-
-read-term-same-length-2 : (t : ℕ) → read-term-lts.Need-same-length-2 (read-term-claims t) (read-term-at t) read-term.Post
-read-term-same-length-2 t c = c .before .before .before .before .before .before .before .before .read-operands .kept .1 .1 .1 .1 .0
-
-read-term-returns-3 : (t : ℕ) → read-term-lts.Need-returns-3 (read-term-claims t) (read-term-at t) read-term.Post
+read-term-returns-3 : (t : ℕ) → read-term-lts.Need-returns-3 (read-term-claims t) (read-term-at t) read-term.Post read-term-Inv-loop read-term-μ-loop
 read-term-returns-3 t c =
-    let k = opening-clear _ _ _ (c .before .before .before .before .before .before .before .before .before .before .before .before .before .before .before .args .at) _ _ (c .before .before .before .before .before .before .before .before .before .before .before .before .before .before .before .pre .1 .few) (sym (c .before .before .before .before .before .before .before .before .before .before .before .before .opening-number .ensures) ∙ c .before .before .before .before .before .before .before .before .before .before .before .if1 .left) in
-    let h = head-of _ _ _ (c .before .before .before .before .before .before .before .before .before .before .before .before .before .before .before .args .at) _ _ k _ (sym (c .before .before .before .before .before .before .before .before .read-operands .ensures .0) ∙ c .before .before .before .before .fields2 .given .1) in
-    let q = leaf-returns _ _ _ _ _ _ _ h _ _ (filled-row _ _ _ _ _ _ _ (c .before .before .before .before .before .before .before .before .read-operands .ensures) (c .before .before .before .before .fields2 .given .1)) (leaf-kind _ (λ z. omega (arith, h .byte, c .if3 .taken)) (λ z. omega (arith, z, h .byte, c .if3 .taken))) in
-    (fine-found _ _ _ _ (omega (arith, h .within, c .before .before .before .before .before .before .before .before .before .before .before .before .before .before .before .pre .1 .room)) (omega (arith, h .room)) (omega (arith, c .before .before .before .before .before .before .before .before .before .before .before .before .before .before .before .pre .1 .few)) (c .before .before .fine .ensures) ∙ q .0, q .1)
+    let q = leaf-stops (c .before .before .before .before .before .before .before .before .before .before .before .before .before .before .loop .inv) (c .before .before .before .before .before .before .before .before .before .before .before .before .opening-number .ensures) (c .before .before .before .before .before .before .before .before .before .before .before .if1 .left) _ (c .before .before .before .before .before .before .before .read-operands .ensures) (c .before .before .before .fields2 .given .1) (λ z. omega (arith, z, c .before .if2 .taken)) (λ z. omega (arith, z, c .before .if2 .taken)) in
+    (fine-found _ _ _ _ (omega (arith, rest-near (c .before .before .before .before .before .before .before .before .before .before .before .before .before .before .loop .inv) (c .before .before .before .before .before .before .before .before .before .before .before .before .opening-number .ensures) (c .before .before .before .before .before .before .before .before .before .before .before .if1 .left) _ (c .before .before .before .before .before .before .before .read-operands .ensures) (c .before .before .before .fields2 .given .1))) (omega (arith, clear (c .before .before .before .before .before .before .before .before .before .before .before .before .before .before .loop .inv) (c .before .before .before .before .before .before .before .before .before .before .before .before .opening-number .ensures) (c .before .before .before .before .before .before .before .before .before .before .before .if1 .left) .room, ranged _ (c .before .before .before .before .before .before .before .before .before .before .before .before .before .before .loop .inv .ready .ranges) .terms)) (omega (arith, c .before .before .before .before .before .before .before .before .before .before .before .before .before .before .loop .inv .ready .few, ranged _ (c .before .before .before .before .before .before .before .before .before .before .before .before .before .before .loop .inv .ready .ranges) .boxes)) (c .fine .ensures) ∙ q .0, q .1)
 
-read-term-sub-deeper : (t : ℕ) → read-term-lts.Need-sub-deeper (read-term-claims t) (read-term-at t) read-term.Post
-read-term-sub-deeper t c = opening-clear _ _ _ (c .before .before .before .before .before .before .before .before .before .before .before .before .before .before .before .args .at) _ _ (c .before .before .before .before .before .before .before .before .before .before .before .before .before .before .before .pre .1 .few) (sym (c .before .before .before .before .before .before .before .before .before .before .before .before .opening-number .ensures) ∙ c .before .before .before .before .before .before .before .before .before .before .before .if1 .left) .deep
+read-term-fine-requires-2 : (t : ℕ) → read-term-lts.Need-fine-requires-2 (read-term-claims t) (read-term-at t) read-term.Post read-term-Inv-loop read-term-μ-loop
+read-term-fine-requires-2 t c κs = ((omega (arith, rest-near (c .before .before .before .before .before .before .before .before .before .before .before .before .before .before .loop .inv) (c .before .before .before .before .before .before .before .before .before .before .before .before .opening-number .ensures) (c .before .before .before .before .before .before .before .before .before .before .before .if1 .left) _ (c .before .before .before .before .before .before .before .read-operands .ensures) (c .before .before .before .fields2 .given .1))), (omega (arith, clear (c .before .before .before .before .before .before .before .before .before .before .before .before .before .before .loop .inv) (c .before .before .before .before .before .before .before .before .before .before .before .before .opening-number .ensures) (c .before .before .before .before .before .before .before .before .before .before .before .if1 .left) .room, ranged _ (c .before .before .before .before .before .before .before .before .before .before .before .before .before .before .loop .inv .ready .ranges) .terms)), (omega (arith, c .before .before .before .before .before .before .before .before .before .before .before .before .before .before .loop .inv .ready .few, ranged _ (c .before .before .before .before .before .before .before .before .before .before .before .before .before .before .loop .inv .ready .ranges) .boxes)))
 
-read-term-shared-slice-read-count : (t : ℕ) → read-term-lts.Need-shared-slice-read-count (read-term-claims t) (read-term-at t) read-term.Post
-read-term-shared-slice-read-count t c =
-    let k = opening-clear _ _ _ (c .before .before .before .before .before .before .before .before .before .before .before .before .before .before .before .before .before .args .at) _ _ (c .before .before .before .before .before .before .before .before .before .before .before .before .before .before .before .before .before .pre .1 .few) (sym (c .before .before .before .before .before .before .before .before .before .before .before .before .before .before .opening-number .ensures) ∙ c .before .before .before .before .before .before .before .before .before .before .before .before .before .if1 .left) in
-    let h = head-of _ _ _ (c .before .before .before .before .before .before .before .before .before .before .before .before .before .before .before .before .before .args .at) _ _ k _ (sym (c .before .before .before .before .before .before .before .before .before .before .read-operands .ensures .0) ∙ c .before .before .before .before .before .before .fields2 .given .1) in
-    within-list (c .before .before .before .before .before .before .before .before .before .before .before .before .before .before .before .before .before .args .tail .now) 1 (h .several (block-kind _ (h .byte ∙ c .before .if4 .taken)))
+read-term-same-length-4 : (t : ℕ) → read-term-lts.Need-same-length-4 (read-term-claims t) (read-term-at t) read-term.Post read-term-Inv-loop read-term-μ-loop
+read-term-same-length-4 t c = c .before .before .before .before .before .before .before .before .read-operands .kept .1 .1 .1 .1 .1 .0 ∙ c .before .before .before .before .before .before .before .before .before .before .before .before .before .before .before .loop .inv .same
 
-read-term-cast-count : (t : ℕ) → read-term-lts.Need-cast-count (read-term-claims t) (read-term-at t) read-term.Post
-read-term-cast-count t c = omega (arith, c .shared-slice-known3 .given 1)
+read-term-returns-4 : (t : ℕ) → read-term-lts.Need-returns-4 (read-term-claims t) (read-term-at t) read-term.Post read-term-Inv-loop read-term-μ-loop
+read-term-returns-4 t c =
+    let q = leaf-stops (c .before .before .before .before .before .before .before .before .before .before .before .before .before .before .before .loop .inv) (c .before .before .before .before .before .before .before .before .before .before .before .before .before .opening-number .ensures) (c .before .before .before .before .before .before .before .before .before .before .before .before .if1 .left) _ (c .before .before .before .before .before .before .before .before .read-operands .ensures) (c .before .before .before .before .fields2 .given .1) (λ z. omega (arith, z, c .before .if3 .taken)) (λ z. omega (arith, z, c .before .if3 .taken)) in
+    (fine-found _ _ _ _ (omega (arith, rest-near (c .before .before .before .before .before .before .before .before .before .before .before .before .before .before .before .loop .inv) (c .before .before .before .before .before .before .before .before .before .before .before .before .before .opening-number .ensures) (c .before .before .before .before .before .before .before .before .before .before .before .before .if1 .left) _ (c .before .before .before .before .before .before .before .before .read-operands .ensures) (c .before .before .before .before .fields2 .given .1))) (omega (arith, clear (c .before .before .before .before .before .before .before .before .before .before .before .before .before .before .before .loop .inv) (c .before .before .before .before .before .before .before .before .before .before .before .before .before .opening-number .ensures) (c .before .before .before .before .before .before .before .before .before .before .before .before .if1 .left) .room, ranged _ (c .before .before .before .before .before .before .before .before .before .before .before .before .before .before .before .loop .inv .ready .ranges) .terms)) (omega (arith, c .before .before .before .before .before .before .before .before .before .before .before .before .before .before .before .loop .inv .ready .few, ranged _ (c .before .before .before .before .before .before .before .before .before .before .before .before .before .before .before .loop .inv .ready .ranges) .boxes)) (c .fine2 .ensures) ∙ q .0, q .1)
 
-read-term-sub-read-block : (t : ℕ) → read-term-lts.Need-sub-read-block (read-term-claims t) (read-term-at t) read-term.Post
-read-term-sub-read-block t c =
-    let k = opening-clear _ _ _ (c .before .before .before .before .before .before .before .before .before .before .before .before .before .before .before .before .before .args .at) _ _ (c .before .before .before .before .before .before .before .before .before .before .before .before .before .before .before .before .before .pre .1 .few) (sym (c .before .before .before .before .before .before .before .before .before .before .before .before .before .before .opening-number .ensures) ∙ c .before .before .before .before .before .before .before .before .before .before .before .before .before .if1 .left) in
-    head-of _ _ _ (c .before .before .before .before .before .before .before .before .before .before .before .before .before .before .before .before .before .args .at) _ _ k _ (sym (c .before .before .before .before .before .before .before .before .before .before .read-operands .ensures .0) ∙ c .before .before .before .before .before .before .fields2 .given .1) .within
+read-term-sub-left : (t : ℕ) → read-term-lts.Need-sub-left (read-term-claims t) (read-term-at t) read-term.Post read-term-Inv-loop read-term-μ-loop
+read-term-sub-left t c = clear (c .before .before .before .before .before .before .before .before .before .before .before .before .before .before .loop .inv) (c .before .before .before .before .before .before .before .before .before .before .before .before .opening-number .ensures) (c .before .before .before .before .before .before .before .before .before .before .before .if1 .left) .deep
 
-read-term-part-read-block-start : (t : ℕ) → read-term-lts.Need-part-read-block-start (read-term-claims t) (read-term-at t) read-term.Post
-read-term-part-read-block-start t c =
-    let k = opening-clear _ _ _ (c .before .before .before .before .before .before .before .before .before .before .before .before .before .before .before .before .before .args .at) _ _ (c .before .before .before .before .before .before .before .before .before .before .before .before .before .before .before .before .before .pre .1 .few) (sym (c .before .before .before .before .before .before .before .before .before .before .before .before .before .before .opening-number .ensures) ∙ c .before .before .before .before .before .before .before .before .before .before .before .before .before .if1 .left) in
-    head-of _ _ _ (c .before .before .before .before .before .before .before .before .before .before .before .before .before .before .before .before .before .args .at) _ _ k _ (sym (c .before .before .before .before .before .before .before .before .before .before .read-operands .ensures .0) ∙ c .before .before .before .before .before .before .fields2 .given .1) .within
+read-term-add-count : (t : ℕ) → read-term-lts.Need-add-count (read-term-claims t) (read-term-at t) read-term.Post read-term-Inv-loop read-term-μ-loop
+read-term-add-count t c = omega (arith, rest-near (c .before .before .before .before .before .before .before .before .before .before .before .before .before .before .before .loop .inv) (c .before .before .before .before .before .before .before .before .before .before .before .before .before .opening-number .ensures) (c .before .before .before .before .before .before .before .before .before .before .before .before .if1 .left) _ (c .before .before .before .before .before .before .before .before .read-operands .ensures) (c .before .before .before .before .fields2 .given .1), count-within (c .before .before .before .before .before .before .before .before .before .before .before .before .before .before .before .loop .inv) (c .before .before .before .before .before .before .before .before .before .before .before .before .before .opening-number .ensures) (c .before .before .before .before .before .before .before .before .before .before .before .before .if1 .left) _ (c .before .before .before .before .before .before .before .before .read-operands .ensures) (c .before .before .before .before .fields2 .given .1) (c .if4 .taken), c .before .before .before .before .before .before .before .before .before .before .before .before .before .before .before .loop .inv .ready .room)
 
-read-term-part-read-block-end : (t : ℕ) → read-term-lts.Need-part-read-block-end (read-term-claims t) (read-term-at t) read-term.Post
+read-term-shared-slice-read-count : (t : ℕ) → read-term-lts.Need-shared-slice-read-count (read-term-claims t) (read-term-at t) read-term.Post read-term-Inv-loop read-term-μ-loop
+read-term-shared-slice-read-count t c = count-within (c .before .before .before .before .before .before .before .before .before .before .before .before .before .before .before .before .loop .inv) (c .before .before .before .before .before .before .before .before .before .before .before .before .before .before .opening-number .ensures) (c .before .before .before .before .before .before .before .before .before .before .before .before .before .if1 .left) _ (c .before .before .before .before .before .before .before .before .before .read-operands .ensures) (c .before .before .before .before .before .fields2 .given .1) (c .before .if4 .taken)
+
+read-term-cast-count : (t : ℕ) → read-term-lts.Need-cast-count (read-term-claims t) (read-term-at t) read-term.Post read-term-Inv-loop read-term-μ-loop
+read-term-cast-count t c = omega (arith, c .shared-slice-known3 .given (c .before .before .before .before .before .before .before .before .before .before .before .before .before .before .before .before .loop .next - c .before .before .before .before .before .before .before .before .before .before .before .before .before .before .before .before .before .before .before .args .at + 1))
+
+read-term-sub-read-block : (t : ℕ) → read-term-lts.Need-sub-read-block (read-term-claims t) (read-term-at t) read-term.Post read-term-Inv-loop read-term-μ-loop
+read-term-sub-read-block t c = omega (arith, c .before .before .before .before .before .before .before .before .before .before .before .before .before .before .before .before .loop .inv .from)
+
+read-term-sub-read-block-2 : (t : ℕ) → read-term-lts.Need-sub-read-block-2 (read-term-claims t) (read-term-at t) read-term.Post read-term-Inv-loop read-term-μ-loop
+read-term-sub-read-block-2 t c = rest-within (c .before .before .before .before .before .before .before .before .before .before .before .before .before .before .before .before .loop .inv) (c .before .before .before .before .before .before .before .before .before .before .before .before .before .before .opening-number .ensures) (c .before .before .before .before .before .before .before .before .before .before .before .before .before .if1 .left) _ (c .before .before .before .before .before .before .before .before .before .read-operands .ensures) (c .before .before .before .before .before .fields2 .given .1)
+
+read-term-part-read-block-start : (t : ℕ) → read-term-lts.Need-part-read-block-start (read-term-claims t) (read-term-at t) read-term.Post read-term-Inv-loop read-term-μ-loop
+read-term-part-read-block-start t c = rest-within (c .before .before .before .before .before .before .before .before .before .before .before .before .before .before .before .before .loop .inv) (c .before .before .before .before .before .before .before .before .before .before .before .before .before .before .opening-number .ensures) (c .before .before .before .before .before .before .before .before .before .before .before .before .before .if1 .left) _ (c .before .before .before .before .before .before .before .before .before .read-operands .ensures) (c .before .before .before .before .before .fields2 .given .1)
+
+read-term-part-read-block-end : (t : ℕ) → read-term-lts.Need-part-read-block-end (read-term-claims t) (read-term-at t) read-term.Post read-term-Inv-loop read-term-μ-loop
 read-term-part-read-block-end t c = search needs
 
-read-term-read-block-requires : (t : ℕ) → read-term-lts.Need-read-block-requires (read-term-claims t) (read-term-at t) read-term.Post
-read-term-read-block-requires t c κs =
-    let k = opening-clear _ _ _ (c .before .before .before .before .before .before .before .before .before .before .before .before .before .before .before .before .before .before .before .args .at) _ _ (c .before .before .before .before .before .before .before .before .before .before .before .before .before .before .before .before .before .before .before .pre .1 .few) (sym (c .before .before .before .before .before .before .before .before .before .before .before .before .before .before .before .before .opening-number .ensures) ∙ c .before .before .before .before .before .before .before .before .before .before .before .before .before .before .before .if1 .left) in
-    let h = head-of _ _ _ (c .before .before .before .before .before .before .before .before .before .before .before .before .before .before .before .before .before .before .before .args .at) _ _ k _ (sym (c .before .before .before .before .before .before .before .before .before .before .before .before .read-operands .ensures .0) ∙ c .before .before .before .before .before .before .before .before .fields2 .given .1) in
-    (omega (arith, c .before .before .before .before .before .before .before .before .before .before .before .before .before .before .before .before .before .before .before .pre .0, h .deep), (block-ready _ _ _ _ _ _ _ h _ _ (filled-row _ _ _ _ _ _ _ (c .before .before .before .before .before .before .before .before .before .before .before .before .read-operands .ensures) (c .before .before .before .before .before .before .before .before .fields2 .given .1)) (c .before .before .before .before .before .before .before .before .before .before .before .before .before .before .before .before .before .before .before .pre .1) (c .before .before .before .before .before .before .before .before .before .before .before .before .read-operands .kept .1 .1 .1 .1 .0 ∙ c .before .before .before .before .before .before .before .before .before .before .before .before .before .before .before .before .before .before .before .pre .1 .full), h .several (block-kind _ (h .byte ∙ c .before .before .before .if4 .taken)), omega (arith, h .room)))
+read-term-read-block-requires : (t : ℕ) → read-term-lts.Need-read-block-requires (read-term-claims t) (read-term-at t) read-term.Post read-term-Inv-loop read-term-μ-loop
+read-term-read-block-requires t c κs = (omega (arith, c .before .before .before .before .before .before .before .before .before .before .before .before .before .before .before .before .before .before .before .before .before .pre .0, c .before .before .before .before .before .before .before .before .before .before .before .before .before .before .before .before .before .before .loop .inv .deep, clear (c .before .before .before .before .before .before .before .before .before .before .before .before .before .before .before .before .before .before .loop .inv) (c .before .before .before .before .before .before .before .before .before .before .before .before .before .before .before .before .opening-number .ensures) (c .before .before .before .before .before .before .before .before .before .before .before .before .before .before .before .if1 .left) .deep), block-asks (c .before .before .before .before .before .before .before .before .before .before .before .before .before .before .before .before .before .before .loop .inv) (c .before .before .before .before .before .before .before .before .before .before .before .before .before .before .before .before .opening-number .ensures) (c .before .before .before .before .before .before .before .before .before .before .before .before .before .before .before .if1 .left) _ (c .before .before .before .before .before .before .before .before .before .before .before .read-operands .ensures) (c .before .before .before .before .before .before .before .fields2 .given .1) (c .before .before .before .if4 .taken) (c .before .before .before .before .before .before .before .before .before .before .before .read-operands .kept .1 .1 .1 .1 .1 .0))
 
-read-term-same-length-3 : (t : ℕ) → read-term-lts.Need-same-length-3 (read-term-claims t) (read-term-at t) read-term.Post
-read-term-same-length-3 t c = c .before .before .read-block .kept .1 .1 .1 .1 .1 .1 .0 ∙ c .before .before .before .before .before .before .before .before .before .before .before .before .before .before .before .read-operands .kept .1 .1 .1 .1 .0
+read-term-same-length-5 : (t : ℕ) → read-term-lts.Need-same-length-5 (read-term-claims t) (read-term-at t) read-term.Post read-term-Inv-loop read-term-μ-loop
+read-term-same-length-5 t c = c .before .before .read-block .kept .1 .1 .1 .1 .1 .1 .1 .0 ∙ c .before .before .before .before .before .before .before .before .before .before .before .before .before .before .read-operands .kept .1 .1 .1 .1 .1 .0 ∙ c .before .before .before .before .before .before .before .before .before .before .before .before .before .before .before .before .before .before .before .before .before .loop .inv .same
 
-read-term-returns-4 : (t : ℕ) → read-term-lts.Need-returns-4 (read-term-claims t) (read-term-at t) read-term.Post
-read-term-returns-4 t c =
-    let k = opening-clear _ _ _ (c .before .before .before .before .before .before .before .before .before .before .before .before .before .before .before .before .before .before .before .before .before .before .args .at) _ _ (c .before .before .before .before .before .before .before .before .before .before .before .before .before .before .before .before .before .before .before .before .before .before .pre .1 .few) (sym (c .before .before .before .before .before .before .before .before .before .before .before .before .before .before .before .before .before .before .before .opening-number .ensures) ∙ c .before .before .before .before .before .before .before .before .before .before .before .before .before .before .before .before .before .before .if1 .left) in
-    let h = head-of _ _ _ (c .before .before .before .before .before .before .before .before .before .before .before .before .before .before .before .before .before .before .before .before .before .before .args .at) _ _ k _ (sym (c .before .before .before .before .before .before .before .before .before .before .before .before .before .before .before .read-operands .ensures .0) ∙ c .before .before .before .before .before .before .before .before .before .before .before .fields2 .given .1) in
-    block-returns _ _ _ _ _ _ _ h _ _ (filled-row _ _ _ _ _ _ _ (c .before .before .before .before .before .before .before .before .before .before .before .before .before .before .before .read-operands .ensures) (c .before .before .before .before .before .before .before .before .before .before .before .fields2 .given .1)) (block-kind _ (h .byte ∙ c .before .before .before .before .before .before .if4 .taken)) _ _ (c .before .before .read-block .ensures)
+read-term-returns-5 : (t : ℕ) → read-term-lts.Need-returns-5 (read-term-claims t) (read-term-at t) read-term.Post read-term-Inv-loop read-term-μ-loop
+read-term-returns-5 t c = block-stops (c .before .before .before .before .before .before .before .before .before .before .before .before .before .before .before .before .before .before .before .before .before .loop .inv) (c .before .before .before .before .before .before .before .before .before .before .before .before .before .before .before .before .before .before .before .opening-number .ensures) (c .before .before .before .before .before .before .before .before .before .before .before .before .before .before .before .before .before .before .if1 .left) _ (c .before .before .before .before .before .before .before .before .before .before .before .before .before .before .read-operands .ensures) (c .before .before .before .before .before .before .before .before .before .before .fields2 .given .1) (c .before .before .before .before .before .before .if4 .taken) _ _ (c .before .before .read-block .ensures)
 
-read-term-boxes-with-requires : (t : ℕ) → read-term-lts.Need-boxes-with-requires (read-term-claims t) (read-term-at t) read-term.Post
-read-term-boxes-with-requires t c κs = c .before .before .before .before .before .before .before .before .before .before .before .before .before .before .before .before .pre .1 .few
+read-term-boxes-with-requires : (t : ℕ) → read-term-lts.Need-boxes-with-requires (read-term-claims t) (read-term-at t) read-term.Post read-term-Inv-loop read-term-μ-loop
+read-term-boxes-with-requires t c κs = omega (arith, c .before .before .before .before .before .before .before .before .before .before .before .before .before .before .before .loop .inv .ready .few, ranged _ (c .before .before .before .before .before .before .before .before .before .before .before .before .before .before .before .loop .inv .ready .ranges) .boxes)
 
-read-term-sub-read-term : (t : ℕ) → read-term-lts.Need-sub-read-term (read-term-claims t) (read-term-at t) read-term.Post
-read-term-sub-read-term t c =
-    let k = opening-clear _ _ _ (c .before .before .before .before .before .before .before .before .before .before .before .before .before .before .before .before .before .args .at) _ _ (c .before .before .before .before .before .before .before .before .before .before .before .before .before .before .before .before .before .pre .1 .few) (sym (c .before .before .before .before .before .before .before .before .before .before .before .before .before .before .opening-number .ensures) ∙ c .before .before .before .before .before .before .before .before .before .before .before .before .before .if1 .left) in
-    head-of _ _ _ (c .before .before .before .before .before .before .before .before .before .before .before .before .before .before .before .before .before .args .at) _ _ k _ (sym (c .before .before .before .before .before .before .before .before .before .before .read-operands .ensures .0) ∙ c .before .before .before .before .before .before .fields2 .given .1) .within
+read-term-loop-less : (t : ℕ) → read-term-lts.Need-loop-less (read-term-claims t) (read-term-at t) read-term.Post read-term-Inv-loop read-term-μ-loop
+read-term-loop-less t c = omega (arith, clear (c .before .before .before .before .before .before .before .before .before .before .before .before .before .before .before .before .loop .inv) (c .before .before .before .before .before .before .before .before .before .before .before .before .before .before .opening-number .ensures) (c .before .before .before .before .before .before .before .before .before .before .before .before .before .if1 .left) .deep)
 
-read-term-part-read-term-start : (t : ℕ) → read-term-lts.Need-part-read-term-start (read-term-claims t) (read-term-at t) read-term.Post
-read-term-part-read-term-start t c =
-    let k = opening-clear _ _ _ (c .before .before .before .before .before .before .before .before .before .before .before .before .before .before .before .before .before .args .at) _ _ (c .before .before .before .before .before .before .before .before .before .before .before .before .before .before .before .before .before .pre .1 .few) (sym (c .before .before .before .before .before .before .before .before .before .before .before .before .before .before .opening-number .ensures) ∙ c .before .before .before .before .before .before .before .before .before .before .before .before .before .if1 .left) in
-    head-of _ _ _ (c .before .before .before .before .before .before .before .before .before .before .before .before .before .before .before .before .before .args .at) _ _ k _ (sym (c .before .before .before .before .before .before .before .before .before .before .read-operands .ensures .0) ∙ c .before .before .before .before .before .before .fields2 .given .1) .within
-
-read-term-part-read-term-end : (t : ℕ) → read-term-lts.Need-part-read-term-end (read-term-claims t) (read-term-at t) read-term.Post
-read-term-part-read-term-end t c = search needs
-
-read-term-read-term-requires : (t : ℕ) → read-term-lts.Need-read-term-requires (read-term-claims t) (read-term-at t) read-term.Post
-read-term-read-term-requires t c κs =
-    let k = opening-clear _ _ _ (c .before .before .before .before .before .before .before .before .before .before .before .before .before .before .before .before .before .before .before .args .at) _ _ (c .before .before .before .before .before .before .before .before .before .before .before .before .before .before .before .before .before .before .before .pre .1 .few) (sym (c .before .before .before .before .before .before .before .before .before .before .before .before .before .before .before .before .opening-number .ensures) ∙ c .before .before .before .before .before .before .before .before .before .before .before .before .before .before .before .if1 .left) in
-    let h = head-of _ _ _ (c .before .before .before .before .before .before .before .before .before .before .before .before .before .before .before .before .before .before .before .args .at) _ _ k _ (sym (c .before .before .before .before .before .before .before .before .before .before .before .before .read-operands .ensures .0) ∙ c .before .before .before .before .before .before .before .before .fields2 .given .1) in
-    (omega (arith, c .before .before .before .before .before .before .before .before .before .before .before .before .before .before .before .before .before .before .before .pre .0, h .deep), rw (c .before .before .boxes-with .ensures) (inner-ready _ _ _ _ _ _ _ h _ _ (filled-row _ _ _ _ _ _ _ (c .before .before .before .before .before .before .before .before .before .before .before .before .read-operands .ensures) (c .before .before .before .before .before .before .before .before .fields2 .given .1)) (c .before .before .before .before .before .before .before .before .before .before .before .before .before .before .before .before .before .before .before .pre .1) (c .before .before .before .before .before .before .before .before .before .before .before .before .read-operands .kept .1 .1 .1 .1 .0 ∙ c .before .before .before .before .before .before .before .before .before .before .before .before .before .before .before .before .before .before .before .pre .1 .full)))
-
-read-term-same-length-4 : (t : ℕ) → read-term-lts.Need-same-length-4 (read-term-claims t) (read-term-at t) read-term.Post
-read-term-same-length-4 t c = c .before .before .before .before .before .before .read-operands .kept .1 .1 .1 .1 .0
-
-read-term-returns-5 : (t : ℕ) → read-term-lts.Need-returns-5 (read-term-claims t) (read-term-at t) read-term.Post
-read-term-returns-5 t c =
-    let k = opening-clear _ _ _ (c .before .before .before .before .before .before .before .before .before .before .before .before .before .args .at) _ _ (c .before .before .before .before .before .before .before .before .before .before .before .before .before .pre .1 .few) (sym (c .before .before .before .before .before .before .before .before .before .before .opening-number .ensures) ∙ c .before .before .before .before .before .before .before .before .before .if1 .left) in
-    let e = sym (c .before .before .before .before .before .before .read-operands .ensures .0) ∙ c .before .before .fields .given .1 in
-    let q = operand-refused _ _ _ (c .before .before .before .before .before .before .before .before .before .before .before .before .before .args .at) _ _ _ _ _ _ k e in
-    let n = operands-near _ _ _ _ _ e (c .before .before .before .before .before .before .before .before .before .before .before .before .before .pre .1 .room) in
-    (refused-found _ _ _ (omega (arith, n)) (c .refused2 .ensures) ∙ q .0, q .1)
-
-read-term-same-length-5 : (t : ℕ) → read-term-lts.Need-same-length-5 (read-term-claims t) (read-term-at t) read-term.Post
-read-term-same-length-5 t c = c .before .before .read-term .kept .1 .1 .1 .1 .1 .1 .0 ∙ c .before .before .before .before .before .before .before .before .before .before .before .before .before .before .before .read-operands .kept .1 .1 .1 .1 .0
-
-read-term-returns-6 : (t : ℕ) → read-term-lts.Need-returns-6 (read-term-claims t) (read-term-at t) read-term.Post
-read-term-returns-6 t c =
-    let k = opening-clear _ _ _ (c .before .before .before .before .before .before .before .before .before .before .before .before .before .before .before .before .before .before .before .before .before .before .args .at) _ _ (c .before .before .before .before .before .before .before .before .before .before .before .before .before .before .before .before .before .before .before .before .before .before .pre .1 .few) (sym (c .before .before .before .before .before .before .before .before .before .before .before .before .before .before .before .before .before .before .before .opening-number .ensures) ∙ c .before .before .before .before .before .before .before .before .before .before .before .before .before .before .before .before .before .before .if1 .left) in
-    let h = head-of _ _ _ (c .before .before .before .before .before .before .before .before .before .before .before .before .before .before .before .before .before .before .before .before .before .before .args .at) _ _ k _ (sym (c .before .before .before .before .before .before .before .before .before .before .before .before .before .before .before .read-operands .ensures .0) ∙ c .before .before .before .before .before .before .before .before .before .before .before .fields2 .given .1) in
-    around-returns _ _ _ _ _ _ _ h _ _ (filled-row _ _ _ _ _ _ _ (c .before .before .before .before .before .before .before .before .before .before .before .before .before .before .before .read-operands .ensures) (c .before .before .before .before .before .before .before .before .before .before .before .fields2 .given .1)) (around-kind _ (omega (arith, h .byte, c .before .before .before .before .before .before .before .before .if2 .left)) (λ z. c .before .before .before .before .before .before .before .if3 .left (sym (h .byte) ∙ z)) (λ z. c .before .before .before .before .before .before .if4 .left (sym (h .byte) ∙ z))) _ _ (rw (c .before .before .before .before .before .boxes-with .ensures) at (c .before .before .read-term .ensures))
+read-term-loop-again : (t : ℕ) → read-term-lts.Need-loop-again (read-term-claims t) (read-term-at t) read-term.Post read-term-Inv-loop read-term-μ-loop
+read-term-loop-again t c = inner-on (c .before .before .before .before .before .before .before .before .before .before .before .before .before .before .before .before .loop .inv) (c .before .before .before .before .before .before .before .before .before .before .before .before .before .before .opening-number .ensures) (c .before .before .before .before .before .before .before .before .before .before .before .before .before .if1 .left) _ (c .before .before .before .before .before .before .before .before .before .read-operands .ensures) (c .before .before .before .before .before .fields2 .given .1) (c .before .before .before .if2 .left) (c .before .before .if3 .left) (c .before .if4 .left) (c .before .before .before .before .before .before .before .before .before .read-operands .kept .1 .1 .1 .1 .1 .0) (c .boxes-with .ensures)
 
 pub +read-block+read-term-spec : {M : Type 1} → statement M
 +read-block+read-term-spec = close μ-read-block μ-read-term (λ t. read-block-lts.spec (read-block-claims t) (read-block-at t)
@@ -280,37 +273,47 @@ pub +read-block+read-term-spec : {M : Type 1} → statement M
     (read-block-returns-2 t))
     λ t. read-term-lts.spec (read-term-claims t) (read-term-at t)
     read-term.Post
+    read-term-Inv-loop
+    read-term-μ-loop
+    (read-term-loop-holds t)
+    (read-term-sub-used t)
+    (read-term-sub-opening-number t)
+    (read-term-part-opening-number-start t)
+    (read-term-part-opening-number-end t)
     (read-term-opening-number-requires t)
     (read-term-refused-requires t)
+    (read-term-same-length t)
     (read-term-returns t)
     (read-term-shared-slice-read-kind t)
     (read-term-cast-kind t)
+    (read-term-sub-read-operands t)
+    (read-term-part-read-operands-start t)
+    (read-term-part-read-operands-end t)
     (read-term-read-operands-requires t)
     (read-term-enum-known-fields t)
     (read-term-refused-requires-2 t)
+    (read-term-same-length-2 t)
+    (read-term-returns-2 t)
     (read-term-enum-known-fields-2 t)
     (read-term-add-next t)
     (read-term-add-met t)
     (read-term-fine-requires t)
-    (read-term-same-length t)
-    (read-term-returns-2 t)
-    (read-term-same-length-2 t)
+    (read-term-same-length-3 t)
     (read-term-returns-3 t)
-    (read-term-sub-deeper t)
+    (read-term-fine-requires-2 t)
+    (read-term-same-length-4 t)
+    (read-term-returns-4 t)
+    (read-term-sub-left t)
+    (read-term-add-count t)
     (read-term-shared-slice-read-count t)
     (read-term-cast-count t)
     (read-term-sub-read-block t)
+    (read-term-sub-read-block-2 t)
     (read-term-part-read-block-start t)
     (read-term-part-read-block-end t)
     (read-term-read-block-requires t)
-    (read-term-same-length-3 t)
-    (read-term-returns-4 t)
-    (read-term-boxes-with-requires t)
-    (read-term-sub-read-term t)
-    (read-term-part-read-term-start t)
-    (read-term-part-read-term-end t)
-    (read-term-read-term-requires t)
-    (read-term-same-length-4 t)
-    (read-term-returns-5 t)
     (read-term-same-length-5 t)
-    (read-term-returns-6 t)
+    (read-term-returns-5 t)
+    (read-term-boxes-with-requires t)
+    (read-term-loop-less t)
+    (read-term-loop-again t)

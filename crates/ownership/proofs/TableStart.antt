@@ -1,0 +1,47 @@
+-- The table with which the judge starts: its words are all 0, so nothing is taken, and its notes are right.
+use Prim.Native.Nat.{ℕ, zero, suc, _+_, _*_, _≤_}
+use native.Mathlib.Omega.{arith}
+use mathlib.Core.Path.{_≡_, refl, sym, _∙_, fun-ext}
+use mathlib.Core.List.{List}
+use lib.ListN.{length, getD, take, replicate, length-replicate}
+use lib.Seq.{length-take-le}
+use Rattle.rules.specs.Bars.{heldBy}
+use Rattle.rules.specs.Environment.{levelOf}
+use Rattle.rules.specs.Judge.{nothingTaken}
+use Rattle.rules.specs.Table.{asSlot, environmentOf, weightOf, holders, Noted, TableFor}
+use Rattle.rules.proofs.TableLaws.{entry-free}
+
+no-holders : (n nv r : ℕ) → holders n (nothingTaken nv) r ≡ 0
+unfolding holders weightOf heldBy
+no-holders zero nv r = refl
+no-holders (suc n) nv r = let rest = no-holders n nv r in omega arith
+
+module _ (l : List ℕ) (zeros : (k : ℕ) → _≡_ {A = ℕ} (getD l k 0) 0) where
+  all-free : (nv : ℕ) → environmentOf l ≡ nothingTaken nv
+  unfolding environmentOf asSlot
+  all-free nv = fun-ext λ x. rw (entry-free l x (zeros (x * 8 + 0)))
+
+  all-noted : (n : ℕ) → Noted l n
+  unfolding levelOf
+  all-noted n = record {
+    held = λ r h. zeros (r * 8 + 7) ∙ sym (rw (all-free n) (no-holders n n r));
+    levels = λ x. rw (all-free n) (omega arith);
+    most = rw (zeros (suc n * 8 + 7)) (omega arith);
+    untaken = λ x h. entry-free l x (zeros (x * 8 + 0));
+  }
+
+-- The first w of m words.
+first-words : (m w k : ℕ) → _≡_ {A = ℕ} (getD (take w (replicate m 0)) k 0) 0
+first-words m zero k = refl
+first-words zero (suc w) k = refl
+first-words (suc m) (suc w) zero = refl
+first-words (suc m) (suc w) (suc k) = first-words m w k
+
+pub part-length : (m w : ℕ) → w ≤ m → length {A = ℕ} (take w (replicate m 0)) ≡ w
+part-length m w h = length-take-le w (replicate m 0) (rw (length-replicate {A = ℕ} m 0) h)
+
+pub part-free : (m w nv : ℕ) → environmentOf (take w (replicate m 0)) ≡ nothingTaken nv
+part-free m w nv = all-free (take w (replicate m 0)) (first-words m w) nv
+
+pub part-table : (m n : ℕ) → n * 8 + 16 ≤ m → n ≤ 128 → TableFor (take (n * 8 + 16) (replicate m 0)) n
+part-table m n h most = (part-length m (n * 8 + 16) h, most, all-noted (take (n * 8 + 16) (replicate m 0)) (first-words m (n * 8 + 16)) n)

@@ -1,0 +1,24 @@
+-- `room::report_base` meets its contract: the set handed in is the language's, and rows and store have its lengths.
+use mathlib.Core.Path.{refl}
+use Rattle.reader.specs.Limits.{base, rowNumbers, storeNumbers}
+use Rattle.room.proofs.ReportLaws.{report-base}
+use borrow.Author.Needs.{needs}
+use Rattle.room.proofs.report_base.Statement.{statement}
+use Rattle.room.proofs.report_base.Tie as tie
+
+slice-aggregate-report : tie.Need-slice-aggregate-report
+slice-aggregate-report c = search needs
+
+slice-aggregate-report-2 : tie.Need-slice-aggregate-report-2
+slice-aggregate-report-2 c = search needs
+
+report-requires : tie.Need-report-requires
+report-requires c κs = search needs
+
+returns : tie.Need-returns
+unfolding base rowNumbers storeNumbers
+returns c = (report-base 2560 384 refl refl _ _ _ _ _ _ (c .before .before .report .ensures .0), c .before .before .report .ensures .1)
+
+pub report-base-spec : {M : Type 1} → statement M
+report-base-spec =
+    tie.close (tie.spec slice-aggregate-report slice-aggregate-report-2 report-requires returns)
