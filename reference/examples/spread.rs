@@ -1,17 +1,16 @@
 //! Prints how often each answer occurs in a sample of each generator, as the
-//! documentation of the crate lists it.
+//! documentation of the crate lists it. The set of limits is that of the
+//! program, or given as four numbers: terms, variables, boxes and levels.
 
-use reference::form::ROWS_LEN;
-use reference::machine::STORE_LEN;
-use reference::{check, judge_rows, read, run, Generator, Refusal};
+use reference::{check, judge_rows, read, run, Generator, Limits, Refusal};
 use std::collections::BTreeMap;
 use std::time::Instant;
 
 const SAMPLE: usize = 100_000;
 
 /// Counts answers by refusal number, 0 for success.
-fn count(name: &str, mut next: impl FnMut(&mut Generator) -> Result<u32, Refusal>) {
-    let mut generator = Generator::new(1);
+fn count(name: &str, limits: Limits, mut next: impl FnMut(&mut Generator) -> Result<u32, Refusal>) {
+    let mut generator = Generator::with_limits(1, limits);
     let begin = Instant::now();
     let mut counts = BTreeMap::new();
     for _ in 0..SAMPLE {
@@ -30,27 +29,43 @@ const KINDS: [(&str, Make); 4] = [
     ("mixed_rows", Generator::mixed_rows),
 ];
 
+fn given_limits() -> Limits {
+    let number = |argument: String| argument.parse().expect("a number");
+    let given: Vec<u32> = std::env::args().skip(1).map(number).collect();
+    match given[..] {
+        [] => Limits::BASE,
+        [terms, variables, boxes, levels] => Limits {
+            terms,
+            variables,
+            boxes,
+            levels,
+        },
+        _ => panic!("four numbers or none"),
+    }
+}
+
 fn main() {
+    let limits = given_limits();
     let mut script = Vec::new();
-    let mut rows = vec![0; ROWS_LEN];
-    let mut store = [0; STORE_LEN];
-    count("script, read", |generator| {
+    let mut rows = vec![0; limits.row_numbers()];
+    let mut store = vec![0; limits.store_numbers()];
+    count("script, read", limits, |generator| {
         generator.script(&mut script);
-        read(&script, &mut rows)
+        read(limits, &script, &mut rows)
     });
-    count("rows, judge_rows", |generator| {
+    count("rows, judge_rows", limits, |generator| {
         generator.rows(&mut rows);
-        judge_rows(&rows)
+        judge_rows(limits, &rows)
     });
     for (name, make) in KINDS {
-        count(&format!("{name}, check"), |generator| {
+        count(&format!("{name}, check"), limits, |generator| {
             make(generator, &mut rows);
-            check(&rows)
+            check(limits, &rows)
         });
-        count(&format!("{name}, run"), |generator| {
+        count(&format!("{name}, run"), limits, |generator| {
             make(generator, &mut rows);
             let readings = generator.readings();
-            run(&rows, &readings, &mut store).map(|ran| ran.cells)
+            run(limits, &rows, &readings, &mut store).map(|ran| ran.cells)
         });
     }
 }

@@ -1,13 +1,17 @@
 //! The line that the program `roomcheck` prints for a standard input
 //! (LANGUAGE 6.9, 6.10).
 
-use crate::form::{read, ROWS_LEN};
-use crate::machine::{run, Ran, READINGS, STORE_LEN};
+use crate::form::read;
+use crate::limits::Limits;
+use crate::machine::{run, Ran, READINGS};
 use crate::ownership::check;
 use crate::refusal::Refusal;
 
 /// The bytes of the readings before the script.
 const READING_BYTES: usize = 4 * READINGS;
+
+/// The set of the program.
+const LIMITS: Limits = Limits::BASE;
 
 /// The line, without a line end.
 pub fn roomcheck(input: &[u8]) -> String {
@@ -21,13 +25,13 @@ pub fn roomcheck(input: &[u8]) -> String {
 }
 
 fn accepted(readings: &[u8], script: &[u8]) -> Result<(u32, Ran), Refusal> {
-    let mut rows = [0; ROWS_LEN];
-    read(script, &mut rows)?;
-    let terms = check(&rows)?;
+    let mut rows = [0; LIMITS.row_numbers()];
+    read(LIMITS, script, &mut rows)?;
+    let terms = check(LIMITS, &rows)?;
     let mut given = [0; READINGS];
     for (reading, bytes) in given.iter_mut().zip(readings.as_chunks().0) {
         *reading = i32::from_be_bytes(*bytes);
     }
-    let ran = run(&rows, &given, &mut [0; STORE_LEN])?;
+    let ran = run(LIMITS, &rows, &given, &mut [0; LIMITS.store_numbers()])?;
     Ok((terms, ran))
 }

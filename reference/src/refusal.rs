@@ -18,7 +18,7 @@ impl Refusal {
         }
     }
 
-    /// Refusals 1 to 5 always carry place 0.
+    /// Refusals 1 to 5 and 74 always carry place 0.
     #[inline]
     pub(crate) fn by_caller(number: u32) -> Self {
         Refusal { number, place: 0 }
@@ -30,6 +30,8 @@ pub const ROWS_LENGTH: u32 = 2;
 pub const STORE_LENGTH: u32 = 3;
 pub const READINGS_LENGTH: u32 = 4;
 pub const OUTPUT_SHORT: u32 = 5;
+/// A set of limits outside the ranges. It comes before every other number.
+pub const LIMITS: u32 = 74;
 
 pub const MARK: u32 = 10;
 pub const VERSION: u32 = 11;

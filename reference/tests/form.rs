@@ -1,7 +1,10 @@
 //! The form of scripts at its edges (LANGUAGE 5.9 to 5.13, 8.6).
 
-use reference::form::{HEADER, MAX_BYTES, ROWS_LEN};
-use reference::{judge_rows, read, write, Refusal};
+use reference::form::{HEADER, MAX_BYTES};
+use reference::{judge_rows, read, write, Limits, Refusal};
+
+const LIMITS: Limits = Limits::BASE;
+const ROWS_LEN: usize = LIMITS.row_numbers();
 
 const E1: [u8; 25] = [
     0x52, 0x43, 0x53, 0x00, 0x01, 0x0B, 0x04, 0x08, 0x00, 0x02, 0x00, 0x08, 0x01, 0x02, 0x01, 0x08,
@@ -34,13 +37,13 @@ fn refused(number: u32, place: u32) -> Result<u32, Refusal> {
 /// script equal.
 fn read_checked(script: &[u8]) -> Result<u32, Refusal> {
     let mut rows = [USED; ROWS_LEN];
-    let answer = read(script, &mut rows);
+    let answer = read(LIMITS, script, &mut rows);
     match answer {
         Ok(terms) => {
             assert!(rows[terms as usize * 5..].iter().all(|field| *field == 0));
-            assert_eq!(judge_rows(&rows), Ok(terms));
+            assert_eq!(judge_rows(LIMITS, &rows), Ok(terms));
             let mut output = vec![0xA5; script.len() + 3];
-            assert_eq!(write(&rows, &mut output), Ok(script.len() as u32));
+            assert_eq!(write(LIMITS, &rows, &mut output), Ok(script.len() as u32));
             assert_eq!(&output[..script.len()], script);
             assert_eq!(&output[script.len()..], [0xA5; 3]);
         }
@@ -64,10 +67,10 @@ fn rows_of(first: &[[u32; 5]]) -> Vec<u32> {
 /// The judgement of rows; the writer must agree and leave its output alone.
 fn judge(first: &[[u32; 5]]) -> Result<u32, Refusal> {
     let rows = rows_of(first);
-    let answer = judge_rows(&rows);
+    let answer = judge_rows(LIMITS, &rows);
     if let Err(refusal) = answer {
         let mut output = [0xA5; MAX_BYTES];
-        assert_eq!(write(&rows, &mut output), Err(refusal));
+        assert_eq!(write(LIMITS, &rows, &mut output), Err(refusal));
         assert_eq!(output, [0xA5; MAX_BYTES]);
     }
     answer
@@ -76,7 +79,7 @@ fn judge(first: &[[u32; 5]]) -> Result<u32, Refusal> {
 #[test]
 fn e1_has_8_terms_and_its_rows() {
     let mut rows = [USED; ROWS_LEN];
-    assert_eq!(read(&E1, &mut rows), Ok(8));
+    assert_eq!(read(LIMITS, &E1, &mut rows), Ok(8));
     assert_eq!(rows.to_vec(), rows_of(&E1_ROWS));
     assert_eq!(read_checked(&E1), Ok(8));
 }
@@ -90,7 +93,7 @@ fn every_kind_is_read_and_written() {
     ];
     assert_eq!(read_body(&body), Ok(17));
     let mut rows = [USED; ROWS_LEN];
-    assert_eq!(read(&script(&body), &mut rows), Ok(17));
+    assert_eq!(read(LIMITS, &script(&body), &mut rows), Ok(17));
     assert_eq!(rows[5..10], [1, 0x8000_0000, 0, 0, 0]);
     assert_eq!(rows[10..15], [1, 0x7FFF_FFFF, 0, 0, 0]);
     assert_eq!(rows[20..25], [3, 63, 8, 0, 0]);
@@ -113,13 +116,13 @@ fn caller_refusals_of_the_reader() {
     let long = [0; MAX_BYTES + 1];
     assert_eq!(read_checked(&long), refused(1, 0));
     let mut short = [USED; ROWS_LEN - 1];
-    assert_eq!(read(&E1, &mut short), refused(2, 0));
-    assert_eq!(read(&long, &mut short), refused(1, 0));
+    assert_eq!(read(LIMITS, &E1, &mut short), refused(2, 0));
+    assert_eq!(read(LIMITS, &long, &mut short), refused(1, 0));
     assert_eq!(short, [USED; ROWS_LEN - 1]);
     let mut more = [USED; ROWS_LEN + 1];
-    assert_eq!(read(&E1, &mut more), refused(2, 0));
+    assert_eq!(read(LIMITS, &E1, &mut more), refused(2, 0));
     assert_eq!(more, [USED; ROWS_LEN + 1]);
-    assert_eq!(read(&[], &mut []), refused(2, 0));
+    assert_eq!(read(LIMITS, &[], &mut []), refused(2, 0));
 }
 
 #[test]
@@ -355,18 +358,18 @@ fn caller_refusals_of_the_writer_and_the_row_judge() {
     let mut output = [0xA5; 64];
     for length in [0, ROWS_LEN - 1, ROWS_LEN + 1] {
         let rows = vec![USED; length];
-        assert_eq!(judge_rows(&rows), refused(2, 0));
-        assert_eq!(write(&rows, &mut output), refused(2, 0));
-        assert_eq!(write(&rows, &mut []), refused(2, 0));
+        assert_eq!(judge_rows(LIMITS, &rows), refused(2, 0));
+        assert_eq!(write(LIMITS, &rows, &mut output), refused(2, 0));
+        assert_eq!(write(LIMITS, &rows, &mut []), refused(2, 0));
     }
     let rows = rows_of(&E1_ROWS);
     for length in 0..E1.len() {
-        assert_eq!(write(&rows, &mut output[..length]), refused(5, 0));
+        assert_eq!(write(LIMITS, &rows, &mut output[..length]), refused(5, 0));
     }
     // The rows are judged before the output.
-    assert_eq!(write(&vec![0; ROWS_LEN], &mut []), refused(12, 0));
+    assert_eq!(write(LIMITS, &vec![0; ROWS_LEN], &mut []), refused(12, 0));
     assert_eq!(output, [0xA5; 64]);
-    assert_eq!(write(&rows, &mut output[..25]), Ok(25));
+    assert_eq!(write(LIMITS, &rows, &mut output[..25]), Ok(25));
     assert_eq!(output[..25], E1);
     assert_eq!(output[25..], [0xA5; 39]);
 }

@@ -36,8 +36,8 @@ fn short_readings() {
         assert_eq!(roomcheck(&vec![0; length]), "readings short");
     }
     assert_eq!(roomcheck(&[0; 32]), "refused 12 at 0");
-    assert_eq!(roomcheck(&[0; 32 + 4096]), "refused 10 at 0");
-    assert_eq!(roomcheck(&[0; 32 + 4097]), "refused 1 at 0");
+    assert_eq!(roomcheck(&[0; 32 + 32_768]), "refused 10 at 0");
+    assert_eq!(roomcheck(&[0; 32 + 32_769]), "refused 1 at 0");
 }
 
 #[test]

@@ -3,7 +3,7 @@
 //! about borrows answered by looking at every variable. Compared with the crate
 //! on generated rows.
 
-use reference::{check, judge_rows, Generator};
+use reference::{check, judge_rows, Generator, Limits};
 
 type Refused = (u32, u32);
 type Place = (u32, usize);
@@ -273,8 +273,8 @@ impl Judge<'_> {
     }
 }
 
-fn literal_check(rows: &[u32]) -> Result<u32, Refused> {
-    let terms = judge_rows(rows).map_err(|refusal| (refusal.number, refusal.place))?;
+fn literal_check(limits: Limits, rows: &[u32]) -> Result<u32, Refused> {
+    let terms = judge_rows(limits, rows).map_err(|refusal| (refusal.number, refusal.place))?;
     let mut judge = Judge {
         rows: rows.chunks(5).collect(),
         next: 0,
@@ -288,14 +288,23 @@ fn literal_check(rows: &[u32]) -> Result<u32, Refused> {
     }
 }
 
-fn agrees(seed: u64, count: usize, make: fn(&mut Generator, &mut Vec<u32>)) {
-    let mut generator = Generator::new(seed);
+type Make = fn(&mut Generator, &mut Vec<u32>);
+
+fn agrees_under(limits: Limits, seed: u64, count: usize, make: Make) {
+    let mut generator = Generator::with_limits(seed, limits);
     let mut rows = Vec::new();
     for _ in 0..count {
         make(&mut generator, &mut rows);
-        let answer = check(&rows).map_err(|refusal| (refusal.number, refusal.place));
-        assert_eq!(answer, literal_check(&rows), "{:?}", &rows[..200]);
+        let answer = check(limits, &rows).map_err(|refusal| (refusal.number, refusal.place));
+        let literal = literal_check(limits, &rows);
+        assert_eq!(answer, literal, "{:?}", &rows[..rows.len().min(200)]);
     }
+}
+
+/// Under the set of the program and under the largest.
+fn agrees(seed: u64, count: usize, make: Make) {
+    agrees_under(Limits::BASE, seed, count, make);
+    agrees_under(Limits::LARGEST, seed, count / 10, make);
 }
 
 #[test]
@@ -316,4 +325,14 @@ fn the_check_agrees_on_wild_rows() {
 #[test]
 fn the_check_agrees_on_mixed_rows() {
     agrees(24, 10_000, Generator::mixed_rows);
+}
+
+#[test]
+fn the_check_agrees_under_any_set() {
+    let mut sets = Generator::new(25);
+    for seed in 0..200 {
+        let limits = sets.limits_within();
+        agrees_under(limits, seed, 30, Generator::accepted_rows);
+        agrees_under(limits, seed, 60, Generator::mixed_rows);
+    }
 }

@@ -2,15 +2,25 @@
 //! text instead of speed: a recursive reader that knows nothing of rows, and a
 //! recursive judge of rows. Compared with the crate on generated input.
 
-use reference::form::ROWS_LEN;
-use reference::{judge_rows, read, Generator};
+use reference::{judge_rows, read, Generator, Limits};
 
 type Refused = (u32, u32);
 
 /// What the terms of one script have in common while they are read.
 struct Counts {
-    terms: usize,
-    boxes: usize,
+    limits: Limits,
+    terms: u32,
+    boxes: u32,
+}
+
+impl Counts {
+    fn new(limits: Limits) -> Self {
+        Counts {
+            limits,
+            terms: 0,
+            boxes: 0,
+        }
+    }
 }
 
 /// Where terms come from: bytes or rows.
@@ -23,18 +33,18 @@ trait Source {
 }
 
 const ANY: (u32, u32) = (0, u32::MAX);
-const VARIABLE: (u32, u32) = (0, 63);
 const FOLLOWS: (u32, u32) = (0, 8);
 
 /// The ranges of the operands of each known kind.
-fn ranges(kind: u32) -> Option<Vec<(u32, u32)>> {
+fn ranges(limits: Limits, kind: u32) -> Option<Vec<(u32, u32)>> {
+    let variable = (0, limits.variables - 1);
     Some(match kind {
         1 => vec![ANY],
         2 => vec![(0, 7)],
-        3..=6 | 9 => vec![VARIABLE, FOLLOWS],
+        3..=6 | 9 => vec![variable, FOLLOWS],
         7 => vec![],
-        8 => vec![VARIABLE],
-        10 => vec![VARIABLE, FOLLOWS, VARIABLE, FOLLOWS],
+        8 => vec![variable],
+        10 => vec![variable, FOLLOWS, variable, FOLLOWS],
         11 => vec![(1, 255)],
         _ => return None,
     })
@@ -43,26 +53,26 @@ fn ranges(kind: u32) -> Option<Vec<(u32, u32)>> {
 fn term(
     source: &mut impl Source,
     counts: &mut Counts,
-    level: usize,
+    level: u32,
     terms: &mut Vec<u32>,
 ) -> Result<(), Refused> {
     let kind = source.kind()?;
     let place = source.place();
-    let ranges = ranges(kind).ok_or((13, place))?;
+    let ranges = ranges(counts.limits, kind).ok_or((13, place))?;
     if level == 1 && kind != 11 {
         return Err((18, place));
     }
-    if counts.terms + 1 > 512 {
+    if counts.terms + 1 > counts.limits.terms {
         return Err((16, place));
     }
-    if level > 16 {
+    if level > counts.limits.levels {
         return Err((15, place));
     }
-    if kind == 7 && counts.boxes + 1 > 64 {
+    if kind == 7 && counts.boxes + 1 > counts.limits.boxes {
         return Err((17, place));
     }
     counts.terms += 1;
-    counts.boxes += usize::from(kind == 7);
+    counts.boxes += u32::from(kind == 7);
     let operands = source.operands(&ranges)?;
     let mut row = vec![kind];
     row.extend(&operands);
@@ -126,8 +136,8 @@ impl Source for Bytes<'_> {
 }
 
 /// The answer and the rows, or the refusal.
-fn literal_read(script: &[u8]) -> Result<(u32, Vec<u32>), Refused> {
-    if script.len() > 4096 {
+fn literal_read(limits: Limits, script: &[u8]) -> Result<(u32, Vec<u32>), Refused> {
+    if script.len() > 32_768 {
         return Err((1, 0));
     }
     let mut bytes = Bytes { script, offset: 0 };
@@ -140,14 +150,14 @@ fn literal_read(script: &[u8]) -> Result<(u32, Vec<u32>), Refused> {
     if u16::from_be_bytes(version) != 1 {
         return Err((11, 3));
     }
-    let mut counts = Counts { terms: 0, boxes: 0 };
+    let mut counts = Counts::new(limits);
     let mut terms = Vec::new();
     term(&mut bytes, &mut counts, 1, &mut terms)?;
     if bytes.offset < script.len() {
         return Err((19, bytes.offset as u32));
     }
-    terms.resize(ROWS_LEN, 0);
-    Ok((counts.terms as u32, terms))
+    terms.resize(5 * limits.terms as usize, 0);
+    Ok((counts.terms, terms))
 }
 
 struct Rows<'a> {
@@ -180,32 +190,32 @@ impl Source for Rows<'_> {
     }
 }
 
-fn literal_judge(rows: &[u32]) -> Result<u32, Refused> {
-    if rows.len() != 2560 {
+fn literal_judge(limits: Limits, rows: &[u32]) -> Result<u32, Refused> {
+    if rows.len() != 5 * limits.terms as usize {
         return Err((2, 0));
     }
     let mut source = Rows {
         rows: rows.chunks(5).collect(),
         next: 0,
     };
-    let mut counts = Counts { terms: 0, boxes: 0 };
+    let mut counts = Counts::new(limits);
     term(&mut source, &mut counts, 1, &mut Vec::new())?;
-    for row in counts.terms..512 {
-        if source.rows[row].iter().any(|field| *field != 0) {
-            return Err((19, row as u32));
+    for row in counts.terms..limits.terms {
+        if source.rows[row as usize].iter().any(|field| *field != 0) {
+            return Err((19, row));
         }
     }
-    Ok(counts.terms as u32)
+    Ok(counts.terms)
 }
 
-#[test]
-fn the_reader_agrees() {
-    let mut generator = Generator::new(11);
-    let (mut script, mut rows) = (Vec::new(), vec![7; ROWS_LEN]);
-    for _ in 0..30_000 {
+fn readers_agree(seed: u64, limits: Limits, count: usize) {
+    let mut generator = Generator::with_limits(seed, limits);
+    let (mut script, mut rows) = (Vec::new(), vec![7; limits.row_numbers()]);
+    for _ in 0..count {
         generator.script(&mut script);
-        let answer = read(&script, &mut rows).map_err(|refusal| (refusal.number, refusal.place));
-        let literal = literal_read(&script);
+        let answer = read(limits, &script, &mut rows);
+        let answer = answer.map_err(|refusal| (refusal.number, refusal.place));
+        let literal = literal_read(limits, &script);
         assert_eq!(
             answer,
             literal
@@ -219,13 +229,35 @@ fn the_reader_agrees() {
     }
 }
 
+fn judges_agree(seed: u64, limits: Limits, count: usize) {
+    let mut generator = Generator::with_limits(seed, limits);
+    let mut rows = Vec::new();
+    for _ in 0..count {
+        generator.rows_any_length(&mut rows);
+        let answer = judge_rows(limits, &rows);
+        let answer = answer.map_err(|refusal| (refusal.number, refusal.place));
+        assert_eq!(answer, literal_judge(limits, &rows));
+    }
+}
+
+#[test]
+fn the_reader_agrees() {
+    readers_agree(11, Limits::BASE, 30_000);
+    readers_agree(11, Limits::LARGEST, 3_000);
+}
+
 #[test]
 fn the_row_judge_agrees() {
-    let mut generator = Generator::new(12);
-    let mut rows = Vec::new();
-    for _ in 0..30_000 {
-        generator.rows_any_length(&mut rows);
-        let answer = judge_rows(&rows).map_err(|refusal| (refusal.number, refusal.place));
-        assert_eq!(answer, literal_judge(&rows));
+    judges_agree(12, Limits::BASE, 30_000);
+    judges_agree(12, Limits::LARGEST, 3_000);
+}
+
+#[test]
+fn both_agree_under_any_set() {
+    let mut sets = Generator::new(13);
+    for seed in 0..200 {
+        let limits = sets.limits_within();
+        readers_agree(seed, limits, 100);
+        judges_agree(seed, limits, 100);
     }
 }

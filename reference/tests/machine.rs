@@ -3,27 +3,37 @@
 mod common;
 
 use common::*;
-use reference::form::ROWS_LEN;
-use reference::machine::STORE_LEN;
 use reference::run;
 
 #[test]
 fn refusals_before_the_run_leave_the_store() {
     let rows = rows_of(&script(&[number(5)]));
     let mut store = vec![9; STORE_LEN];
-    assert_eq!(run(&rows[1..], &READINGS, &mut store), refused(2, 0));
-    assert_eq!(run(&rows[1..], &[], &mut []), refused(2, 0));
-    assert_eq!(run(&rows, &READINGS, &mut store[1..]), refused(3, 0));
-    assert_eq!(run(&rows, &[], &mut []), refused(3, 0));
-    assert_eq!(run(&rows, &READINGS[1..], &mut store), refused(4, 0));
-    assert_eq!(run(&rows, &[1; 9], &mut store), refused(4, 0));
-    assert_eq!(run(&[0; ROWS_LEN], &[], &mut store), refused(4, 0));
-    assert_eq!(run(&[0; ROWS_LEN], &READINGS, &mut store), refused(12, 0));
+    assert_eq!(
+        run(LIMITS, &rows[1..], &READINGS, &mut store),
+        refused(2, 0)
+    );
+    assert_eq!(run(LIMITS, &rows[1..], &[], &mut []), refused(2, 0));
+    assert_eq!(
+        run(LIMITS, &rows, &READINGS, &mut store[1..]),
+        refused(3, 0)
+    );
+    assert_eq!(run(LIMITS, &rows, &[], &mut []), refused(3, 0));
+    assert_eq!(
+        run(LIMITS, &rows, &READINGS[1..], &mut store),
+        refused(4, 0)
+    );
+    assert_eq!(run(LIMITS, &rows, &[1; 9], &mut store), refused(4, 0));
+    assert_eq!(run(LIMITS, &[0; ROWS_LEN], &[], &mut store), refused(4, 0));
+    assert_eq!(
+        run(LIMITS, &[0; ROWS_LEN], &READINGS, &mut store),
+        refused(12, 0)
+    );
     let mut left = rows.clone();
     left[10] = 1;
-    assert_eq!(run(&left, &READINGS, &mut store), refused(19, 2));
+    assert_eq!(run(LIMITS, &left, &READINGS, &mut store), refused(19, 2));
     assert_eq!(store, vec![9; STORE_LEN]);
-    assert_eq!(run(&rows, &READINGS, &mut store), ran(5, 0));
+    assert_eq!(run(LIMITS, &rows, &READINGS, &mut store), ran(5, 0));
     assert_eq!(store, tidy(0));
 }
 

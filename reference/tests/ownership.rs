@@ -5,18 +5,17 @@ mod common;
 
 use common::*;
 use reference::check;
-use reference::form::ROWS_LEN;
 
 #[test]
 fn rows_are_judged_first() {
-    assert_eq!(check(&[]), refused(2, 0));
-    assert_eq!(check(&[0; ROWS_LEN + 1]), refused(2, 0));
-    assert_eq!(check(&[0; ROWS_LEN]), refused(12, 0));
+    assert_eq!(check(LIMITS, &[]), refused(2, 0));
+    assert_eq!(check(LIMITS, &[0; ROWS_LEN + 1]), refused(2, 0));
+    assert_eq!(check(LIMITS, &[0; ROWS_LEN]), refused(12, 0));
     // A copy out of scope at term 1 does not come before a row left over.
     let mut rows = rows_of(&script(&[copy((0, 0))]));
-    assert_eq!(check(&rows), refused(31, 1));
+    assert_eq!(check(LIMITS, &rows), refused(31, 1));
     rows[ROWS_LEN - 1] = 1;
-    assert_eq!(check(&rows), refused(19, 511));
+    assert_eq!(check(LIMITS, &rows), refused(19, 511));
 }
 
 #[test]

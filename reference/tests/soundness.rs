@@ -4,9 +4,7 @@
 
 mod common;
 
-use common::tidy;
-use reference::form::ROWS_LEN;
-use reference::machine::STORE_LEN;
+use common::{tidy, LIMITS, ROWS_LEN, STORE_LEN};
 use reference::{check, read, roomcheck, run, Generator, Ran};
 use std::collections::BTreeMap;
 
@@ -19,7 +17,7 @@ fn box_terms(rows: &[u32]) -> u32 {
 /// Runs accepted rows: every box takes a cell and every cell is given back.
 fn assert_tidy_run(rows: &[u32], readings: &[i32]) -> Ran {
     let mut store = vec![9; STORE_LEN];
-    let ran = run(rows, readings, &mut store).expect("an accepted script runs");
+    let ran = run(LIMITS, rows, readings, &mut store).expect("an accepted script runs");
     assert_eq!(ran.cells, box_terms(rows));
     assert_eq!(store, tidy(ran.cells));
     ran
@@ -31,7 +29,7 @@ fn accepted_rows_are_accepted_and_run() {
     let mut rows = Vec::new();
     for _ in 0..SAMPLE {
         generator.accepted_rows(&mut rows);
-        assert!(check(&rows).is_ok());
+        assert!(check(LIMITS, &rows).is_ok());
         let readings = generator.readings();
         assert_tidy_run(&rows, &readings);
     }
@@ -44,7 +42,7 @@ fn whatever_is_accepted_runs() {
     for _ in 0..SAMPLE {
         generator.mixed_rows(&mut rows);
         let readings = generator.readings();
-        if check(&rows).is_ok() {
+        if check(LIMITS, &rows).is_ok() {
             assert_tidy_run(&rows, &readings);
         }
     }
@@ -58,10 +56,10 @@ fn every_refusal_and_every_fault_occurs() {
     let (mut checked, mut ran) = (BTreeMap::new(), BTreeMap::new());
     for _ in 0..SAMPLE {
         generator.mixed_rows(&mut rows);
-        let number = check(&rows).map_or_else(|refusal| refusal.number, |_| 0);
+        let number = check(LIMITS, &rows).map_or_else(|refusal| refusal.number, |_| 0);
         *checked.entry(number).or_insert(0) += 1;
         let readings = generator.readings();
-        let answer = run(&rows, &readings, &mut store);
+        let answer = run(LIMITS, &rows, &readings, &mut store);
         let number = answer.map_or_else(|refusal| refusal.number, |_| 0);
         *ran.entry(number).or_insert(0) += 1;
     }
@@ -88,7 +86,7 @@ fn lines_say_what_the_layers_answer() {
         };
         let number = |bytes: &[u8]| i32::from_be_bytes(bytes.try_into().unwrap());
         let readings: Vec<i32> = readings.chunks(4).map(number).collect();
-        let expected = match read(script, &mut rows).and_then(|_| check(&rows)) {
+        let expected = match read(LIMITS, script, &mut rows).and_then(|_| check(LIMITS, &rows)) {
             Ok(terms) => {
                 let ran = assert_tidy_run(&rows, &readings);
                 format!("accepted {terms} call {} cells {}", ran.answer, ran.cells)

@@ -2,25 +2,28 @@
 //! many there are so far, how many of them are boxes, and which terms around
 //! the next one still wait for inner terms. Reader and row judge share it.
 
-use super::{kind, MAX_BOXES, MAX_LEVELS, MAX_TERMS};
+use super::kind;
+use crate::limits::Limits;
 use crate::refusal::{NO_BLOCK, TOO_DEEP, TOO_MANY_BOXES, TOO_MANY_TERMS, UNKNOWN_KIND};
 
 pub(super) struct Outline {
+    limits: Limits,
     pub(super) terms: usize,
-    boxes: usize,
+    boxes: u32,
     /// How many terms are open around the next one.
     depth: usize,
     /// For each open term, the inner terms it still waits for.
-    left: [u8; MAX_LEVELS],
+    left: [u8; Limits::LARGEST.levels as usize],
 }
 
 impl Outline {
-    pub(super) fn new() -> Self {
+    pub(super) fn new(limits: Limits) -> Self {
         Outline {
+            limits,
             terms: 0,
             boxes: 0,
             depth: 0,
-            left: [0; MAX_LEVELS],
+            left: [0; Limits::LARGEST.levels as usize],
         }
     }
 
@@ -35,14 +38,14 @@ impl Outline {
         if self.terms == 0 && kind != kind::BLOCK {
             return Err(NO_BLOCK);
         }
-        if self.terms == MAX_TERMS {
+        if self.terms == self.limits.terms as usize {
             return Err(TOO_MANY_TERMS);
         }
-        if self.depth == MAX_LEVELS {
+        if self.depth == self.limits.levels as usize {
             return Err(TOO_DEEP);
         }
         if kind == kind::BOX {
-            if self.boxes == MAX_BOXES {
+            if self.boxes == self.limits.boxes {
                 return Err(TOO_MANY_BOXES);
             }
             self.boxes += 1;

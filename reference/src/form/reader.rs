@@ -1,22 +1,24 @@
 //! From script bytes to term rows (LANGUAGE 5.9 to 5.11, 6.2).
 
-use super::kind::{is_in_range, DEMANDS};
+use super::kind::{is_in_range, ranges_of, Layout, Ranges, LAYOUTS};
 use super::outline::Outline;
 use super::*;
+use crate::limits::Limits;
 use crate::refusal::*;
 
 /// Reads a script into term rows and answers the number of terms. A refusal
-/// by the bytes (10 to 19) leaves all rows 0, one by the caller (1, 2) leaves
-/// them as they were.
-pub fn read(script: &[u8], rows: &mut [u32]) -> Result<u32, Refusal> {
+/// by the bytes (10 to 19) leaves all rows 0, one by the caller (74, 1, 2)
+/// leaves them as they were.
+pub fn read(limits: Limits, script: &[u8], rows: &mut [u32]) -> Result<u32, Refusal> {
+    limits.judge()?;
     if script.len() > MAX_BYTES {
         return Err(Refusal::by_caller(SCRIPT_TOO_LONG));
     }
-    if rows.len() != ROWS_LEN {
+    if rows.len() != limits.row_numbers() {
         return Err(Refusal::by_caller(ROWS_LENGTH));
     }
     let (rows, _) = rows.as_chunks_mut();
-    let answer = header(script).and_then(|()| terms(script, rows));
+    let answer = header(script).and_then(|()| terms(limits, script, rows));
     // Rows of terms that were read are written whole, so after success only
     // the unused ones need clearing.
     let kept = answer.map_or(0, |terms| terms as usize);
@@ -40,20 +42,22 @@ fn header(script: &[u8]) -> Result<(), Refusal> {
 }
 
 /// The terms from the outermost block on, and nothing after it.
-fn terms(script: &[u8], rows: &mut [Row]) -> Result<u32, Refusal> {
-    let mut outline = Outline::new();
+fn terms(limits: Limits, script: &[u8], rows: &mut [Row]) -> Result<u32, Refusal> {
+    let mut outline = Outline::new(limits);
+    let ranges = ranges_of(limits);
     let mut offset = HEADER.len();
     loop {
         let kind = byte(script, offset)? as u32;
         outline
             .begin(kind)
             .map_err(|number| Refusal::new(number, offset))?;
-        let row = match script[offset..].first_chunk().and_then(whole_term) {
+        let window = script[offset..].first_chunk();
+        let row = match window.and_then(|window| whole_term(ranges, window)) {
             Some(row) => row,
-            None => term(script, offset, kind)?,
+            None => term(limits.variables, script, offset, kind)?,
         };
         rows[outline.terms - 1] = row;
-        offset += DEMANDS[kind as usize].bytes as usize;
+        offset += LAYOUTS[kind as usize].bytes as usize;
         if outline.end(inner_terms(&row)) {
             break;
         }
@@ -70,33 +74,27 @@ fn terms(script: &[u8], rows: &mut [Row]) -> Result<u32, Refusal> {
 /// The reader decides without jumps here: kinds follow each other in no order
 /// that could be predicted.
 #[inline(always)]
-fn whole_term(window: &[u8; FIELDS]) -> Option<Row> {
-    let [kind, a, b, c, d] = window.map(u32::from);
-    let most = &DEMANDS[kind as usize].most;
-    let kept = |operand, most| if most == 0 { 0 } else { operand };
-    let number = u32::from_be_bytes([window[1], window[2], window[3], window[4]]);
-    let a = if kind == NUMBER {
-        number
-    } else {
-        kept(a, most[0])
-    };
+fn whole_term(ranges: &Ranges, window: &[u8; FIELDS]) -> Option<Row> {
+    let [kind, operands @ ..] = *window;
+    let operands = u32::from_be_bytes(operands);
+    let Layout { shift, kept, .. } = &LAYOUTS[kind as usize];
     let row = [
-        kind,
-        a,
-        kept(b, most[1]),
-        kept(c, most[2]),
-        kept(d, most[3]),
+        kind as u32,
+        (operands as u64 >> shift) as u32,
+        operands >> 16 & kept[0],
+        operands >> 8 & kept[1],
+        operands & kept[2],
     ];
-    is_in_range(&row).then_some(row)
+    is_in_range(ranges, &row).then_some(row)
 }
 
 /// The row of the term whose kind byte is at `offset`, operand by operand, so
 /// that the first one missing or out of range is the one that is refused.
 #[cold]
-fn term(script: &[u8], offset: usize, kind: u32) -> Result<Row, Refusal> {
+fn term(variables: u32, script: &[u8], offset: usize, kind: u32) -> Result<Row, Refusal> {
     let operand =
         |index: usize, least: u32, most: u32| operand(script, offset + index, least, most);
-    let variable = |index| operand(index, 0, MAX_VARIABLE);
+    let variable = |index| operand(index, 0, variables - 1);
     let follows = |index| operand(index, 0, MAX_FOLLOWS);
     Ok(match kind {
         NUMBER => [kind, number(script, offset + 1)?, 0, 0, 0],

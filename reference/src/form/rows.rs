@@ -1,8 +1,9 @@
 //! Judging term rows that the reader did not make (LANGUAGE 5.12, 5.13, 6.3).
 
-use super::kind::{is_in_range, DEMANDS};
+use super::kind::{is_in_range, ranges_of, LAYOUTS};
 use super::outline::Outline;
 use super::*;
+use crate::limits::Limits;
 use crate::refusal::*;
 
 /// What the rows of a whole script are known to amount to.
@@ -13,18 +14,18 @@ pub(crate) struct Judged {
     pub(crate) bytes: usize,
 }
 
-/// Judges term rows by 2, then 12 to 19, and answers the number of terms.
-/// Number 16 cannot occur: after 512 rows the rows are used up, which is 12.
-pub fn judge_rows(rows: &[u32]) -> Result<u32, Refusal> {
-    if rows.len() != ROWS_LEN {
-        return Err(Refusal::by_caller(ROWS_LENGTH));
-    }
-    judge_all(as_rows(rows)).map(|judged| judged.terms as u32)
+/// Judges term rows by 74, 2, then 12 to 19, and answers the number of terms.
+/// Number 16 cannot occur: after as many rows as there may be terms the rows
+/// are used up, which is 12.
+pub fn judge_rows(limits: Limits, rows: &[u32]) -> Result<u32, Refusal> {
+    let rows = lent_rows(limits, rows)?;
+    judge_all(limits, rows).map(|judged| judged.terms as u32)
 }
 
-/// Judges the rows of a slice whose length is right.
-pub(crate) fn judge_all(rows: &[Row]) -> Result<Judged, Refusal> {
-    let mut outline = Outline::new();
+/// Judges rows whose number is right under a set that is in the ranges.
+pub(crate) fn judge_all(limits: Limits, rows: &[Row]) -> Result<Judged, Refusal> {
+    let mut outline = Outline::new(limits);
+    let ranges = ranges_of(limits);
     let mut bytes = HEADER.len();
     loop {
         let place = outline.terms;
@@ -37,10 +38,10 @@ pub(crate) fn judge_all(rows: &[Row]) -> Result<Judged, Refusal> {
         outline
             .begin(row[0])
             .map_err(|number| Refusal::new(number, place))?;
-        if !is_in_range(row) {
+        if !is_in_range(ranges, row) {
             return Err(Refusal::new(OPERAND, place));
         }
-        bytes += DEMANDS[row[0] as usize].bytes as usize;
+        bytes += LAYOUTS[row[0] as usize].bytes as usize;
         if outline.end(inner_terms(row)) {
             break;
         }

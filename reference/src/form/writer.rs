@@ -1,17 +1,15 @@
 //! From term rows to script bytes (LANGUAGE 6.4).
 
-use super::kind::DEMANDS;
+use super::kind::LAYOUTS;
 use super::*;
+use crate::limits::Limits;
 use crate::refusal::*;
 
 /// Writes the script that the rows describe and answers its length. Every
 /// refusal leaves the output as it was; bytes past the script stay.
-pub fn write(rows: &[u32], output: &mut [u8]) -> Result<u32, Refusal> {
-    if rows.len() != ROWS_LEN {
-        return Err(Refusal::by_caller(ROWS_LENGTH));
-    }
-    let rows = as_rows(rows);
-    let judged = judge_all(rows)?;
+pub fn write(limits: Limits, rows: &[u32], output: &mut [u8]) -> Result<u32, Refusal> {
+    let rows = lent_rows(limits, rows)?;
+    let judged = judge_all(limits, rows)?;
     let Some(script) = output.get_mut(..judged.bytes) else {
         return Err(Refusal::by_caller(OUTPUT_SHORT));
     };
@@ -31,7 +29,7 @@ fn term<'a>(row: &Row, output: &'a mut [u8]) -> &'a mut [u8] {
     if row[0] == NUMBER {
         bytes[1..].copy_from_slice(&row[1].to_be_bytes());
     }
-    let length = DEMANDS[row[0] as usize].bytes as usize;
+    let length = LAYOUTS[row[0] as usize].bytes as usize;
     // All five bytes at once where there is room: what belongs to the next
     // term is written again with that term.
     match output.first_chunk_mut() {

@@ -3,23 +3,52 @@
 //! the rules allow it. A careless author writes some terms all the same.
 
 use super::operands;
+use super::statements::NARROW;
 use crate::form::*;
+use crate::limits::Limits;
 use crate::ownership::chain::{Chain, Link};
 use crate::ownership::environment::{Environment, Place, Value};
 use crate::random::Random;
 
+/// What an author knows of all variables, under every set.
+pub(super) type State = Environment<{ Limits::LARGEST.variables as usize }>;
+
 pub(super) struct Author<'a> {
     pub(super) random: &'a mut Random,
     pub(super) terms: &'a mut Vec<Row>,
-    pub(super) environment: Environment,
+    pub(super) environment: State,
+    pub(super) habits: Habits,
+    /// How many variables there are.
+    pub(super) variables: u32,
     /// Box terms that may still be written.
     pub(super) boxes: u32,
+    /// Terms that the blocks around still have to write after the present one.
+    pub(super) owed: usize,
+    /// Terms that were taken back.
+    pub(super) given_up: usize,
+}
+
+/// What an author goes by in a whole script.
+#[derive(Clone, Copy)]
+pub(super) struct Habits {
+    /// The most statements of the outermost block.
+    pub(super) statements: u32,
+    /// The most terms.
+    pub(super) terms: usize,
     /// Beyond so many terms only short ones are written.
     pub(super) room: usize,
+    /// How many terms are taken back before only numbers are written. Terms in
+    /// terms are tried again on each level, which would take too long in deep
+    /// ones.
+    pub(super) patience: usize,
+    /// Blocks that are statements have at most so many terms.
+    pub(super) widest: u32,
     /// How often, in a hundred, a term is written that the rules refuse.
     pub(super) careless: u32,
     /// How often, in a hundred, a term of any type is a box.
     pub(super) boxing: u32,
+    /// How often, in a hundred, one that is no box is a block.
+    pub(super) nesting: u32,
 }
 
 /// What a term gives, or nothing if the author gives the term up. What was
@@ -33,11 +62,22 @@ fn row_at(kind: u32, place: Place) -> Row {
 impl Author<'_> {
     /// Whether a refused term is written nevertheless.
     pub(super) fn careless(&mut self) -> bool {
-        self.careless > 0 && self.random.percent(self.careless)
+        self.habits.careless > 0 && self.random.percent(self.habits.careless)
     }
 
     pub(super) fn crowded(&self) -> bool {
-        self.terms.len() >= self.room
+        self.terms.len() >= self.habits.room
+    }
+
+    /// How many terms there is room for, with those that are owed left out.
+    pub(super) fn free(&self) -> usize {
+        let used = self.terms.len() + self.owed;
+        self.habits.terms.saturating_sub(used)
+    }
+
+    /// Writes the row of a term if there is room for it.
+    pub(super) fn push(&mut self, row: Row) -> Option<()> {
+        (self.free() > 0).then(|| self.terms.push(row))
     }
 
     /// A variable in scope, a recent one more often than the others.
@@ -97,7 +137,7 @@ impl Author<'_> {
             Err(_) if self.careless() => self.value_all_the_same(kind, place),
             Err(_) => return None,
         };
-        self.terms.push(row_at(kind, place));
+        self.push(row_at(kind, place))?;
         Some(value)
     }
 
@@ -127,7 +167,7 @@ impl Author<'_> {
             0 => [NUMBER, operands::number(self.random), 0, 0, 0],
             _ => [READING, self.random.below(MAX_READING + 1), 0, 0, 0],
         };
-        self.terms.push(row);
+        self.push(row)?;
         Some(Value::NUMBER)
     }
 
@@ -141,19 +181,19 @@ impl Author<'_> {
         }
         let mut row = row_at(BELOW, first);
         row[3..].copy_from_slice(&[second.root as u32, second.follows as u32]);
-        self.terms.push(row);
+        self.push(row)?;
         Some(Value::NUMBER)
     }
 
     /// A term of any type.
     pub(super) fn any_value(&mut self, levels: u32) -> Written {
         let inner = levels > 1 && !self.crowded();
-        if inner && self.random.percent(self.boxing) {
+        if inner && self.boxes > 0 && self.random.percent(self.habits.boxing) {
             return self.boxed(levels, None);
         }
         let choice = self.random.below(100);
-        if inner && choice < 10 {
-            return self.block(levels, None);
+        if inner && choice < self.habits.nesting {
+            return self.block(levels, NARROW.min(self.habits.widest), None);
         }
         let kind = match choice {
             0..=22 => return self.number(),
@@ -172,8 +212,8 @@ impl Author<'_> {
     /// A term of a given type.
     pub(super) fn value_like(&mut self, chain: Chain, levels: u32) -> Written {
         let inner = levels > 1 && !self.crowded();
-        if inner && self.random.percent(15) {
-            return self.block(levels, Some(chain));
+        if inner && self.random.percent(self.habits.nesting + 5) {
+            return self.block(levels, NARROW.min(self.habits.widest), Some(chain));
         }
         if chain.is_number() {
             return match self.random.below(8) {
@@ -216,7 +256,7 @@ impl Author<'_> {
     /// A box round a term of a given type, or of any.
     fn boxed(&mut self, levels: u32, inner: Option<Chain>) -> Written {
         self.boxes = self.boxes.checked_sub(1)?;
-        self.terms.push([BOX, 0, 0, 0, 0]);
+        self.push([BOX, 0, 0, 0, 0])?;
         let value = match inner {
             Some(chain) => self.value_like(chain, levels - 1)?,
             None => self.any_value(levels - 1)?,

@@ -2,17 +2,19 @@
 
 use super::operands;
 use crate::form::*;
+use crate::limits::Limits;
 use crate::random::Random;
 
 /// Makes one edit. Where the chosen edit is not possible nothing changes.
-pub(super) fn edit(random: &mut Random, terms: &mut Vec<Row>) {
+pub(super) fn edit(random: &mut Random, limits: Limits, terms: &mut Vec<Row>) {
+    let variables = limits.variables;
     let at = random.index(terms.len());
     match random.below(16) {
-        0..=5 => change_operand(random, terms, at),
+        0..=5 => change_operand(random, variables, terms, at),
         6..=11 => change_kind(random, &mut terms[at..]),
-        12 => replace_leaf(random, &mut terms[at]),
+        12 => replace_leaf(random, variables, &mut terms[at]),
         13 => remove_statement(random, terms),
-        14 => repeat_statement(random, terms),
+        14 => repeat_statement(random, limits, terms),
         _ => swap_statements(random, terms),
     }
 }
@@ -23,14 +25,14 @@ fn has_place(kind: u32) -> bool {
 
 /// Another variable, mostly one that the script uses, or another number of
 /// follows.
-fn change_operand(random: &mut Random, terms: &mut [Row], at: usize) {
+fn change_operand(random: &mut Random, variables: u32, terms: &mut [Row], at: usize) {
     // A term not far before, so that its variable is likely in scope.
     let other = terms[at - random.index(at.min(12) + 1)];
     let used = matches!(other[0], LET) || has_place(other[0]);
     let variable = if used && random.percent(90) {
         other[1]
     } else {
-        operands::variable(random)
+        operands::variable(random, variables)
     };
     let row = &mut terms[at];
     let first = if row[0] == BELOW {
@@ -60,9 +62,9 @@ fn change_kind(random: &mut Random, terms: &mut [Row]) {
     }
 }
 
-fn replace_leaf(random: &mut Random, row: &mut Row) {
+fn replace_leaf(random: &mut Random, variables: u32, row: &mut Row) {
     if inner_terms(row) == 0 {
-        *row = operands::leaf(random);
+        *row = operands::leaf(random, variables);
     }
 }
 
@@ -100,7 +102,7 @@ fn remove_statement(random: &mut Random, terms: &mut Vec<Row>) {
 }
 
 /// Writes a statement a second time, directly after itself.
-fn repeat_statement(random: &mut Random, terms: &mut Vec<Row>) {
+fn repeat_statement(random: &mut Random, limits: Limits, terms: &mut Vec<Row>) {
     let Some((block, at)) = statement(random, terms) else {
         return;
     };
@@ -109,7 +111,8 @@ fn repeat_statement(random: &mut Random, terms: &mut Vec<Row>) {
         .iter()
         .chain(&terms[at..end])
         .filter(|row| row[0] == BOX);
-    let fits = terms.len() + (end - at) <= MAX_TERMS && boxes.count() <= MAX_BOXES;
+    let fits =
+        terms.len() + (end - at) <= limits.terms as usize && boxes.count() <= limits.boxes as usize;
     if fits && terms[block][1] < MAX_COUNT {
         terms[block][1] += 1;
         terms.extend_from_within(at..end);

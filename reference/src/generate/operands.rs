@@ -14,12 +14,13 @@ pub(super) fn number(random: &mut Random) -> u32 {
     }
 }
 
-pub(super) fn variable(random: &mut Random) -> u32 {
+/// One of so many variables.
+pub(super) fn variable(random: &mut Random, variables: u32) -> u32 {
     match random.below(8) {
         0 => 0,
-        1 => MAX_VARIABLE,
-        2..=4 => random.below(6),
-        _ => random.below(MAX_VARIABLE + 1),
+        1 => variables - 1,
+        2..=4 => random.below(variables.min(6)),
+        _ => random.below(variables),
     }
 }
 
@@ -31,15 +32,24 @@ pub(super) fn follows(random: &mut Random) -> u32 {
     }
 }
 
+/// The two operands of a place.
+pub(super) fn place(random: &mut Random, variables: u32) -> [u32; 2] {
+    [variable(random, variables), follows(random)]
+}
+
 /// A term without inner terms.
-pub(super) fn leaf(random: &mut Random) -> Row {
+pub(super) fn leaf(random: &mut Random, variables: u32) -> Row {
     match random.between(1, 7) {
         NUMBER => [NUMBER, number(random), 0, 0, 0],
         READING => [READING, random.below(MAX_READING + 1), 0, 0, 0],
         7 => {
-            let first = (variable(random), follows(random));
-            [BELOW, first.0, first.1, variable(random), follows(random)]
+            let [a, b] = place(random, variables);
+            let [c, d] = place(random, variables);
+            [BELOW, a, b, c, d]
         }
-        kind => [kind, variable(random), follows(random), 0, 0],
+        kind => {
+            let [root, follows] = place(random, variables);
+            [kind, root, follows, 0, 0]
+        }
     }
 }

@@ -1,32 +1,83 @@
 //! Rows and scripts for the check and for the machine.
 
-use super::author::Author;
+use super::author::{Author, Habits, State};
 use super::bytes::write_unjudged;
 use super::edits;
+use super::plan::MIDDLING;
 use super::rows::flatten;
+use super::statements::NARROW;
 use super::Generator;
-use crate::form::*;
-use crate::ownership::environment::Environment;
+use crate::form::MAX_COUNT;
+use crate::random::Random;
+
+/// With at most so many terms, as many as there may be are not rare.
+const SMALL: usize = 64;
+
+/// Goes on until there are so many terms, in larger blocks if that is needed,
+/// with all boxes more often than chance would have it.
+fn full(random: &mut Random, habits: Habits, terms: usize) -> Habits {
+    Habits {
+        // The answer is one more.
+        statements: MAX_COUNT - 1,
+        terms,
+        room: terms,
+        patience: 16 * terms,
+        widest: (terms as u32 / 8).clamp(habits.widest, MAX_COUNT - 1),
+        boxing: random.pick(&[habits.boxing, 50]),
+        ..habits
+    }
+}
 
 impl Generator {
     /// Writes terms by an author who is careless so often in a hundred times.
     fn author(&mut self, careless: u32) {
-        let statements = match self.random.below(40) {
-            0 => self.random.between(30, 90),
-            1..=9 => self.random.between(8, 20),
-            _ => self.random.between(2, 9),
-        };
-        let boxing = self.random.pick(&[5, 20, 20, 35, 65]);
+        let habits = self.habits(careless);
         Author {
             random: &mut self.random,
             terms: &mut self.terms,
-            environment: Environment::new(),
-            boxes: MAX_BOXES as u32,
-            room: 300,
-            careless,
-            boxing,
+            environment: State::new(),
+            habits,
+            variables: self.limits.variables,
+            boxes: self.limits.boxes,
+            owed: 0,
+            given_up: 0,
         }
-        .script(statements);
+        .script(self.limits.levels);
+    }
+
+    /// Few statements most often, seldom as many terms as there may be, seldom
+    /// blocks in blocks down to the last level.
+    fn habits(&mut self, careless: u32) -> Habits {
+        let random = &mut self.random;
+        let terms = self.limits.terms as usize;
+        let ordinary = Habits {
+            statements: match random.below(40) {
+                0 => random.between(30, 90),
+                1..=9 => random.between(8, 20),
+                _ => random.between(2, 9),
+            },
+            terms,
+            room: (terms * 3 / 5).min(300),
+            patience: 600,
+            widest: NARROW,
+            careless,
+            boxing: random.pick(&[5, 20, 20, 35, 65]),
+            nesting: 10,
+        };
+        let often = if terms <= SMALL { 20 } else { 1 };
+        match random.below(200) {
+            choice if choice < often => full(random, ordinary, terms),
+            20 if terms > MIDDLING => {
+                let terms = MIDDLING + random.index(terms - MIDDLING);
+                full(random, ordinary, terms)
+            }
+            21..=24 => Habits {
+                widest: 2,
+                nesting: 85,
+                ..ordinary
+            },
+            _ => ordinary,
+        }
     }
 
     fn accepted(&mut self) {
@@ -36,7 +87,7 @@ impl Generator {
     fn near_miss(&mut self) {
         self.author(0);
         for _ in 0..self.random.between(1, 2) {
-            edits::edit(&mut self.random, &mut self.terms);
+            edits::edit(&mut self.random, self.limits, &mut self.terms);
         }
     }
 
@@ -44,26 +95,26 @@ impl Generator {
         let careless = self.random.pick(&[3, 15, 50, 100]);
         self.author(careless);
         for _ in 0..self.random.below(3) {
-            edits::edit(&mut self.random, &mut self.terms);
+            edits::edit(&mut self.random, self.limits, &mut self.terms);
         }
     }
 
     /// Rows of a script that the check accepts.
     pub fn accepted_rows(&mut self, out: &mut Vec<u32>) {
         self.accepted();
-        flatten(&self.terms, out);
+        flatten(self.limits, &self.terms, out);
     }
 
     /// Rows of an accepted script after one or two edits.
     pub fn near_miss_rows(&mut self, out: &mut Vec<u32>) {
         self.near_miss();
-        flatten(&self.terms, out);
+        flatten(self.limits, &self.terms, out);
     }
 
     /// Rows for unchecked runs: every fault occurs.
     pub fn wild_rows(&mut self, out: &mut Vec<u32>) {
         self.wild();
-        flatten(&self.terms, out);
+        flatten(self.limits, &self.terms, out);
     }
 
     /// Rows for check and machine: every answer of both occurs.

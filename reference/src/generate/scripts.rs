@@ -1,7 +1,8 @@
 //! Scripts for the reader: valid ones, damaged ones and ones beyond a limit.
 
 use super::bytes::write_unjudged;
-use super::shape::{plan_beyond, plan_within, tree};
+use super::plan::{plan_beyond, plan_within};
+use super::shape::tree;
 use super::Generator;
 use crate::form::*;
 use crate::random::Random;
@@ -9,15 +10,25 @@ use crate::random::Random;
 impl Generator {
     /// A script that the reader accepts.
     pub fn valid_script(&mut self, out: &mut Vec<u8>) {
-        let plan = plan_within(&mut self.random);
-        tree(&mut self.random, plan, &mut self.terms);
+        let plan = plan_within(&mut self.random, self.limits);
+        tree(
+            &mut self.random,
+            self.limits.variables,
+            plan,
+            &mut self.terms,
+        );
         write_unjudged(&self.terms, out);
     }
 
     /// A script just beyond one of the limits, seldom within it.
     pub fn script_beyond(&mut self, out: &mut Vec<u8>) {
-        let plan = plan_beyond(&mut self.random);
-        tree(&mut self.random, plan, &mut self.terms);
+        let plan = plan_beyond(&mut self.random, self.limits);
+        tree(
+            &mut self.random,
+            self.limits.variables,
+            plan,
+            &mut self.terms,
+        );
         write_unjudged(&self.terms, out);
     }
 
@@ -28,35 +39,37 @@ impl Generator {
         } else {
             self.valid_script(out);
         }
-        match self.random.below(100) {
+        let variables = self.limits.variables as u8;
+        let random = &mut self.random;
+        match random.below(100) {
             0..=29 => (),
-            30..=54 => damage(&mut self.random, 1, out),
+            30..=54 => damage(random, variables, 1, out),
             55..=64 => {
-                let times = self.random.between(2, 5);
-                damage(&mut self.random, times, out);
+                let times = random.between(2, 5);
+                damage(random, variables, times, out);
             }
-            65..=74 => out.truncate(self.random.index(out.len() + 1)),
-            75..=82 => extend(&mut self.random, out),
-            83..=89 => out[self.random.index(HEADER.len())] = byte(&mut self.random),
-            90..=94 => out[HEADER.len()] = byte(&mut self.random),
-            95..=97 => scatter(&mut self.random, HEADER.len(), out),
-            98 => scatter(&mut self.random, 0, out),
-            _ => resize(&mut self.random, out),
+            65..=74 => out.truncate(random.index(out.len() + 1)),
+            75..=82 => extend(random, variables, out),
+            83..=89 => out[random.index(HEADER.len())] = byte(random, variables),
+            90..=94 => out[HEADER.len()] = byte(random, variables),
+            95..=97 => scatter(random, variables, HEADER.len(), out),
+            98 => scatter(random, variables, 0, out),
+            _ => resize(random, variables, out),
         }
     }
 }
 
 /// A byte that is often a kind, a limit or one beyond it.
-fn byte(random: &mut Random) -> u8 {
+fn byte(random: &mut Random, variables: u8) -> u8 {
     match random.below(4) {
         0 => random.bits() as u8,
-        1 => random.pick(&[0, 1, 7, 8, 9, 12, 63, 64, 255]),
+        1 => random.pick(&[0, 1, 7, 8, 9, 12, variables - 1, variables, 255]),
         _ => random.below(13) as u8,
     }
 }
 
 /// Changes bytes, the first ones more often than the others.
-fn damage(random: &mut Random, times: u32, out: &mut [u8]) {
+fn damage(random: &mut Random, variables: u8, times: u32, out: &mut [u8]) {
     for _ in 0..times {
         let reach = if random.percent(20) {
             out.len().min(12)
@@ -67,27 +80,27 @@ fn damage(random: &mut Random, times: u32, out: &mut [u8]) {
         out[at] = match random.below(4) {
             0 => out[at].wrapping_add(1),
             1 => out[at].wrapping_sub(1),
-            _ => byte(random),
+            _ => byte(random, variables),
         };
     }
 }
 
-fn extend(random: &mut Random, out: &mut Vec<u8>) {
+fn extend(random: &mut Random, variables: u8, out: &mut Vec<u8>) {
     for _ in 0..random.between(1, 6) {
-        out.push(byte(random));
+        out.push(byte(random, variables));
     }
 }
 
 /// Random bytes after the first `kept` ones.
-fn scatter(random: &mut Random, kept: usize, out: &mut Vec<u8>) {
+fn scatter(random: &mut Random, variables: u8, kept: usize, out: &mut Vec<u8>) {
     out.truncate(kept);
     for _ in 0..random.below(40) {
-        out.push(byte(random));
+        out.push(byte(random, variables));
     }
 }
 
 /// Lengths at and around the longest allowed.
-fn resize(random: &mut Random, out: &mut Vec<u8>) {
+fn resize(random: &mut Random, variables: u8, out: &mut Vec<u8>) {
     let length = MAX_BYTES + random.index(3) - 1;
-    out.resize(length, byte(random));
+    out.resize(length, byte(random, variables));
 }

@@ -1,36 +1,17 @@
 //! Trees of terms of every shape, with an exact number of terms.
 
 use super::operands;
+use super::plan::{capacity, Plan, Style};
 use crate::form::*;
 use crate::random::Random;
 
-/// How a tree spreads its terms.
-#[derive(Clone, Copy, PartialEq)]
-pub(super) enum Style {
-    /// Few terms side by side, so that the tree gets deep.
-    Narrow,
-    /// As many terms side by side as fit.
-    Wide,
-    /// Pairs of a term and one inner term, boxes before others.
-    Boxes,
-    Mixed,
-}
-
-/// What a tree may use up. The limits of the form are 16 levels, 512 terms
-/// and 64 boxes; trees just beyond them are asked for with larger numbers.
-#[derive(Clone, Copy)]
-pub(super) struct Plan {
-    pub(super) style: Style,
-    pub(super) levels: u32,
-    pub(super) terms: usize,
-    pub(super) boxes: u32,
-}
-
-/// Fills `terms` with a tree whose outermost term is a block.
-pub(super) fn tree(random: &mut Random, plan: Plan, terms: &mut Vec<Row>) {
+/// Fills `terms` with a tree whose outermost term is a block, with operands of
+/// so many variables.
+pub(super) fn tree(random: &mut Random, variables: u32, plan: Plan, terms: &mut Vec<Row>) {
     terms.clear();
     let mut builder = Builder {
         random,
+        variables,
         terms,
         style: plan.style,
         boxes: plan.boxes,
@@ -38,65 +19,9 @@ pub(super) fn tree(random: &mut Random, plan: Plan, terms: &mut Vec<Row>) {
     builder.block(plan.levels, plan.terms);
 }
 
-/// A plan within all limits.
-pub(super) fn plan_within(random: &mut Random) -> Plan {
-    let style = random.pick(&[
-        Style::Narrow,
-        Style::Mixed,
-        Style::Mixed,
-        Style::Wide,
-        Style::Boxes,
-    ]);
-    let terms = match random.below(20) {
-        0 => MAX_TERMS,
-        1 | 2 => random.between(100, MAX_TERMS as u32) as usize,
-        3..=7 => random.between(16, 100) as usize,
-        _ => random.between(2, 20) as usize,
-    };
-    Plan {
-        style,
-        levels: MAX_LEVELS as u32,
-        terms,
-        boxes: MAX_BOXES as u32,
-    }
-}
-
-/// A plan that most often leads beyond exactly one limit.
-pub(super) fn plan_beyond(random: &mut Random) -> Plan {
-    let within = plan_within(random);
-    match random.below(4) {
-        0 => Plan {
-            terms: MAX_TERMS + 1,
-            ..within
-        },
-        1 => Plan {
-            style: Style::Boxes,
-            terms: random.between(140, 300) as usize,
-            boxes: MAX_BOXES as u32 + 1,
-            ..within
-        },
-        _ => Plan {
-            style: Style::Narrow,
-            levels: MAX_LEVELS as u32 + 1,
-            terms: random.between(20, 60) as usize,
-            ..within
-        },
-    }
-}
-
-/// The most terms that one term and everything inside it can have on so many
-/// levels, as far as it matters for trees of about 512 terms.
-fn capacity(levels: u32) -> usize {
-    match levels {
-        0 => 0,
-        1 => 1,
-        2 => MAX_COUNT as usize + 1,
-        _ => usize::MAX,
-    }
-}
-
 struct Builder<'a> {
     random: &'a mut Random,
+    variables: u32,
     terms: &'a mut Vec<Row>,
     style: Style,
     boxes: u32,
@@ -107,13 +32,14 @@ impl Builder<'_> {
     /// levels.
     fn term(&mut self, levels: u32, budget: usize) {
         if budget == 1 {
-            self.terms.push(operands::leaf(self.random));
+            self.terms.push(operands::leaf(self.random, self.variables));
             return;
         }
         let wrappers = match self.style {
             Style::Narrow => 60,
+            Style::Deep => 80,
             Style::Wide => 10,
-            Style::Boxes => 95,
+            Style::Boxes(_) => 97,
             Style::Mixed => 35,
         };
         if budget - 1 <= capacity(levels - 1) && self.random.percent(wrappers) {
@@ -126,15 +52,22 @@ impl Builder<'_> {
 
     /// A box, let or assign, without its inner term.
     fn wrapper(&mut self) {
-        let box_chance = if self.style == Style::Boxes { 95 } else { 30 };
+        let boxes = matches!(self.style, Style::Boxes(_));
+        let box_chance = if boxes { 97 } else { 30 };
         let row = if self.boxes > 0 && self.random.percent(box_chance) {
             self.boxes -= 1;
             [BOX, 0, 0, 0, 0]
         } else if self.random.percent(50) {
-            [LET, operands::variable(self.random), 0, 0, 0]
+            [
+                LET,
+                operands::variable(self.random, self.variables),
+                0,
+                0,
+                0,
+            ]
         } else {
-            let variable = operands::variable(self.random);
-            [ASSIGN, variable, operands::follows(self.random), 0, 0]
+            let [root, follows] = operands::place(self.random, self.variables);
+            [ASSIGN, root, follows, 0, 0]
         };
         self.terms.push(row);
     }
@@ -157,8 +90,9 @@ impl Builder<'_> {
     fn count(&mut self, fewest: usize, most: usize, inner: usize) -> usize {
         let chosen = match self.style {
             Style::Narrow => fewest + self.random.index(2),
+            Style::Deep => fewest,
             Style::Wide => most,
-            Style::Boxes => inner / 2,
+            Style::Boxes(run) => inner / run,
             Style::Mixed => match self.random.below(3) {
                 0 => fewest + self.random.index(4),
                 _ => fewest + self.random.index(most - fewest + 1),
@@ -170,7 +104,7 @@ impl Builder<'_> {
     /// How much of a block's budget one of its terms gets.
     fn share(&mut self, least: usize, most: usize) -> usize {
         match self.style {
-            Style::Boxes => most.min(least.max(2)),
+            Style::Boxes(run) => most.min(least.max(run)),
             _ if self.random.percent(50) => least,
             _ => least + self.random.index(most - least + 1),
         }

@@ -5,10 +5,9 @@
 mod store;
 
 use crate::form::*;
+use crate::limits::Limits;
 use crate::refusal::*;
 use store::{Store, Value};
-
-pub use store::STORE_LEN;
 
 /// How many readings are lent.
 pub const READINGS: usize = 8;
@@ -21,26 +20,47 @@ pub struct Ran {
     pub cells: u32,
 }
 
-/// Judges by 2, 3, 4, then 12 to 19 with the store unchanged, then runs. A
+/// Judges by 74, 2, 3, 4, then 12 to 19 with the store unchanged, then runs. A
 /// fault leaves the store as it was at that moment.
-pub fn run(rows: &[u32], readings: &[i32], store: &mut [u32]) -> Result<Ran, Refusal> {
-    if rows.len() != ROWS_LEN {
-        return Err(Refusal::by_caller(ROWS_LENGTH));
-    }
-    if store.len() != STORE_LEN {
+pub fn run(
+    limits: Limits,
+    rows: &[u32],
+    readings: &[i32],
+    store: &mut [u32],
+) -> Result<Ran, Refusal> {
+    let rows = lent_rows(limits, rows)?;
+    if store.len() != limits.store_numbers() {
         return Err(Refusal::by_caller(STORE_LENGTH));
     }
     if readings.len() != READINGS {
         return Err(Refusal::by_caller(READINGS_LENGTH));
     }
-    let rows = as_rows(rows);
-    let judged = judge_all(rows)?;
+    let judged = judge_all(limits, rows)?;
+    let rows = &rows[..judged.terms];
+    let store = Store::cleared(limits.variables, store);
+    // A small set has a small list of open variables.
+    if limits.variables <= Limits::BASE.variables {
+        let opened = &mut [0; Limits::BASE.variables as usize];
+        run_judged(rows, readings, store, opened)
+    } else {
+        let opened = &mut [0; Limits::LARGEST.variables as usize];
+        run_judged(rows, readings, store, opened)
+    }
+}
+
+/// Runs rows of a right form.
+fn run_judged(
+    rows: &[Row],
+    readings: &[i32],
+    store: Store,
+    opened: &mut [u8],
+) -> Result<Ran, Refusal> {
     let mut machine = Machine {
-        rows: &rows[..judged.terms],
+        rows,
         readings,
         next: 0,
-        store: Store::cleared(store),
-        opened: [0; 64],
+        store,
+        opened,
         count: 0,
     };
     let value = machine.term()?;
@@ -60,8 +80,8 @@ struct Machine<'a> {
     next: usize,
     store: Store<'a>,
     /// The open variables in the order of their opening. No row is opened
-    /// twice without being closed between, so 64 are enough.
-    opened: [u8; 64],
+    /// twice without being closed between, so one place for each is enough.
+    opened: &'a mut [u8],
     count: usize,
 }
 

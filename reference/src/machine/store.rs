@@ -3,12 +3,6 @@
 
 use crate::refusal::*;
 
-/// The length of the lent store.
-pub const STORE_LEN: usize = 384;
-
-/// Rows 0 to 63 are variables, the cells begin after them.
-const FIRST_CELL: usize = 64;
-
 const OPEN: u32 = 1;
 const GIVEN_BACK: u32 = 2;
 
@@ -56,16 +50,19 @@ impl Value {
 
 pub(super) struct Store<'a> {
     rows: &'a mut [[u32; 3]],
+    /// The row of cell 0, the first after those of the variables.
+    first_cell: usize,
     /// Cells taken so far; the next cell has this number.
     pub(super) cells: u32,
 }
 
 impl<'a> Store<'a> {
     /// Sets all of the lent store to 0. Its length has been judged.
-    pub(super) fn cleared(lent: &'a mut [u32]) -> Self {
+    pub(super) fn cleared(variables: u32, lent: &'a mut [u32]) -> Self {
         lent.fill(0);
         Store {
             rows: lent.as_chunks_mut().0,
+            first_cell: variables as usize,
             cells: 0,
         }
     }
@@ -96,7 +93,7 @@ impl<'a> Store<'a> {
         for _ in 0..follows {
             let value = self.value(row);
             row = match value.kind {
-                OWNER => FIRST_CELL + value.payload as usize,
+                OWNER => self.first_cell + value.payload as usize,
                 REFERENCE => value.payload as usize,
                 EMPTY => return Err(NOT_OPEN),
                 _ => return Err(WRONG_KIND),
@@ -147,13 +144,14 @@ impl<'a> Store<'a> {
         Ok(())
     }
 
-    /// Opens the next cell and gives its owner. Rows in order have at most 64
-    /// boxes, and each runs at most once, so there is a next cell.
+    /// Opens the next cell and gives its owner. Rows in order have at most as
+    /// many boxes as the store has cells, and each runs at most once, so there
+    /// is a next cell.
     #[inline]
     pub(super) fn open_cell(&mut self, value: Value) -> Value {
         let cell = self.cells;
         self.cells += 1;
-        self.fill(FIRST_CELL + cell as usize, value);
+        self.fill(self.first_cell + cell as usize, value);
         Value {
             kind: OWNER,
             payload: cell,
@@ -175,7 +173,7 @@ impl<'a> Store<'a> {
     pub(super) fn drop_value(&mut self, value: Value) -> Result<(), u32> {
         let mut value = value;
         while value.kind == OWNER {
-            let cell = FIRST_CELL + value.payload as usize;
+            let cell = self.first_cell + value.payload as usize;
             if self.rows[cell][0] == GIVEN_BACK {
                 return Err(GIVEN_BACK_TWICE);
             }

@@ -34,49 +34,54 @@ impl Value {
 /// than every link number.
 const NOTHING: u8 = u8::MAX;
 
-/// Variables and places number at most this many.
-const VARIABLES: usize = 64;
+/// `Variable::level` of a number that no let has taken.
+const FREE: u8 = 0;
+
+/// `Variable::level` of a number that is taken, not yet or no longer in scope.
+/// Larger than every level.
+const TAKEN: u8 = u8::MAX;
 
 #[derive(Clone, Copy)]
 struct Variable {
     value: Value,
     /// From which link on it is moved away.
     moved: u8,
-    /// The level of the block it lives in. Of two variables in scope, one
-    /// lives in the block of the other or in one around it exactly if its
-    /// level is not the higher one.
+    /// The level of the block it lives in, while it is in scope. Of two
+    /// variables in scope, one lives in the block of the other or in one
+    /// around it exactly if its level is not the higher one.
     level: u8,
+    /// How many variables hold a borrow of a place with this root, and how
+    /// many of these borrows are exclusive.
+    borrows: u8,
+    exclusive_borrows: u8,
 }
 
-/// The generators keep one of their own and go back to earlier copies of it.
+impl Variable {
+    /// Of a number that no let was judged of yet.
+    const UNUSED: Variable = Variable {
+        value: Value::NUMBER,
+        moved: 0,
+        level: FREE,
+        borrows: 0,
+        exclusive_borrows: 0,
+    };
+}
+
+/// Of so many variables, or fewer. The generators keep one of their own and go
+/// back to earlier copies of it.
 #[derive(Clone)]
-pub(crate) struct Environment {
+pub(crate) struct Environment<const VARIABLES: usize> {
     variables: [Variable; VARIABLES],
-    in_scope: u64,
-    taken: u64,
-    /// For each root, how many variables hold a borrow of a place with it,
-    /// and how many of these borrows are exclusive.
-    borrows: [u8; VARIABLES],
-    exclusive_borrows: [u8; VARIABLES],
     /// The variables in scope, in the order of their lets.
     order: [u8; VARIABLES],
     count: usize,
     level: u8,
 }
 
-impl Environment {
+impl<const VARIABLES: usize> Environment<VARIABLES> {
     pub(crate) fn new() -> Self {
-        let variable = Variable {
-            value: Value::NUMBER,
-            moved: NOTHING,
-            level: 0,
-        };
         Environment {
-            variables: [variable; VARIABLES],
-            in_scope: 0,
-            taken: 0,
-            borrows: [0; VARIABLES],
-            exclusive_borrows: [0; VARIABLES],
+            variables: [Variable::UNUSED; VARIABLES],
             order: [0; VARIABLES],
             count: 0,
             level: 0,
@@ -90,7 +95,7 @@ impl Environment {
 
     #[inline]
     pub(crate) fn in_scope(&self, variable: u8) -> bool {
-        self.in_scope >> variable & 1 != 0
+        (FREE + 1..TAKEN).contains(&self.variable(variable).level)
     }
 
     /// The variables in scope, in the order of their lets.
@@ -99,15 +104,16 @@ impl Environment {
     }
 
     pub(crate) fn is_taken(&self, variable: u8) -> bool {
-        self.taken >> variable & 1 != 0
+        self.variable(variable).level != FREE
     }
 
     /// Takes a variable number for good; false if it was taken before.
     #[inline]
     pub(crate) fn take(&mut self, variable: u8) -> bool {
-        let bit = 1 << variable;
-        let free = self.taken & bit == 0;
-        self.taken |= bit;
+        let free = !self.is_taken(variable);
+        if free {
+            self.variables[variable as usize].level = TAKEN;
+        }
         free
     }
 
@@ -126,12 +132,12 @@ impl Environment {
 
     #[inline]
     pub(crate) fn reading_barred(&self, root: u8) -> bool {
-        self.exclusive_borrows[root as usize] > 0
+        self.variable(root).exclusive_borrows > 0
     }
 
     #[inline]
     pub(crate) fn writing_barred(&self, root: u8) -> bool {
-        self.borrows[root as usize] > 0
+        self.variable(root).borrows > 0
     }
 
     /// Where a place with a long enough chain finally is: the variable that
@@ -197,13 +203,12 @@ impl Environment {
     #[inline]
     fn count_borrow(&mut self, variable: u8, by: i8) {
         let Variable { value, moved, .. } = *self.variable(variable);
-        let root = value.borrowed.root as usize;
         // A move passes no borrow link, so it always takes the first one along.
         if value.chain.has_borrow() && moved == NOTHING {
-            self.borrows[root] = self.borrows[root].wrapping_add_signed(by);
+            let root = &mut self.variables[value.borrowed.root as usize];
+            root.borrows = root.borrows.wrapping_add_signed(by);
             if value.chain.borrows_exclusively() {
-                let exclusive = &mut self.exclusive_borrows[root];
-                *exclusive = exclusive.wrapping_add_signed(by);
+                root.exclusive_borrows = root.exclusive_borrows.wrapping_add_signed(by);
             }
         }
     }
@@ -213,8 +218,8 @@ impl Environment {
             value,
             moved: NOTHING,
             level: self.level,
+            ..Variable::UNUSED
         };
-        self.in_scope |= 1 << variable;
         self.order[self.count] = variable;
         self.count += 1;
         self.count_borrow(variable, 1);
@@ -248,7 +253,7 @@ impl Environment {
             self.count -= 1;
             let variable = self.order[self.count];
             self.count_borrow(variable, -1);
-            self.in_scope &= !(1 << variable);
+            self.variables[variable as usize].level = TAKEN;
         }
         self.level -= 1;
     }

@@ -6,34 +6,43 @@ pub(crate) mod environment;
 mod places;
 
 use crate::form::*;
+use crate::limits::Limits;
 use crate::refusal::*;
 use chain::Link;
 use environment::{Environment, Place, Value};
 
-/// Judges term rows by 2, then 12 to 19, then the ownership rules, and
+/// Judges term rows by 74, 2, then 12 to 19, then the ownership rules, and
 /// answers the number of terms of an accepted script.
-pub fn check(rows: &[u32]) -> Result<u32, Refusal> {
-    if rows.len() != ROWS_LEN {
-        return Err(Refusal::by_caller(ROWS_LENGTH));
+pub fn check(limits: Limits, rows: &[u32]) -> Result<u32, Refusal> {
+    let rows = lent_rows(limits, rows)?;
+    let judged = judge_all(limits, rows)?;
+    let rows = &rows[..judged.terms];
+    // A small set has a small environment, which is set up with each call.
+    if limits.variables <= Limits::BASE.variables {
+        check_judged::<{ Limits::BASE.variables as usize }>(rows)
+    } else {
+        check_judged::<{ Limits::LARGEST.variables as usize }>(rows)
     }
-    let rows = as_rows(rows);
-    let judged = judge_all(rows)?;
-    let mut judge = Judge {
-        rows: &rows[..judged.terms],
+}
+
+/// Checks rows of a right form with at most so many variables.
+fn check_judged<const VARIABLES: usize>(rows: &[Row]) -> Result<u32, Refusal> {
+    let mut judge = Judge::<VARIABLES> {
+        rows,
         next: 0,
         environment: Environment::new(),
     };
     match judge.term()? {
-        Some(answer) if answer.chain.is_number() => Ok(judged.terms as u32),
+        Some(answer) if answer.chain.is_number() => Ok(rows.len() as u32),
         _ => Err(Refusal::new(ANSWER_NO_NUMBER, 0)),
     }
 }
 
-struct Judge<'a> {
+struct Judge<'a, const VARIABLES: usize> {
     rows: &'a [Row],
     /// The term that is judged next.
     next: usize,
-    environment: Environment,
+    environment: Environment<VARIABLES>,
 }
 
 /// The place in a row's operands from `field` on.
@@ -45,7 +54,7 @@ fn place(row: &Row, field: usize) -> Place {
     }
 }
 
-impl Judge<'_> {
+impl<const VARIABLES: usize> Judge<'_, VARIABLES> {
     /// Judges the next term with everything inside it. Let, assign and blocks
     /// that end with them have no value.
     fn term(&mut self) -> Result<Option<Value>, Refusal> {

@@ -6,7 +6,7 @@ use super::chain::Link;
 use super::environment::{Environment, Place, Value};
 use crate::refusal::*;
 
-impl Environment {
+impl<const VARIABLES: usize> Environment<VARIABLES> {
     /// Root in scope and long enough chain.
     #[inline]
     fn reachable(&self, place: Place) -> Result<(), u32> {

@@ -3,9 +3,13 @@
 
 #![allow(dead_code)]
 
-use reference::form::{HEADER, ROWS_LEN};
-use reference::machine::STORE_LEN;
-use reference::{check, read, run, Ran, Refusal};
+use reference::form::HEADER;
+use reference::{check, read, run, Limits, Ran, Refusal};
+
+/// The set of the program.
+pub const LIMITS: Limits = Limits::BASE;
+pub const ROWS_LEN: usize = LIMITS.row_numbers();
+pub const STORE_LEN: usize = LIMITS.store_numbers();
 
 pub type Term = Vec<u8>;
 
@@ -70,7 +74,7 @@ pub fn script(terms: &[Term]) -> Vec<u8> {
 
 pub fn rows_of(script: &[u8]) -> Vec<u32> {
     let mut rows = vec![7; ROWS_LEN];
-    read(script, &mut rows).expect("a script that can be read");
+    read(LIMITS, script, &mut rows).expect("a script that can be read");
     rows
 }
 
@@ -79,7 +83,7 @@ pub fn refused<T>(number: u32, place: u32) -> Result<T, Refusal> {
 }
 
 pub fn check_terms(terms: &[Term]) -> Result<u32, Refusal> {
-    check(&rows_of(&script(terms)))
+    check(LIMITS, &rows_of(&script(terms)))
 }
 
 /// Whether the check accepts, without the number of terms.
@@ -92,7 +96,7 @@ pub const READINGS: [i32; 8] = [185, 200, 0, -1, i32::MIN, i32::MAX, 7, 1];
 /// Runs unchecked over a store that held something before.
 pub fn run_terms(terms: &[Term]) -> (Result<Ran, Refusal>, Vec<u32>) {
     let mut store = vec![9; STORE_LEN];
-    let answer = run(&rows_of(&script(terms)), &READINGS, &mut store);
+    let answer = run(LIMITS, &rows_of(&script(terms)), &READINGS, &mut store);
     (answer, store)
 }
 
@@ -121,4 +125,16 @@ pub fn tidy(cells: u32) -> Vec<u32> {
         store[3 * (64 + cell)] = 2;
     }
     store
+}
+
+/// The levels of the term at `at`, which is moved past it.
+pub fn levels(rows: &[&[u32]], at: &mut usize) -> usize {
+    let row = rows[*at];
+    *at += 1;
+    let inner = match row[0] {
+        11 => row[1],
+        7..=9 => 1,
+        _ => 0,
+    };
+    1 + (0..inner).map(|_| levels(rows, at)).max().unwrap_or(0)
 }
