@@ -1,6 +1,7 @@
 /*
- * How much stack a function takes: its name as the argument, a script on
- * standard input, the bytes on standard output.
+ * How much stack a function takes: its name and the four numbers of a set of
+ * limits as the arguments, a script on standard input, the bytes on standard
+ * output.
  *
  * The function is called in a thread whose stack was painted before, and the
  * lowest byte that is painted over afterwards is looked for. The thread calls
@@ -18,23 +19,25 @@
 
 #define PAINTED ((size_t)16 << 20)
 #define PAINT 0xA5
-#define ROWS rows, ROOMSCRIPT_ROWS_LEN
-#define STORE store, ROOMSCRIPT_STORE_LEN
+#define ROWS rows, ROOMSCRIPT_ROW_NUMBERS(limits.terms)
+#define STORE store, ROOMSCRIPT_STORE_NUMBERS(limits.variables, limits.boxes)
 #define READINGS readings, ROOMSCRIPT_READINGS_LEN
 
+/* Long enough for the largest set. */
+static uint32_t rows[ROOMSCRIPT_ROW_NUMBERS(4096)];
+static uint32_t store[ROOMSCRIPT_STORE_NUMBERS(128, 128)];
 static const int32_t readings[ROOMSCRIPT_READINGS_LEN];
-static uint32_t rows[ROOMSCRIPT_ROWS_LEN];
-static uint32_t store[ROOMSCRIPT_STORE_LEN];
+static roomscript_limits limits;
 static uint8_t output[ROOMSCRIPT_MAX_BYTES];
 static uint8_t script[ROOMSCRIPT_MAX_BYTES];
 static size_t length;
 
-static void do_read(void) { roomscript_read(script, length, ROWS); }
-static void do_judge_rows(void) { roomscript_judge_rows(ROWS); }
-static void do_write(void) { roomscript_write(ROWS, output, sizeof output); }
-static void do_check(void) { roomscript_check(ROWS); }
-static void do_run(void) { roomscript_run(ROWS, READINGS, STORE); }
-static void do_call(void) { roomscript_call(script, length, READINGS, ROWS, STORE); }
+static void do_read(void) { roomscript_read(limits, script, length, ROWS); }
+static void do_judge_rows(void) { roomscript_judge_rows(limits, ROWS); }
+static void do_write(void) { roomscript_write(limits, ROWS, output, sizeof output); }
+static void do_check(void) { roomscript_check(limits, ROWS); }
+static void do_run(void) { roomscript_run(limits, ROWS, READINGS, STORE); }
+static void do_call(void) { roomscript_call(limits, script, length, READINGS, ROWS, STORE); }
 
 static const struct {
     const char *name;
@@ -58,19 +61,34 @@ static void *measured(void *unused) {
     return unused;
 }
 
-int main(int count, char **words) {
-    pthread_attr_t attributes;
-    pthread_t thread;
-    void *memory;
+/* Finds the function and the set, which must be within the buffers. */
+static int asked(int count, char **words) {
     size_t at;
-    for (at = 0; count == 2 && at < sizeof operations / sizeof operations[0]; at++) {
+    if (count != 6) {
+        return 0;
+    }
+    for (at = 0; at < sizeof operations / sizeof operations[0]; at++) {
         if (strcmp(words[1], operations[at].name) == 0) {
             chosen = operations[at].act;
         }
     }
+    limits.terms = (uint32_t)strtoul(words[2], NULL, 10);
+    limits.variables = (uint32_t)strtoul(words[3], NULL, 10);
+    limits.boxes = (uint32_t)strtoul(words[4], NULL, 10);
+    limits.levels = (uint32_t)strtoul(words[5], NULL, 10);
+    return chosen != NULL && limits.terms <= 4096 && limits.variables <= 128 && limits.boxes <= 128;
+}
+
+int main(int count, char **words) {
+    pthread_attr_t attributes;
+    pthread_t thread;
+    void *memory;
+    if (!asked(count, words)) {
+        return 1;
+    }
     length = fread(script, 1, sizeof script, stdin);
     /* Those who take rows find them here. */
-    if (chosen == NULL || roomscript_read(script, length, ROWS).refused != 0 ||
+    if (roomscript_read(limits, script, length, ROWS).refused != 0 ||
         posix_memalign(&memory, 4096, PAINTED) != 0) {
         return 1;
     }

@@ -6,6 +6,7 @@
 
 #![forbid(unsafe_code)]
 
+mod large;
 mod measure;
 mod operations;
 mod report;
@@ -31,6 +32,7 @@ fn main() -> ExitCode {
     println!("{}", report::conditions());
     println!("{}", report::sizes().shown(form));
     println!("{}", report::growth().shown(form));
+    println!("{}", report::growth_of_largest().shown(form));
     match stack::table() {
         Ok(table) => println!("{}", table.shown(form)),
         Err(error) => println!("Stack use is not measured: {error}"),

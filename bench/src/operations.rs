@@ -1,16 +1,20 @@
 //! The operations that are timed, for both programs. A later layer adds its
 //! operation to the table and its buffers to the stage.
 
-use reference::form::{FIELDS, ROWS_LEN};
-use reference::machine::{READINGS, STORE_LEN};
+use reference::form::FIELDS;
+use reference::machine::READINGS;
 use reference::{Ran, Refusal};
+use roomscript::Limits;
 use std::hint::black_box;
 
 /// What each operation finds beforehand in the buffers that it writes.
 const JUNK: u8 = 0xA5;
 
-/// The buffers of one script. Both programs use the same ones.
+/// One script, the set of limits that is handed in, in both programs' types,
+/// and the buffers. Both programs use the same ones.
 pub struct Stage {
+    limits: Limits,
+    set: reference::Limits,
     pub script: Vec<u8>,
     /// The script's own rows, for those who take rows.
     pub given: Vec<u32>,
@@ -23,13 +27,21 @@ pub struct Stage {
 impl Stage {
     /// The stage of a script that both programs must treat alike before
     /// anything is timed.
-    pub fn new(script: Vec<u8>) -> Self {
-        let mut given = vec![0; ROWS_LEN];
-        let terms = reference::read(&script, &mut given).expect("a script of this program");
+    pub fn new(limits: Limits, script: Vec<u8>) -> Self {
+        let set = reference::Limits {
+            terms: limits.terms,
+            variables: limits.variables,
+            boxes: limits.boxes,
+            levels: limits.levels,
+        };
+        let mut given = vec![0; limits.row_numbers()];
+        let terms = reference::read(set, &script, &mut given).expect("a script of this program");
         let mut stage = Stage {
+            limits,
+            set,
             output: vec![JUNK; script.len()],
-            rows: vec![0; ROWS_LEN],
-            store: vec![0; STORE_LEN],
+            rows: vec![0; limits.row_numbers()],
+            store: vec![0; limits.store_numbers()],
             readings: [185, 200, 0, -1, 21, i32::MAX, i32::MIN, 7],
             script,
             given,
@@ -41,25 +53,28 @@ impl Stage {
 
     fn compare_form(&mut self, terms: u32) {
         self.fill_with_junk();
-        assert_eq!(roomscript::read(&self.script, &mut self.rows), Ok(terms));
+        let read = roomscript::read(self.limits, &self.script, &mut self.rows);
+        assert_eq!(read, Ok(terms));
         assert_eq!(self.rows, self.given);
-        assert_eq!(roomscript::judge_rows(&self.given), Ok(terms));
-        let written = roomscript::write(&self.given, &mut self.output);
+        assert_eq!(roomscript::judge_rows(self.limits, &self.given), Ok(terms));
+        let written = roomscript::write(self.limits, &self.given, &mut self.output);
         assert_eq!(written, Ok(self.script.len() as u32));
         assert_eq!(self.output, self.script);
     }
 
     fn compare_layers(&mut self, terms: u32) {
-        let mut store = vec![0; STORE_LEN];
-        let due = reference::run(&self.given, &self.readings, &mut store).expect("no fault");
-        assert_eq!(reference::check(&self.given), Ok(terms));
-        assert_eq!(roomscript::check(&self.given), Ok(terms));
-        self.fill_with_junk();
-        let ran = roomscript::run(&self.given, &self.readings, &mut self.store).expect("no fault");
+        let (limits, given, readings) = (self.limits, &self.given, &self.readings);
+        let mut store = vec![0; limits.store_numbers()];
+        let due = reference::run(self.set, given, readings, &mut store).expect("no fault");
+        assert_eq!(reference::check(self.set, given), Ok(terms));
+        assert_eq!(roomscript::check(limits, given), Ok(terms));
+        self.store.fill(u32::from_ne_bytes([JUNK; 4]));
+        let ran = roomscript::run(limits, given, readings, &mut self.store).expect("no fault");
         assert_eq!((ran.answer, ran.cells), (due.answer, due.cells));
         assert_eq!(self.store, store);
         self.fill_with_junk();
         let called = roomscript::call(
+            limits,
             &self.script,
             &self.readings,
             &mut self.rows,
@@ -90,14 +105,15 @@ impl Stage {
 
 /// A whole call by the layers of the reference program.
 fn call_by_layers(
+    set: reference::Limits,
     script: &[u8],
     readings: &[i32],
     rows: &mut [u32],
     store: &mut [u32],
 ) -> Result<(u32, Ran), Refusal> {
-    reference::read(script, rows)?;
-    let terms = reference::check(rows)?;
-    let ran = reference::run(rows, readings, store)?;
+    reference::read(set, script, rows)?;
+    let terms = reference::check(set, rows)?;
+    let ran = reference::run(set, rows, readings, store)?;
     Ok((terms, ran))
 }
 
@@ -110,13 +126,14 @@ pub struct Operation {
     pub reference: Batch,
 }
 
-/// A batch that calls a function on parts of the stage, none of which the
-/// compiler may know.
+/// A batch that calls a function on the set and on parts of the stage, none of
+/// which the compiler may know.
 macro_rules! batch {
-    ($function:path: $(&$lent:ident),* $(; $(&mut $written:ident),*)?) => {
+    ($function:path, $set:ident: $(&$lent:ident),* $(; $(&mut $written:ident),*)?) => {
         |stage, calls| {
             for _ in 0..calls {
                 let _ = black_box($function(
+                    black_box(stage.$set),
                     $(black_box(&stage.$lent[..]),)*
                     $($(black_box(&mut stage.$written[..]),)*)?
                 ));
@@ -128,32 +145,32 @@ macro_rules! batch {
 pub const OPERATIONS: [Operation; 6] = [
     Operation {
         name: "read",
-        ours: batch!(roomscript::read: &script; &mut rows),
-        reference: batch!(reference::read: &script; &mut rows),
+        ours: batch!(roomscript::read, limits: &script; &mut rows),
+        reference: batch!(reference::read, set: &script; &mut rows),
     },
     Operation {
         name: "judge_rows",
-        ours: batch!(roomscript::judge_rows: &given),
-        reference: batch!(reference::judge_rows: &given),
+        ours: batch!(roomscript::judge_rows, limits: &given),
+        reference: batch!(reference::judge_rows, set: &given),
     },
     Operation {
         name: "write",
-        ours: batch!(roomscript::write: &given; &mut output),
-        reference: batch!(reference::write: &given; &mut output),
+        ours: batch!(roomscript::write, limits: &given; &mut output),
+        reference: batch!(reference::write, set: &given; &mut output),
     },
     Operation {
         name: "check",
-        ours: batch!(roomscript::check: &given),
-        reference: batch!(reference::check: &given),
+        ours: batch!(roomscript::check, limits: &given),
+        reference: batch!(reference::check, set: &given),
     },
     Operation {
         name: "run",
-        ours: batch!(roomscript::run: &given, &readings; &mut store),
-        reference: batch!(reference::run: &given, &readings; &mut store),
+        ours: batch!(roomscript::run, limits: &given, &readings; &mut store),
+        reference: batch!(reference::run, set: &given, &readings; &mut store),
     },
     Operation {
         name: "call",
-        ours: batch!(roomscript::call: &script, &readings; &mut rows, &mut store),
-        reference: batch!(call_by_layers: &script, &readings; &mut rows, &mut store),
+        ours: batch!(roomscript::call, limits: &script, &readings; &mut rows, &mut store),
+        reference: batch!(call_by_layers, set: &script, &readings; &mut rows, &mut store),
     },
 ];

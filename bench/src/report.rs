@@ -1,9 +1,11 @@
 //! What is measured, and the tables that come of it.
 
+use crate::large;
 use crate::measure::{measure, Measured, BATCH, PAIRS};
 use crate::operations::{Stage, OPERATIONS};
 use crate::scripts::{full, mixed, E1};
 use crate::table::Table;
+use roomscript::Limits;
 
 /// How the figures below were taken.
 pub fn conditions() -> String {
@@ -20,17 +22,19 @@ pub fn conditions() -> String {
     )
 }
 
-/// Three scripts from small to full.
+/// Three scripts from small to full under the language's own set, and a
+/// mixture of all terms under the largest.
 pub fn sizes() -> Table {
     let scripts = [
-        ("small", E1.to_vec()),
-        ("middling", mixed(60)),
-        ("full", full()),
+        ("small", Limits::BASE, E1.to_vec()),
+        ("middling", Limits::BASE, mixed(60)),
+        ("full", Limits::BASE, full()),
+        ("largest", Limits::LARGEST, large::mixed(4096)),
     ];
     let mut lines = Vec::new();
     for operation in &OPERATIONS {
-        for (name, script) in &scripts {
-            let mut stage = Stage::new(script.clone());
+        for (name, limits, script) in &scripts {
+            let mut stage = Stage::new(*limits, script.clone());
             let measured = measure(operation, &mut stage);
             let mut line = vec![
                 operation.name.to_string(),
@@ -60,12 +64,28 @@ pub fn sizes() -> Table {
     }
 }
 
-/// The same mixture of terms at sizes that double.
+/// The same mixture of terms at sizes that double, under the language's own
+/// set.
 pub fn growth() -> Table {
+    let title = "Growth: nanoseconds per term";
+    growth_of(title, Limits::BASE, mixed)
+}
+
+/// Another mixture, under the largest set.
+pub fn growth_of_largest() -> Table {
+    let title = "Growth under the largest set: nanoseconds per term";
+    growth_of(title, Limits::LARGEST, large::mixed)
+}
+
+fn growth_of(title: &'static str, limits: Limits, mixed: fn(usize) -> Vec<u8>) -> Table {
+    let most = limits.terms as usize;
     let mut lines = Vec::new();
     for operation in &OPERATIONS {
-        for terms in [16, 32, 64, 128, 256, 512] {
-            let mut stage = Stage::new(mixed(terms));
+        for terms in (4..)
+            .map(|power| 1 << power)
+            .take_while(|size| *size <= most)
+        {
+            let mut stage = Stage::new(limits, mixed(terms));
             let measured = measure(operation, &mut stage);
             let each = |time: f64| format!("{:.1}", time / terms as f64);
             let mut line = vec![
@@ -80,7 +100,7 @@ pub fn growth() -> Table {
         }
     }
     Table {
-        title: "Growth: nanoseconds per term",
+        title,
         head: vec![
             "operation",
             "terms",

@@ -1,5 +1,9 @@
-//! The scripts that are timed. Each is accepted by the ownership check, but
-//! for one that is only run, to see how much stack that takes.
+//! The scripts that are timed under the language's own set of limits. Each is
+//! accepted by the ownership check, but for one that is only run, to see how
+//! much stack that takes.
+
+#[cfg(test)]
+pub mod outline;
 
 use reference::form::HEADER;
 
@@ -9,7 +13,7 @@ pub const E1: [u8; 25] = [
     0x02, 0x05, 0x00, 0x00, 0x0A, 0x02, 0x01, 0x01, 0x00,
 ];
 
-const READING: &[u8] = &[0x02, 1];
+pub const READING: &[u8] = &[0x02, 1];
 
 /// The variables are 0 to 63.
 const VARIABLES: u8 = 64;
@@ -40,7 +44,7 @@ fn statements(first: u8) -> [Statement; 9] {
 }
 
 /// A block of the statements given, as a script.
-fn script(statements: &[Vec<u8>]) -> Vec<u8> {
+pub fn script(statements: &[Vec<u8>]) -> Vec<u8> {
     let count = statements.len() as u8;
     [&HEADER, &[0x0B, count][..], &statements.concat()].concat()
 }
@@ -105,66 +109,48 @@ pub fn full() -> Vec<u8> {
 /// A script that the check refuses, for the stack of its run: all 64 cells in
 /// one chain, which a block on level 13 drops.
 pub fn chain() -> Vec<u8> {
+    chain_of(64, 13)
+}
+
+/// So many cells in one chain, which a block on so deep a level drops. It has
+/// three levels in it.
+pub fn chain_of(cells: u8, level: usize) -> Vec<u8> {
     let mut statements = vec![vec![0x08, 0, 0x07, 0x02, 0]];
-    statements.extend(vec![vec![0x09, 0, 0, 0x07, 0x04, 0, 0]; 63]);
+    statements.extend(vec![vec![0x09, 0, 0, 0x07, 0x04, 0, 0]; cells as usize - 1]);
     statements.push(READING.to_vec());
-    let inner = [&[0x0B, 65], &statements.concat()[..]].concat();
-    script(&[[&[0x0B, 1].repeat(11)[..], &inner].concat()])
+    let inner = [&[0x0B, cells + 1], &statements.concat()[..]].concat();
+    script(&[[&[0x0B, 1].repeat(level - 2)[..], &inner].concat()])
 }
 
 #[cfg(test)]
 mod tests {
+    use super::outline::{outline, rows_of};
     use super::*;
-    use reference::form::{BLOCK, BOX, FIELDS, ROWS_LEN};
-    use reference::{check, read, run};
+    use reference::{check, run, Limits};
 
-    fn rows_of(script: &[u8]) -> (u32, Vec<u32>) {
-        let mut rows = vec![0; ROWS_LEN];
-        let terms = read(script, &mut rows).expect("a script");
-        (terms, rows)
-    }
-
-    /// Terms, boxes and levels of a script.
-    fn outline(script: &[u8]) -> (u32, usize, usize) {
-        let (terms, rows) = rows_of(script);
-        let used: Vec<&[u32]> = rows.chunks(FIELDS).take(terms as usize).collect();
-        let boxes = used.iter().filter(|row| row[0] == BOX).count();
-        (terms, boxes, levels(&used, &mut 0))
-    }
-
-    /// The levels of the term at a row, which is moved past it.
-    fn levels(rows: &[&[u32]], at: &mut usize) -> usize {
-        let row = rows[*at];
-        *at += 1;
-        let inner = match row[0] {
-            BLOCK => row[1],
-            7..=9 => 1,
-            _ => 0,
-        };
-        1 + (0..inner).map(|_| levels(rows, at)).max().unwrap_or(0)
-    }
+    const SET: Limits = Limits::BASE;
 
     #[test]
     fn full_is_at_every_limit_and_accepted() {
-        assert_eq!(outline(&full()), (512, 64, 16));
-        assert_eq!(check(&rows_of(&full()).1), Ok(512));
+        assert_eq!(outline(SET, &full()), (512, 64, 16));
+        assert_eq!(check(SET, &rows_of(SET, &full()).1), Ok(512));
     }
 
     #[test]
     fn mixed_has_the_terms_asked_for_and_is_accepted() {
         for terms in 2..=512 {
             let script = mixed(terms);
-            assert_eq!(outline(&script).0, terms as u32);
-            assert_eq!(check(&rows_of(&script).1), Ok(terms as u32));
+            assert_eq!(outline(SET, &script).0, terms as u32);
+            assert_eq!(check(SET, &rows_of(SET, &script).1), Ok(terms as u32));
         }
     }
 
     #[test]
     fn chain_takes_every_cell() {
-        assert_eq!(outline(&chain()), (206, 64, 16));
-        let rows = rows_of(&chain()).1;
-        assert!(check(&rows).is_err());
-        let ran = run(&rows, &[0; 8], &mut [0; 384]).expect("no fault");
+        assert_eq!(outline(SET, &chain()), (206, 64, 16));
+        let rows = rows_of(SET, &chain()).1;
+        assert!(check(SET, &rows).is_err());
+        let ran = run(SET, &rows, &[0; 8], &mut [0; 384]).expect("no fault");
         assert_eq!(ran.cells, 64);
     }
 }

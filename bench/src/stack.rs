@@ -1,9 +1,11 @@
 //! How much stack the library takes, measured by a C program on a painted
 //! stack.
 
+use crate::large;
 use crate::operations::OPERATIONS;
 use crate::scripts::{chain, full, mixed, E1};
 use crate::table::Table;
+use roomscript::Limits;
 use std::env;
 use std::io::{Error, Result, Write};
 use std::path::{Path, PathBuf};
@@ -29,10 +31,17 @@ fn build() -> Result<PathBuf> {
     }
 }
 
-/// The bytes of stack that an operation takes on a script.
-fn bytes(program: &Path, operation: &str, script: &[u8]) -> Result<String> {
+/// The bytes of stack that an operation takes on a script under a set.
+fn bytes(program: &Path, operation: &str, limits: Limits, script: &[u8]) -> Result<String> {
+    let Limits {
+        terms,
+        variables,
+        boxes,
+        levels,
+    } = limits;
     let mut child = Command::new(program)
         .arg(operation)
+        .args([terms, variables, boxes, levels].map(|number| number.to_string()))
         .stdin(Stdio::piped())
         .stdout(Stdio::piped())
         .spawn()?;
@@ -46,28 +55,32 @@ fn bytes(program: &Path, operation: &str, script: &[u8]) -> Result<String> {
     }
 }
 
-/// Every operation on each script. The last one is not accepted: its run drops
-/// the longest chain of cells that there can be.
+/// Every operation on each script, first under the language's own set and then
+/// under the largest. The last one for each is not accepted: its run drops the
+/// longest chain of cells that there can be.
 pub fn table() -> Result<Table> {
     let program = build()?;
-    let scripts = [E1.to_vec(), mixed(60), full(), chain()];
+    let scripts = [
+        ("small", Limits::BASE, E1.to_vec()),
+        ("middling", Limits::BASE, mixed(60)),
+        ("full", Limits::BASE, full()),
+        ("64 cells in a chain", Limits::BASE, chain()),
+        ("small, largest set", Limits::LARGEST, E1.to_vec()),
+        ("full, largest set", Limits::LARGEST, large::full()),
+        ("128 cells in a chain", Limits::LARGEST, large::chain()),
+    ];
     let mut lines = Vec::new();
     for operation in &OPERATIONS {
         let mut line = vec![operation.name.to_string()];
-        for script in &scripts {
-            line.push(bytes(&program, operation.name, script)?);
+        for (_, limits, script) in &scripts {
+            line.push(bytes(&program, operation.name, *limits, script)?);
         }
         lines.push(line);
     }
+    let names = scripts.iter().map(|(name, ..)| *name);
     Ok(Table {
         title: "Bytes of stack (ours)",
-        head: vec![
-            "operation",
-            "small",
-            "middling",
-            "full",
-            "64 cells in a chain",
-        ],
+        head: ["operation"].into_iter().chain(names).collect(),
         lines,
     })
 }

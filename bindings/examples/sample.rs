@@ -1,7 +1,9 @@
 //! Calls the script of E1 (LANGUAGE 8.2) from Rust, and prints the line that
 //! the program prints for it (6.10).
 
-use roomscript::{call, Called, Refusal, ROWS_LEN, STORE_LEN};
+use roomscript::{call, Called, Limits, Refusal};
+
+const LIMITS: Limits = Limits::BASE;
 
 const SCRIPT: [u8; 25] = [
     0x52, 0x43, 0x53, 0x00, 0x01, 0x0B, 0x04, 0x08, 0x00, 0x02, 0x00, 0x08, 0x01, 0x02, 0x01, 0x08,
@@ -10,8 +12,9 @@ const SCRIPT: [u8; 25] = [
 
 fn main() {
     let readings = [185, 200, 0, 0, 0, 0, 0, 0];
-    let (mut rows, mut store) = ([0; ROWS_LEN], [0; STORE_LEN]);
-    match call(&SCRIPT, &readings, &mut rows, &mut store) {
+    let mut rows = [0; LIMITS.row_numbers()];
+    let mut store = [0; LIMITS.store_numbers()];
+    match call(LIMITS, &SCRIPT, &readings, &mut rows, &mut store) {
         Ok(Called {
             terms,
             answer,

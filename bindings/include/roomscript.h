@@ -7,7 +7,8 @@
  * bits), unused fields 0, unused rows 0. Terms are numbered from 0 in byte
  * order.
  *
- * Every function answers on every input, without allocation, and changes no
+ * Every function takes a set of limits first, and the lengths of rows and store
+ * follow from it. It answers on every input, without allocation, and changes no
  * memory but the buffers that it takes without const. It keeps no pointer.
  *
  * A buffer is a pointer and then a length in elements. The pointer is never
@@ -21,8 +22,9 @@
  * bytes:
  *
  *     uint8_t none[1] = {0};
- *     uint32_t rows[ROOMSCRIPT_ROWS_LEN];
- *     roomscript_read(none, 0, rows, ROOMSCRIPT_ROWS_LEN);
+ *     uint32_t rows[ROOMSCRIPT_ROW_NUMBERS(ROOMSCRIPT_BASE_TERMS)];
+ *     roomscript_read(roomscript_base, none, 0, rows,
+ *                     ROOMSCRIPT_ROW_NUMBERS(ROOMSCRIPT_BASE_TERMS));
  *
  * answers refusal 12 at place 0.
  */
@@ -36,27 +38,59 @@
 extern "C" {
 #endif
 
-/* The most bytes and the most terms of a script. */
-#define ROOMSCRIPT_MAX_BYTES 4096
-#define ROOMSCRIPT_MAX_TERMS 512
-/* The fields of one term row, and the length of all rows. */
+/* The most bytes of a script, under every set of limits. */
+#define ROOMSCRIPT_MAX_BYTES 32768
+/* The fields of one term row and of one store row. */
 #define ROOMSCRIPT_FIELDS 5
-#define ROOMSCRIPT_ROWS_LEN 2560
-/* The fields of one store row, and the length of the store. */
 #define ROOMSCRIPT_STORE_FIELDS 3
-#define ROOMSCRIPT_STORE_LEN 384
 /* The number of readings. */
 #define ROOMSCRIPT_READINGS_LEN 8
+
+/*
+ * A set of limits, passed by value (LANGUAGE 2.8): the most terms, 1 to 4,096;
+ * the variables, 1 to 128, numbered from 0; the most box terms, 0 to 128, each
+ * of which takes a cell; the deepest level of a term, 1 to 32, the outermost
+ * block being on level 1.
+ *
+ * A set with one of the four outside its range is refused with 74 at place 0,
+ * before every other number, and nothing lent is changed. A script accepted
+ * under a set is accepted under each in the ranges that is nowhere smaller,
+ * with the same terms, answer and cells (LANGUAGE 7.7).
+ */
+typedef struct roomscript_limits {
+    uint32_t terms;
+    uint32_t variables;
+    uint32_t boxes;
+    uint32_t levels;
+} roomscript_limits;
+
+/* The language's own set, which the program roomcheck hands in. */
+#define ROOMSCRIPT_BASE_TERMS 512
+#define ROOMSCRIPT_BASE_VARIABLES 64
+#define ROOMSCRIPT_BASE_BOXES 64
+#define ROOMSCRIPT_BASE_LEVELS 16
+static const roomscript_limits roomscript_base = {
+    ROOMSCRIPT_BASE_TERMS, ROOMSCRIPT_BASE_VARIABLES, ROOMSCRIPT_BASE_BOXES,
+    ROOMSCRIPT_BASE_LEVELS};
+
+/*
+ * The lengths of rows and store, from the numbers of a set: constant where
+ * these are. They are computed in a size_t, so that those of a set outside the
+ * ranges do not wrap.
+ */
+#define ROOMSCRIPT_ROW_NUMBERS(terms) ((size_t)(terms) * ROOMSCRIPT_FIELDS)
+#define ROOMSCRIPT_STORE_NUMBERS(variables, boxes) \
+    (((size_t)(variables) + (boxes)) * ROOMSCRIPT_STORE_FIELDS)
 
 /*
  * Where refused is 0, value is the count and number 0. Where refused is 1,
  * number is the refusal's number and value its place.
  *
- * Refusals 1 to 5 are the caller's, with place 0 and no lent memory changed:
- * of 1 to 4 the lowest is given, and 5 comes after the rows. Refusals 10 to 19
- * are about the form of the script; their place is a byte offset from reading
- * and a row from rows. Refusals 30 to 43 are the author's; their place is the
- * term (LANGUAGE 5.2 to 5.5).
+ * Refusals 1 to 5 and 74 are the caller's, with place 0 and no lent memory
+ * changed: 74 is given before every other number, of 1 to 4 the lowest, and 5
+ * comes after the rows. Refusals 10 to 19 are about the form of the script;
+ * their place is a byte offset from reading and a row from rows. Refusals 30 to
+ * 43 are the author's; their place is the term (LANGUAGE 5.2 to 5.5).
  */
 typedef struct roomscript_answer {
     uint32_t refused;
@@ -69,23 +103,25 @@ typedef struct roomscript_answer {
  * (LANGUAGE 6.2).
  *
  * A script is the mark RCS, a 16-bit version, high byte first, equal to 1, and
- * one term, a block: at most 4,096 bytes, 512 terms, 64 box terms and 16
- * levels. After success all of rows is written: the rows of the terms in byte
- * order, then rows of 0.
+ * one term, a block: at most 32,768 bytes, and within the limits of the set.
+ * After success all of rows is written: the rows of the terms in byte order,
+ * then rows of 0.
  *
- * Refusals by the caller, at place 0, with rows unchanged, the lowest first:
- *   1: the script is over 4,096 bytes; 2: rows is not 2,560 long.
+ * Refusals by the caller, at place 0, with rows unchanged, in this order:
+ *   74: the set is outside the ranges; 1: the script is over 32,768 bytes; 2:
+ *   rows is not 5 times the set's terms long.
  * Refusals by the bytes, with a byte offset, leaving all of rows 0:
  *   10: the mark differs, at the first such byte; 11: another version, at 3;
  *   12: the script ended, at its length;
- *   13: an unknown kind; 14: an operand out of range; 15: too deep; 16: too
- *   many terms; 17: too many boxes; 18: the outermost term is no block; all at
- *   the byte judged;
+ *   13: an unknown kind; 14: an operand out of range, a variable from the set's
+ *   number on; 15: too deep; 16: too many terms; 17: too many boxes; 18: the
+ *   outermost term is no block; all at the byte judged;
  *   19: bytes are left, at the first of them.
  * They are met as the bytes come, the version once both its bytes are there;
  * at a kind byte the order is 12, 13, 18, 16, 15, 17.
  */
-roomscript_answer roomscript_read(const uint8_t *script, size_t script_len,
+roomscript_answer roomscript_read(roomscript_limits limits,
+                                  const uint8_t *script, size_t script_len,
                                   uint32_t *rows, size_t rows_len);
 
 /*
@@ -94,17 +130,20 @@ roomscript_answer roomscript_read(const uint8_t *script, size_t script_len,
  * Rows are accepted exactly where roomscript_read could have made them.
  * Nothing lent is changed.
  *
- * Refusals:
- *   2: rows is not 2,560 long, at place 0.
+ * Refusals by the caller, at place 0, in this order:
+ *   74: the set is outside the ranges; 2: rows is not 5 times the set's terms
+ *   long.
  * Refusals by the rows, with the row as the place:
- *   12: kind 0 where a term is due, or the rows are used up (place 512);
- *   13: an unknown kind; 14: an operand out of range or an unused field that
- *   is not 0; 15: too deep; 17: too many boxes; 18: the outermost term is no
- *   block;
+ *   12: kind 0 where a term is due, or the rows are used up (the place is then
+ *   the set's number of terms);
+ *   13: an unknown kind; 14: an operand out of range, a variable from the set's
+ *   number on, or an unused field that is not 0; 15: too deep; 17: too many
+ *   boxes; 18: the outermost term is no block;
  *   19: a row after the end is not all 0, at the first such row.
  * The order is that of reading. 16 is never met: the rows are used up first.
  */
-roomscript_answer roomscript_judge_rows(const uint32_t *rows, size_t rows_len);
+roomscript_answer roomscript_judge_rows(roomscript_limits limits,
+                                        const uint32_t *rows, size_t rows_len);
 
 /*
  * Writes the script of term rows and answers its length in bytes
@@ -114,11 +153,13 @@ roomscript_answer roomscript_judge_rows(const uint32_t *rows, size_t rows_len);
  * gives rows back; bytes past the script stay unchanged.
  *
  * Every refusal leaves output unchanged. In this order:
- *   2: rows is not 2,560 long, at place 0;
+ *   74: the set is outside the ranges, at place 0;
+ *   2: rows is not 5 times the set's terms long, at place 0;
  *   12 to 15 and 17 to 19, with the row, as from roomscript_judge_rows;
  *   5: output is shorter than the script, at place 0.
  */
-roomscript_answer roomscript_write(const uint32_t *rows, size_t rows_len,
+roomscript_answer roomscript_write(roomscript_limits limits,
+                                   const uint32_t *rows, size_t rows_len,
                                    uint8_t *output, size_t output_len);
 
 /*
@@ -130,7 +171,8 @@ roomscript_answer roomscript_write(const uint32_t *rows, size_t rows_len,
  * Nothing lent is changed.
  *
  * Refusals:
- *   2: rows is not 2,560 long, at place 0;
+ *   74: the set is outside the ranges, at place 0;
+ *   2: rows is not 5 times the set's terms long, at place 0;
  *   12 to 15 and 17 to 19, with the row, as from roomscript_judge_rows.
  * Refusals by the author, with the term:
  *   30: the number of a let is taken;
@@ -148,7 +190,8 @@ roomscript_answer roomscript_write(const uint32_t *rows, size_t rows_len,
  * Terms are judged in the order of a run (LANGUAGE 3.1). A term whose inner
  * term is refused is refused with the inner number and term.
  */
-roomscript_answer roomscript_check(const uint32_t *rows, size_t rows_len);
+roomscript_answer roomscript_check(roomscript_limits limits,
+                                   const uint32_t *rows, size_t rows_len);
 
 /*
  * What came of a run. Where outcome is 0, answer is the number that the script
@@ -167,19 +210,21 @@ typedef struct roomscript_ran {
 /*
  * Runs term rows, accepted by roomscript_check or not (LANGUAGE 6.6).
  *
- * The store is 128 rows of state, value kind and payload, first those of the
- * 64 variables and then those of the 64 cells (LANGUAGE 4.1). States: 0
- * closed, 1 open, 2 given back (4.2). Value kinds: 0 empty, 1 a number, 2 the
- * owner of a cell, 3 a reference to a row (4.3). The run first sets all of it
- * to 0, whatever it held.
+ * The store is rows of state, value kind and payload, first those of the set's
+ * variables and then those of its cells, as many as boxes: the row of cell c is
+ * the number of variables plus c (LANGUAGE 4.1). States: 0 closed, 1 open, 2
+ * given back (4.2). Value kinds: 0 empty, 1 a number, 2 the owner of a cell, 3
+ * a reference to a row (4.3). The run first sets all of it to 0, whatever it
+ * held.
  *
  * Where roomscript_check accepts the rows the run meets no fault, takes a cell
  * for every box term and gives each back: afterwards the store is all 0 but
  * the cells taken, which are 2, 0, 0 (LANGUAGE 7.4).
  *
- * Refusals by the caller, at place 0, with store unchanged, the lowest first:
- *   2: rows is not 2,560 long; 3: store is not 384 long; 4: readings is not 8
- *   long.
+ * Refusals by the caller, at place 0, with store unchanged, in this order:
+ *   74: the set is outside the ranges; 2: rows is not 5 times the set's terms
+ *   long; 3: store is not 3 times its variables and boxes together; 4: readings
+ *   is not 8 long.
  * Refusals by the rows, with the row, store unchanged:
  *   12 to 15 and 17 to 19, as from roomscript_judge_rows.
  * Faults, met only by rows that roomscript_check does not accept, with the
@@ -190,7 +235,8 @@ typedef struct roomscript_ran {
  *   after closing);
  *   62: a let on a row already open; 63: a cell given back twice.
  */
-roomscript_ran roomscript_run(const uint32_t *rows, size_t rows_len,
+roomscript_ran roomscript_run(roomscript_limits limits,
+                              const uint32_t *rows, size_t rows_len,
                               const int32_t *readings, size_t readings_len,
                               uint32_t *store, size_t store_len);
 
@@ -216,10 +262,10 @@ typedef struct roomscript_called {
  * none to answer. After success rows holds the script, and store is all 0 but
  * the cells taken, which are 2, 0, 0.
  *
- * Refusals by the caller, at place 0, with nothing lent changed, the lowest
- * first:
- *   1: the script is over 4,096 bytes; 2: rows is not 2,560 long; 3: store is
- *   not 384 long; 4: readings is not 8 long.
+ * Refusals by the caller, at place 0, with nothing lent changed, in this order:
+ *   74: the set is outside the ranges; 1: the script is over 32,768 bytes; 2:
+ *   rows is not 5 times the set's terms long; 3: store is not 3 times its
+ *   variables and boxes together; 4: readings is not 8 long.
  * Refusals by the bytes, with a byte offset, leaving all of rows 0 and store
  * unchanged:
  *   10 to 19, as from roomscript_read.
@@ -227,7 +273,8 @@ typedef struct roomscript_called {
  * is unchanged:
  *   30 to 43, as from roomscript_check.
  */
-roomscript_called roomscript_call(const uint8_t *script, size_t script_len,
+roomscript_called roomscript_call(roomscript_limits limits,
+                                  const uint8_t *script, size_t script_len,
                                   const int32_t *readings, size_t readings_len,
                                   uint32_t *rows, size_t rows_len,
                                   uint32_t *store, size_t store_len);

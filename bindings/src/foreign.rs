@@ -5,7 +5,7 @@
 
 #![allow(unsafe_code)]
 
-use crate::{Called, Fault, Ran, Refusal, Stop};
+use crate::{Called, Fault, Limits, Ran, Refusal, Stop};
 
 /// Where `refused` is 0, `value` is the count and `number` 0; where it is 1,
 /// `number` is the refusal's number and `value` its place.
@@ -43,27 +43,35 @@ pub(crate) struct CallAnswer {
     cells: u64,
 }
 
+const _: () = assert!(size_of::<Limits>() == 16 && align_of::<Limits>() == 4);
 const _: () = assert!(size_of::<Answer>() == 16 && align_of::<Answer>() == 8);
 const _: () = assert!(size_of::<RunAnswer>() == 24 && align_of::<RunAnswer>() == 8);
 const _: () = assert!(size_of::<CallAnswer>() == 40 && align_of::<CallAnswer>() == 8);
 
-// A slice is passed as a pointer and then a length.
+// The lengths that follow from any set are computed in a usize: 64 bits, as in
+// the archive.
+const _: () = assert!(size_of::<usize>() == 8);
+
+// A set is passed by value, a slice as a pointer and then a length.
 extern "C" {
     fn roomscript_read(
+        limits: Limits,
         script: *const u8,
         script_len: usize,
         rows: *mut u32,
         rows_len: usize,
     ) -> Answer;
-    fn roomscript_judge_rows(rows: *const u32, rows_len: usize) -> Answer;
+    fn roomscript_judge_rows(limits: Limits, rows: *const u32, rows_len: usize) -> Answer;
     fn roomscript_write(
+        limits: Limits,
         rows: *const u32,
         rows_len: usize,
         output: *mut u8,
         output_len: usize,
     ) -> Answer;
-    fn roomscript_check(rows: *const u32, rows_len: usize) -> Answer;
+    fn roomscript_check(limits: Limits, rows: *const u32, rows_len: usize) -> Answer;
     fn roomscript_run(
+        limits: Limits,
         rows: *const u32,
         rows_len: usize,
         readings: *const i32,
@@ -72,6 +80,7 @@ extern "C" {
         store_len: usize,
     ) -> RunAnswer;
     fn roomscript_call(
+        limits: Limits,
         script: *const u8,
         script_len: usize,
         readings: *const i32,
@@ -141,25 +150,42 @@ impl CallAnswer {
 // pointer, and stay within the lengths. An empty slice passes its own pointer,
 // which is aligned and not null, and length 0.
 
-pub(crate) fn read(script: &[u8], rows: &mut [u32]) -> Answer {
-    unsafe { roomscript_read(script.as_ptr(), script.len(), rows.as_mut_ptr(), rows.len()) }
+pub(crate) fn read(limits: Limits, script: &[u8], rows: &mut [u32]) -> Answer {
+    unsafe {
+        roomscript_read(
+            limits,
+            script.as_ptr(),
+            script.len(),
+            rows.as_mut_ptr(),
+            rows.len(),
+        )
+    }
 }
 
-pub(crate) fn judge_rows(rows: &[u32]) -> Answer {
-    unsafe { roomscript_judge_rows(rows.as_ptr(), rows.len()) }
+pub(crate) fn judge_rows(limits: Limits, rows: &[u32]) -> Answer {
+    unsafe { roomscript_judge_rows(limits, rows.as_ptr(), rows.len()) }
 }
 
-pub(crate) fn write(rows: &[u32], output: &mut [u8]) -> Answer {
-    unsafe { roomscript_write(rows.as_ptr(), rows.len(), output.as_mut_ptr(), output.len()) }
+pub(crate) fn write(limits: Limits, rows: &[u32], output: &mut [u8]) -> Answer {
+    unsafe {
+        roomscript_write(
+            limits,
+            rows.as_ptr(),
+            rows.len(),
+            output.as_mut_ptr(),
+            output.len(),
+        )
+    }
 }
 
-pub(crate) fn check(rows: &[u32]) -> Answer {
-    unsafe { roomscript_check(rows.as_ptr(), rows.len()) }
+pub(crate) fn check(limits: Limits, rows: &[u32]) -> Answer {
+    unsafe { roomscript_check(limits, rows.as_ptr(), rows.len()) }
 }
 
-pub(crate) fn run(rows: &[u32], readings: &[i32], store: &mut [u32]) -> RunAnswer {
+pub(crate) fn run(limits: Limits, rows: &[u32], readings: &[i32], store: &mut [u32]) -> RunAnswer {
     unsafe {
         roomscript_run(
+            limits,
             rows.as_ptr(),
             rows.len(),
             readings.as_ptr(),
@@ -171,6 +197,7 @@ pub(crate) fn run(rows: &[u32], readings: &[i32], store: &mut [u32]) -> RunAnswe
 }
 
 pub(crate) fn call(
+    limits: Limits,
     script: &[u8],
     readings: &[i32],
     rows: &mut [u32],
@@ -178,6 +205,7 @@ pub(crate) fn call(
 ) -> CallAnswer {
     unsafe {
         roomscript_call(
+            limits,
             script.as_ptr(),
             script.len(),
             readings.as_ptr(),

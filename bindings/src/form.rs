@@ -1,33 +1,34 @@
 //! The form of scripts (LANGUAGE 2): read, judged as rows, and written.
 
 use crate::foreign;
-use crate::Refusal;
+use crate::{Limits, Refusal};
 
 /// Reads a script into term rows and answers the number of terms
 /// (LANGUAGE 6.2).
 ///
 /// A script is the mark `RCS`, a 16-bit version, high byte first, equal to 1,
-/// and one term, a block: at most 4,096 bytes, 512 terms, 64 box terms and 16
-/// levels. After success all of `rows` is written: the rows of the terms in
-/// byte order, then rows of 0.
+/// and one term, a block: at most 32,768 bytes, and within the limits of the
+/// set. After success all of `rows` is written: the rows of the terms in byte
+/// order, then rows of 0.
 ///
 /// # Refusals
 ///
-/// By the caller, at place 0, with `rows` unchanged, the lowest first:
-/// - 1: the script is over 4,096 bytes; 2: `rows` is not 2,560 long.
+/// By the caller, at place 0, with `rows` unchanged, in this order:
+/// - 74: the set is outside the ranges; 1: the script is over 32,768 bytes; 2:
+///   `rows` is not [`Limits::row_numbers`] long.
 ///
 /// By the bytes, with a byte offset, leaving all of `rows` 0:
 /// - 10: the mark differs, at the first such byte; 11: another version, at 3;
 /// - 12: the script ended, at its length;
-/// - 13: an unknown kind; 14: an operand out of range; 15: too deep; 16: too
-///   many terms; 17: too many boxes; 18: the outermost term is no block; all
-///   at the byte judged;
+/// - 13: an unknown kind; 14: an operand out of range, a variable from the
+///   set's number on; 15: too deep; 16: too many terms; 17: too many boxes; 18:
+///   the outermost term is no block; all at the byte judged;
 /// - 19: bytes are left, at the first of them.
 ///
 /// They are met as the bytes come, the version once both its bytes are there;
 /// at a kind byte the order is 12, 13, 18, 16, 15, 17.
-pub fn read(script: &[u8], rows: &mut [u32]) -> Result<u32, Refusal> {
-    foreign::read(script, rows).count()
+pub fn read(limits: Limits, script: &[u8], rows: &mut [u32]) -> Result<u32, Refusal> {
+    foreign::read(limits, script, rows).count()
 }
 
 /// Judges term rows and answers the number of terms (LANGUAGE 6.3).
@@ -37,18 +38,21 @@ pub fn read(script: &[u8], rows: &mut [u32]) -> Result<u32, Refusal> {
 ///
 /// # Refusals
 ///
-/// - 2: `rows` is not 2,560 long, at place 0.
+/// By the caller, at place 0, in this order:
+/// - 74: the set is outside the ranges; 2: `rows` is not
+///   [`Limits::row_numbers`] long.
 ///
 /// By the rows, with the row as the place:
-/// - 12: kind 0 where a term is due, or the rows are used up (place 512);
-/// - 13: an unknown kind; 14: an operand out of range or an unused field that
-///   is not 0; 15: too deep; 17: too many boxes; 18: the outermost term is no
-///   block;
+/// - 12: kind 0 where a term is due, or the rows are used up (the place is
+///   then the set's number of terms);
+/// - 13: an unknown kind; 14: an operand out of range, a variable from the
+///   set's number on, or an unused field that is not 0; 15: too deep; 17: too
+///   many boxes; 18: the outermost term is no block;
 /// - 19: a row after the end is not all 0, at the first such row.
 ///
 /// The order is that of reading. 16 is never met: the rows are used up first.
-pub fn judge_rows(rows: &[u32]) -> Result<u32, Refusal> {
-    foreign::judge_rows(rows).count()
+pub fn judge_rows(limits: Limits, rows: &[u32]) -> Result<u32, Refusal> {
+    foreign::judge_rows(limits, rows).count()
 }
 
 /// Writes the script of term rows and answers its length in bytes
@@ -60,9 +64,10 @@ pub fn judge_rows(rows: &[u32]) -> Result<u32, Refusal> {
 /// # Refusals
 ///
 /// Every refusal leaves `output` unchanged. In this order:
-/// - 2: `rows` is not 2,560 long, at place 0;
+/// - 74: the set is outside the ranges, at place 0;
+/// - 2: `rows` is not [`Limits::row_numbers`] long, at place 0;
 /// - 12 to 15 and 17 to 19, with the row, as from [`judge_rows`];
 /// - 5: `output` is shorter than the script, at place 0.
-pub fn write(rows: &[u32], output: &mut [u8]) -> Result<u32, Refusal> {
-    foreign::write(rows, output).count()
+pub fn write(limits: Limits, rows: &[u32], output: &mut [u8]) -> Result<u32, Refusal> {
+    foreign::write(limits, rows, output).count()
 }

@@ -9,6 +9,9 @@
 //! judges rows by the ownership rules, [`run`] runs rows on a store, and
 //! [`call`] reads, checks and runs a script.
 //!
+//! Each of them takes a set of limits first, and the lengths of rows and store
+//! follow from it: [`Limits`]. [`Limits::BASE`] is the language's own set.
+//!
 //! Every function answers on every input, without a panic and without
 //! allocation, and changes no memory but the slices that it is lent mutably.
 
@@ -17,32 +20,24 @@
 
 mod foreign;
 mod form;
+mod limits;
 mod machine;
 mod ownership;
 mod refusal;
 mod whole;
 
 pub use form::{judge_rows, read, write};
+pub use limits::Limits;
 pub use machine::{run, Fault, Ran, Stop};
 pub use ownership::check;
 pub use refusal::Refusal;
 pub use whole::{call, Called};
 
-/// The most bytes of a script.
-pub const MAX_BYTES: usize = 4096;
-/// The most terms of a script.
-pub const MAX_TERMS: usize = 512;
+/// The most bytes of a script, under every set of limits.
+pub const MAX_BYTES: usize = 32_768;
 /// The fields of one term row: the kind and four operands.
 pub const FIELDS: usize = 5;
-/// The length of a slice of term rows; every other length is refused with 2.
-pub const ROWS_LEN: usize = MAX_TERMS * FIELDS;
-/// The variables, whose rows begin the store.
-pub const VARIABLES: usize = 64;
-/// The cells, whose rows come after those of the variables.
-pub const CELLS: usize = 64;
 /// The fields of one store row: state, value kind and payload.
 pub const STORE_FIELDS: usize = 3;
-/// The length of a store; every other length is refused with 3.
-pub const STORE_LEN: usize = (VARIABLES + CELLS) * STORE_FIELDS;
 /// The number of readings; every other number is refused with 4.
 pub const READINGS_LEN: usize = 8;

@@ -1,7 +1,7 @@
 //! The store machine (LANGUAGE 4): term rows run on a store.
 
 use crate::foreign;
-use crate::Refusal;
+use crate::{Limits, Refusal};
 use std::error::Error;
 use std::fmt::{self, Display, Formatter};
 
@@ -52,11 +52,12 @@ impl Error for Stop {}
 /// Runs term rows, accepted by [`check`](crate::check) or not, and answers
 /// the number that they give and how many cells they took (LANGUAGE 6.6).
 ///
-/// The store is 128 rows of state, value kind and payload, first those of the
-/// 64 variables and then those of the 64 cells (LANGUAGE 4.1). States: 0
-/// closed, 1 open, 2 given back (4.2). Value kinds: 0 empty, 1 a number, 2 the
-/// owner of a cell, 3 a reference to a row (4.3). The run first sets all of it
-/// to 0, whatever it held.
+/// The store is rows of state, value kind and payload, first those of the
+/// set's variables and then those of its cells, as many as boxes: the row of
+/// cell c is the number of variables plus c (LANGUAGE 4.1). States: 0 closed,
+/// 1 open, 2 given back (4.2). Value kinds: 0 empty, 1 a number, 2 the owner
+/// of a cell, 3 a reference to a row (4.3). The run first sets all of it to 0,
+/// whatever it held.
 ///
 /// Where the check accepts the rows the run meets no fault, takes a cell for
 /// every box term and gives each back: afterwards the store is all 0 but the
@@ -64,16 +65,16 @@ impl Error for Stop {}
 ///
 /// # Stops
 ///
-/// Refusals leave `store` unchanged. By the caller, at place 0, the lowest
-/// first:
-/// - 2: `rows` is not 2,560 long; 3: `store` is not 384 long; 4: `readings`
-///   is not 8 long.
+/// Refusals leave `store` unchanged. By the caller, at place 0, in this order:
+/// - 74: the set is outside the ranges; 2: `rows` is not
+///   [`Limits::row_numbers`] long; 3: `store` is not [`Limits::store_numbers`]
+///   long; 4: `readings` is not 8 long.
 ///
 /// By the rows, with the row:
 /// - 12 to 15 and 17 to 19, as from [`judge_rows`](crate::judge_rows).
 ///
 /// Faults 60 to 63 are met only by rows that the check does not accept; they
 /// leave `store` as the run rules had it.
-pub fn run(rows: &[u32], readings: &[i32], store: &mut [u32]) -> Result<Ran, Stop> {
-    foreign::run(rows, readings, store).outcome()
+pub fn run(limits: Limits, rows: &[u32], readings: &[i32], store: &mut [u32]) -> Result<Ran, Stop> {
+    foreign::run(limits, rows, readings, store).outcome()
 }

@@ -1,7 +1,7 @@
 //! The ownership check (LANGUAGE 3) of term rows.
 
 use crate::foreign;
-use crate::Refusal;
+use crate::{Limits, Refusal};
 
 /// Judges term rows by the ownership rules and answers the number of terms
 /// (LANGUAGE 6.5).
@@ -12,7 +12,8 @@ use crate::Refusal;
 ///
 /// # Refusals
 ///
-/// - 2: `rows` is not 2,560 long, at place 0;
+/// - 74: the set is outside the ranges, at place 0;
+/// - 2: `rows` is not [`Limits::row_numbers`] long, at place 0;
 /// - 12 to 15 and 17 to 19, with the row, as from
 ///   [`judge_rows`](crate::judge_rows).
 ///
@@ -33,6 +34,6 @@ use crate::Refusal;
 ///
 /// Terms are judged in the order of a run (LANGUAGE 3.1). A term whose inner
 /// term is refused is refused with the inner number and term.
-pub fn check(rows: &[u32]) -> Result<u32, Refusal> {
-    foreign::check(rows).count()
+pub fn check(limits: Limits, rows: &[u32]) -> Result<u32, Refusal> {
+    foreign::check(limits, rows).count()
 }

@@ -1,7 +1,7 @@
 //! The whole call: a script read, checked and run.
 
 use crate::foreign;
-use crate::Refusal;
+use crate::{Limits, Refusal};
 
 /// What an accepted script gives.
 #[derive(Clone, Copy, Debug, PartialEq, Eq)]
@@ -24,9 +24,10 @@ pub struct Called {
 ///
 /// # Refusals
 ///
-/// By the caller, at place 0, with nothing lent changed, the lowest first:
-/// - 1: the script is over 4,096 bytes; 2: `rows` is not 2,560 long; 3:
-///   `store` is not 384 long; 4: `readings` is not 8 long.
+/// By the caller, at place 0, with nothing lent changed, in this order:
+/// - 74: the set is outside the ranges; 1: the script is over 32,768 bytes; 2:
+///   `rows` is not [`Limits::row_numbers`] long; 3: `store` is not
+///   [`Limits::store_numbers`] long; 4: `readings` is not 8 long.
 ///
 /// By the bytes, with a byte offset, leaving all of `rows` 0 and `store`
 /// unchanged:
@@ -36,10 +37,11 @@ pub struct Called {
 /// unchanged:
 /// - 30 to 43, as from [`check`](crate::check).
 pub fn call(
+    limits: Limits,
     script: &[u8],
     readings: &[i32],
     rows: &mut [u32],
     store: &mut [u32],
 ) -> Result<Called, Refusal> {
-    foreign::call(script, readings, rows, store).outcome()
+    foreign::call(limits, script, readings, rows, store).outcome()
 }

@@ -1,29 +1,35 @@
 //! The proved library beside the reference program, on many seeded cases and
-//! on all small scripts.
+//! on all small scripts, under several sets of limits.
 //!
 //! `cargo test --release --offline` in `bindings/` gives both programs 200,000
-//! cases of each kind and compares answers, places and whole buffers: scripts
-//! read, rows judged and written; rows checked and run that were steered to be
-//! accepted, near misses of those, wild ones and any ones; scripts of each
-//! kind called; and all small scripts over a small alphabet. A longer run, or
-//! one with other cases, takes its seed and its number of cases from the
-//! environment:
+//! cases of each kind under the language's own set, and as many again under
+//! other sets together: the least, a small and an uneven one, the largest, any
+//! in the ranges and any outside them. It compares answers, places and whole
+//! buffers: scripts read, rows judged and written; rows checked and run that
+//! were steered to be accepted, near misses of those, wild ones and any ones;
+//! scripts of each kind called; full scripts of the largest set; and all small
+//! scripts over a small alphabet. It also compares the library under one set
+//! with the library under a larger one. A longer run, or one with other cases,
+//! takes its seed and its number of cases from the environment:
 //!
 //! ```text
 //! ROOMSCRIPT_SEED=7 ROOMSCRIPT_CASES=5000000 \
 //!     cargo test --release --offline --test comparison
 //! ```
 //!
-//! A failure names its seed and its case and shows the input in hex. The same
-//! seed with one case more than the number shown meets it again. Every buffer
-//! is filled with junk first and lies between guard cells. Each run shows how
-//! often each number was answered; from 20,000 cases on, every number that can
-//! be answered must occur, unless it is named as rare.
+//! A failure names its seed, its case and its set and shows the input in hex.
+//! The same seed with as many cases or more meets it again. Every buffer is
+//! filled with junk first and lies between guard cells. Each run shows how
+//! often each number was answered. Every number that can be answered must
+//! occur, unless it is named as rare: under the language's own set from 20,000
+//! cases on, under the others from 200,000 on.
 
 #![forbid(unsafe_code)]
 
 #[path = "comparison/alphabet.rs"]
 mod alphabet;
+#[path = "comparison/beyond.rs"]
+mod beyond;
 #[path = "comparison/calling.rs"]
 mod calling;
 mod common;
@@ -31,11 +37,18 @@ mod common;
 mod exhaustive;
 #[path = "comparison/generated.rs"]
 mod generated;
+#[path = "comparison/larger.rs"]
+mod larger;
 #[path = "comparison/layers.rs"]
 mod layers;
+#[path = "comparison/packed.rs"]
+mod packed;
+#[path = "comparison/reached.rs"]
+mod reached;
 #[path = "comparison/rows.rs"]
 mod rows;
 #[path = "comparison/scripts.rs"]
 mod scripts;
-
-use common::due::due;
+#[macro_use]
+#[path = "comparison/sets.rs"]
+mod sets;

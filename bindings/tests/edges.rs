@@ -1,25 +1,15 @@
 //! The edges of every function, each by hand with its number and place:
-//! reading, judging rows and writing, the check, runs and whole calls.
+//! reading, judging rows and writing, the check, runs and whole calls, under
+//! the language's own set of limits and under others.
 
 #![forbid(unsafe_code)]
 
 mod common;
 
-#[path = "edges/given.rs"]
-mod given;
-#[path = "edges/limits.rs"]
-mod limits;
-#[path = "edges/reading.rs"]
-mod reading;
-#[path = "edges/rows.rs"]
-mod rows;
-#[path = "edges/writing.rs"]
-mod writing;
-
 /// What the modules below ask. `oracle` puts the same questions to the
 /// reference program.
 mod asked {
-    pub use roomscript::{call, check, run};
+    pub use roomscript::{call, check, judge_rows, read, run, write};
 }
 
 #[path = "edges/assigns.rs"]
@@ -28,15 +18,41 @@ mod assigns;
 mod borrows;
 #[path = "edges/calling.rs"]
 mod calling;
+#[path = "edges/cells.rs"]
+mod cells;
 #[path = "edges/examples.rs"]
 mod examples;
 #[path = "edges/faults.rs"]
 mod faults;
+#[path = "edges/full.rs"]
+mod full;
+#[path = "edges/given.rs"]
+mod given;
 #[path = "edges/hand.rs"]
 mod hand;
+#[path = "edges/larger.rs"]
+mod larger;
+#[path = "edges/lengths.rs"]
+mod lengths;
+#[path = "edges/limits.rs"]
+mod limits;
+#[path = "edges/listed.rs"]
+mod listed;
 #[path = "edges/places.rs"]
 mod places;
+#[path = "edges/ranges.rs"]
+mod ranges;
+#[path = "edges/reading.rs"]
+mod reading;
+#[path = "edges/rows.rs"]
+mod rows;
 #[path = "edges/running.rs"]
 mod running;
 #[path = "edges/scope.rs"]
 mod scope;
+#[path = "edges/variables.rs"]
+mod variables;
+#[path = "edges/within.rs"]
+mod within;
+#[path = "edges/writing.rs"]
+mod writing;

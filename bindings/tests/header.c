@@ -1,11 +1,15 @@
-/* Every function from C, on E1 (LANGUAGE 8.2), on some refusals and faults, and on empty buffers. */
+/*
+ * Every function from C: on E1 (LANGUAGE 8.2), on some refusals and faults, on
+ * empty buffers, and under other sets than the language's own.
+ */
 #include <roomscript.h>
 
 #include <stdio.h>
 #include <string.h>
 
-#define ROWS ROOMSCRIPT_ROWS_LEN
-#define STORE ROOMSCRIPT_STORE_LEN
+#define BASE roomscript_base
+#define ROWS ROOMSCRIPT_ROW_NUMBERS(ROOMSCRIPT_BASE_TERMS)
+#define STORE ROOMSCRIPT_STORE_NUMBERS(ROOMSCRIPT_BASE_VARIABLES, ROOMSCRIPT_BASE_BOXES)
 #define READINGS ROOMSCRIPT_READINGS_LEN
 
 static const uint8_t E1[25] = {
@@ -80,48 +84,54 @@ static void junk(void) {
 
 static void form(void) {
     static uint8_t output[ROOMSCRIPT_MAX_BYTES];
-    expect("read", roomscript_read(E1, sizeof E1, rows, ROWS), 0, 0, 8);
-    expect("judge_rows", roomscript_judge_rows(rows, ROWS), 0, 0, 8);
-    expect("write", roomscript_write(rows, ROWS, output, sizeof output), 0, 0, 25);
+    expect("read", roomscript_read(BASE, E1, sizeof E1, rows, ROWS), 0, 0, 8);
+    expect("judge_rows", roomscript_judge_rows(BASE, rows, ROWS), 0, 0, 8);
+    expect("write", roomscript_write(BASE, rows, ROWS, output, sizeof output), 0, 0, 25);
     note("bytes written", memcmp(output, E1, sizeof E1) == 0);
-    expect("short output", roomscript_write(rows, ROWS, output, 24), 1, 5, 0);
-    expect("short script", roomscript_read(E1, 24, rows, ROWS), 1, 12, 24);
-    expect("no rows", roomscript_judge_rows(rows, 0), 1, 2, 0);
-    expect("rows of 0", roomscript_judge_rows(rows, ROWS), 1, 12, 0);
+    expect("short output", roomscript_write(BASE, rows, ROWS, output, 24), 1, 5, 0);
+    expect("short script", roomscript_read(BASE, E1, 24, rows, ROWS), 1, 12, 24);
+    expect("no rows", roomscript_judge_rows(BASE, rows, 0), 1, 2, 0);
+    expect("rows of 0", roomscript_judge_rows(BASE, rows, ROWS), 1, 12, 0);
 }
 
 static void check_and_run(void) {
     static const uint32_t fault[6] = {1, 0, 0, 1, 2, 0};
     junk();
-    expect("read E1", roomscript_read(E1, sizeof E1, rows, ROWS), 0, 0, 8);
-    expect("check E1", roomscript_check(rows, ROWS), 0, 0, 8);
-    expect_ran("no store", roomscript_run(rows, ROWS, GIVEN, READINGS, store, 0), 1, 3, 0, 0);
-    expect_ran("no readings", roomscript_run(rows, ROWS, GIVEN, 7, store, STORE), 1, 4, 0, 0);
+    expect("read E1", roomscript_read(BASE, E1, sizeof E1, rows, ROWS), 0, 0, 8);
+    expect("check E1", roomscript_check(BASE, rows, ROWS), 0, 0, 8);
+    expect_ran("no store",
+               roomscript_run(BASE, rows, ROWS, GIVEN, READINGS, store, 0), 1, 3, 0, 0);
+    expect_ran("no readings",
+               roomscript_run(BASE, rows, ROWS, GIVEN, 7, store, STORE), 1, 4, 0, 0);
     note("store before a run", all(store, 0, STORE, 9));
-    expect_ran("run E1", roomscript_run(rows, ROWS, GIVEN, READINGS, store, STORE), 0, 0, 1, 0);
+    expect_ran("run E1",
+               roomscript_run(BASE, rows, ROWS, GIVEN, READINGS, store, STORE), 0, 0, 1, 0);
     note("store after E1", all(store, 0, STORE, 0));
-    expect("read E3", roomscript_read(E3, sizeof E3, rows, ROWS), 0, 0, 7);
-    expect("check E3", roomscript_check(rows, ROWS), 1, 33, 6);
-    expect_ran("run E3", roomscript_run(rows, ROWS, GIVEN, READINGS, store, STORE), 2, 60, 0, 6);
+    expect("read E3", roomscript_read(BASE, E3, sizeof E3, rows, ROWS), 0, 0, 7);
+    expect("check E3", roomscript_check(BASE, rows, ROWS), 1, 33, 6);
+    expect_ran("run E3",
+               roomscript_run(BASE, rows, ROWS, GIVEN, READINGS, store, STORE), 2, 60, 0, 6);
     note("variables after E3", memcmp(store, fault, sizeof fault) == 0);
     note("cell after E3", store[192] == 1 && store[193] == 1 && store[194] == 7);
     note("the rest after E3", all(store, 6, 192, 0) && all(store, 195, STORE, 0));
-    expect("check no rows", roomscript_check(rows, 0), 1, 2, 0);
+    expect("check no rows", roomscript_check(BASE, rows, 0), 1, 2, 0);
 }
 
 static void call(void) {
     roomscript_called called;
     junk();
     expect_not_called("call without rows",
-                      roomscript_call(E1, 25, GIVEN, READINGS, rows, 0, store, STORE), 2, 0);
+                      roomscript_call(BASE, E1, 25, GIVEN, READINGS, rows, 0, store, STORE), 2, 0);
     note("after no rows", all(rows, 0, ROWS, 9) && all(store, 0, STORE, 9));
     expect_not_called("call of a short script",
-                      roomscript_call(E1, 24, GIVEN, READINGS, rows, ROWS, store, STORE), 12, 24);
+                      roomscript_call(BASE, E1, 24, GIVEN, READINGS, rows, ROWS, store, STORE),
+                      12, 24);
     note("after a short script", all(rows, 0, ROWS, 0) && all(store, 0, STORE, 9));
     expect_not_called("call of E3",
-                      roomscript_call(E3, 23, GIVEN, READINGS, rows, ROWS, store, STORE), 33, 6);
+                      roomscript_call(BASE, E3, 23, GIVEN, READINGS, rows, ROWS, store, STORE),
+                      33, 6);
     note("after E3", rows[0] == 11 && rows[1] == 3 && all(store, 0, STORE, 9));
-    called = roomscript_call(E1, 25, GIVEN, READINGS, rows, ROWS, store, STORE);
+    called = roomscript_call(BASE, E1, 25, GIVEN, READINGS, rows, ROWS, store, STORE);
     note("call of E1", called.refused == 0 && called.number == 0 && called.answer == 1 &&
                            called.place == 0 && called.terms == 8 && called.cells == 0);
     note("after E1", rows[0] == 11 && rows[1] == 4 && all(store, 0, STORE, 0));
@@ -133,24 +143,87 @@ static void empty(void) {
     static uint32_t numbers[1] = {9};
     static const int32_t none[1] = {9};
     junk();
-    expect("read no bytes", roomscript_read(bytes, 0, rows, ROWS), 1, 12, 0);
+    expect("read no bytes", roomscript_read(BASE, bytes, 0, rows, ROWS), 1, 12, 0);
     note("rows after no bytes", all(rows, 0, ROWS, 0));
-    expect("read into no rows", roomscript_read(E1, 25, numbers, 0), 1, 2, 0);
-    expect("judge no rows", roomscript_judge_rows(numbers, 0), 1, 2, 0);
-    expect("write no rows", roomscript_write(numbers, 0, bytes, 0), 1, 2, 0);
-    expect("check no rows", roomscript_check(numbers, 0), 1, 2, 0);
-    expect("read E1", roomscript_read(E1, 25, rows, ROWS), 0, 0, 8);
-    expect("write to no output", roomscript_write(rows, ROWS, bytes, 0), 1, 5, 0);
+    expect("read into no rows", roomscript_read(BASE, E1, 25, numbers, 0), 1, 2, 0);
+    expect("judge no rows", roomscript_judge_rows(BASE, numbers, 0), 1, 2, 0);
+    expect("write no rows", roomscript_write(BASE, numbers, 0, bytes, 0), 1, 2, 0);
+    expect("check no rows", roomscript_check(BASE, numbers, 0), 1, 2, 0);
+    expect("read E1", roomscript_read(BASE, E1, 25, rows, ROWS), 0, 0, 8);
+    expect("write to no output", roomscript_write(BASE, rows, ROWS, bytes, 0), 1, 5, 0);
     expect_ran("run on no store",
-               roomscript_run(rows, ROWS, GIVEN, READINGS, numbers, 0), 1, 3, 0, 0);
+               roomscript_run(BASE, rows, ROWS, GIVEN, READINGS, numbers, 0), 1, 3, 0, 0);
     expect_ran("run with no readings",
-               roomscript_run(rows, ROWS, none, 0, store, STORE), 1, 4, 0, 0);
+               roomscript_run(BASE, rows, ROWS, none, 0, store, STORE), 1, 4, 0, 0);
     expect_not_called("call of no bytes",
-                      roomscript_call(bytes, 0, GIVEN, READINGS, rows, ROWS, store, STORE), 12, 0);
+                      roomscript_call(BASE, bytes, 0, GIVEN, READINGS, rows, ROWS, store, STORE),
+                      12, 0);
     expect_not_called("call with nothing",
-                      roomscript_call(bytes, 0, none, 0, numbers, 0, store, 0), 2, 0);
+                      roomscript_call(BASE, bytes, 0, none, 0, numbers, 0, store, 0), 2, 0);
     note("the element of an empty buffer",
          bytes[0] == 9 && numbers[0] == 9 && all(store, 0, STORE, 9));
+}
+
+/* A set has 16 bytes, and each of its numbers arrives. */
+static void sets(void) {
+    static const roomscript_limits fits = {7, 2, 1, 4};
+    static const roomscript_limits terms = {6, 2, 1, 4}, variables = {7, 1, 1, 4};
+    static const roomscript_limits boxes = {7, 2, 0, 4}, levels = {7, 2, 1, 2};
+    const size_t fitting = ROOMSCRIPT_ROW_NUMBERS(fits.terms);
+    const size_t small = ROOMSCRIPT_STORE_NUMBERS(fits.variables, fits.boxes);
+    note("a set", sizeof(roomscript_limits) == 16 && fitting == 35 && small == 9);
+    note("the base", BASE.terms == 512 && BASE.variables == 64 && BASE.boxes == 64 &&
+                         BASE.levels == 16 && ROWS == 2560 && STORE == 384);
+    junk();
+    expect("a term too many", roomscript_read(terms, E3, 23, rows, 30), 1, 16, 20);
+    expect("a variable too many", roomscript_read(variables, E3, 23, rows, 35), 1, 14, 16);
+    expect("a box too many", roomscript_read(boxes, E3, 23, rows, 35), 1, 17, 9);
+    expect("a level too many", roomscript_read(levels, E3, 23, rows, 35), 1, 15, 9);
+    expect("read E3 as it fits", roomscript_read(fits, E3, 23, rows, fitting), 0, 0, 7);
+    note("rows after that", rows[30] == 3 && rows[31] == 0 && rows[32] == 1 &&
+                                all(rows, fitting, ROWS, 9));
+    expect("judge E3", roomscript_judge_rows(fits, rows, fitting), 0, 0, 7);
+    expect("check E3", roomscript_check(fits, rows, fitting), 1, 33, 6);
+    expect_ran("run E3 as it fits",
+               roomscript_run(fits, rows, fitting, GIVEN, READINGS, store, small), 2, 60, 0, 6);
+    note("the cell after E3", store[6] == 1 && store[7] == 1 && store[8] == 7 && store[9] == 9);
+    expect("the base's rows", roomscript_check(fits, rows, ROWS), 1, 2, 0);
+    expect_ran("the base's store",
+               roomscript_run(fits, rows, fitting, GIVEN, READINGS, store, STORE), 1, 3, 0, 0);
+}
+
+static void largest(void) {
+    static const roomscript_limits most = {4096, 128, 128, 32};
+    static uint32_t many[ROOMSCRIPT_ROW_NUMBERS(4096)], big[ROOMSCRIPT_STORE_NUMBERS(128, 128)];
+    const size_t length = sizeof many / sizeof many[0], size = sizeof big / sizeof big[0];
+    roomscript_called called;
+    note("the largest lengths", length == 20480 && size == 768);
+    called = roomscript_call(most, E1, 25, GIVEN, READINGS, many, length, big, size);
+    note("call of E1 under the largest set",
+         called.refused == 0 && called.answer == 1 && called.terms == 8 && called.cells == 0);
+    expect("check E1 under the largest set", roomscript_check(most, many, length), 0, 0, 8);
+    expect("rows of the largest set", roomscript_check(BASE, many, length), 1, 2, 0);
+}
+
+/* 74 comes before every other number, and nothing lent is changed. */
+static void outside(void) {
+    static const roomscript_limits sets[] = {
+        {0, 64, 64, 16},    {4097, 64, 64, 16}, {512, 0, 64, 16},  {512, 129, 64, 16},
+        {512, 64, 129, 16}, {512, 64, 64, 0},   {512, 64, 64, 33}, {UINT32_MAX, 64, 64, 16}};
+    static uint8_t output[1] = {9};
+    size_t at;
+    junk();
+    for (at = 0; at < sizeof sets / sizeof sets[0]; at++) {
+        expect("read", roomscript_read(sets[at], E1, 25, rows, ROWS), 1, 74, 0);
+        expect("judge_rows", roomscript_judge_rows(sets[at], rows, 0), 1, 74, 0);
+        expect("write", roomscript_write(sets[at], rows, ROWS, output, 1), 1, 74, 0);
+        expect("check", roomscript_check(sets[at], rows, ROWS), 1, 74, 0);
+        expect_ran("run", roomscript_run(sets[at], rows, 0, GIVEN, 7, store, 0), 1, 74, 0, 0);
+        expect_not_called("call", roomscript_call(sets[at], E1, 25, GIVEN, 7, rows, 0, store, 0),
+                          74, 0);
+    }
+    note("after sets outside the ranges",
+         output[0] == 9 && all(rows, 0, ROWS, 9) && all(store, 0, STORE, 9));
 }
 
 int main(void) {
@@ -158,5 +231,8 @@ int main(void) {
     check_and_run();
     call();
     empty();
+    sets();
+    largest();
+    outside();
     return failed;
 }

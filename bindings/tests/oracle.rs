@@ -1,8 +1,7 @@
 //! The answers written by hand in `edges`, asked of the reference program.
 //!
 //! The comparison takes the reference program's word for what is due. Here
-//! that word is held to the hand's, on every edge of the check, of runs and of
-//! whole calls.
+//! that word is held to the hand's, on every edge.
 
 #![forbid(unsafe_code)]
 
@@ -10,7 +9,7 @@ mod common;
 
 /// What the modules below ask.
 mod asked {
-    pub use crate::common::due::{call, check, run};
+    pub use crate::common::due::{call, check, judge_rows, read, run, write};
 }
 
 #[path = "edges/assigns.rs"]
@@ -19,15 +18,41 @@ mod assigns;
 mod borrows;
 #[path = "edges/calling.rs"]
 mod calling;
+#[path = "edges/cells.rs"]
+mod cells;
 #[path = "edges/examples.rs"]
 mod examples;
 #[path = "edges/faults.rs"]
 mod faults;
+#[path = "edges/full.rs"]
+mod full;
+#[path = "edges/given.rs"]
+mod given;
 #[path = "edges/hand.rs"]
 mod hand;
+#[path = "edges/larger.rs"]
+mod larger;
+#[path = "edges/lengths.rs"]
+mod lengths;
+#[path = "edges/limits.rs"]
+mod limits;
+#[path = "edges/listed.rs"]
+mod listed;
 #[path = "edges/places.rs"]
 mod places;
+#[path = "edges/ranges.rs"]
+mod ranges;
+#[path = "edges/reading.rs"]
+mod reading;
+#[path = "edges/rows.rs"]
+mod rows;
 #[path = "edges/running.rs"]
 mod running;
 #[path = "edges/scope.rs"]
 mod scope;
+#[path = "edges/variables.rs"]
+mod variables;
+#[path = "edges/within.rs"]
+mod within;
+#[path = "edges/writing.rs"]
+mod writing;

@@ -1,7 +1,13 @@
 //! The safe functions do not show every field of an answer, so these tests do.
 
 use super::*;
-use crate::{READINGS_LEN, ROWS_LEN, STORE_LEN};
+use crate::READINGS_LEN;
+
+const BASE: Limits = Limits::BASE;
+const ROWS: usize = BASE.row_numbers();
+const STORE: usize = BASE.store_numbers();
+/// Outside the ranges: no levels.
+const FLAT: Limits = Limits { levels: 0, ..BASE };
 
 /// `reading 7`.
 const SHORT: [u8; 9] = [0x52, 0x43, 0x53, 0x00, 0x01, 0x0B, 0x01, 0x02, 0x07];
@@ -50,40 +56,75 @@ fn not_called(number: u32, place: u64) -> CallAnswer {
     }
 }
 
-fn rows_of(script: &[u8]) -> [u32; ROWS_LEN] {
-    let mut rows = [9; ROWS_LEN];
-    assert_eq!(read(script, &mut rows).refused, 0);
+fn rows_of(script: &[u8]) -> [u32; ROWS] {
+    let mut rows = [9; ROWS];
+    assert_eq!(read(BASE, script, &mut rows).refused, 0);
     rows
 }
 
 #[test]
 fn every_field_of_a_count() {
-    let mut rows = [9; ROWS_LEN];
+    let mut rows = [9; ROWS];
     let mut output = [9; 16];
-    assert_eq!(read(&SHORT, &mut rows), counted(2));
-    assert_eq!(judge_rows(&rows), counted(2));
-    assert_eq!(write(&rows, &mut output), counted(9));
-    assert_eq!(check(&rows), counted(2));
+    assert_eq!(read(BASE, &SHORT, &mut rows), counted(2));
+    assert_eq!(judge_rows(BASE, &rows), counted(2));
+    assert_eq!(write(BASE, &rows, &mut output), counted(9));
+    assert_eq!(check(BASE, &rows), counted(2));
 }
 
 #[test]
 fn every_field_of_a_refusal() {
-    let mut rows = [9; ROWS_LEN];
-    assert_eq!(read(&SHORT, &mut []), refused(2, 0));
-    assert_eq!(read(&SHORT[..8], &mut rows), refused(12, 8));
-    assert_eq!(judge_rows(&[]), refused(2, 0));
-    assert_eq!(judge_rows(&rows), refused(12, 0));
-    assert_eq!(write(&rows, &mut []), refused(12, 0));
-    assert_eq!(read(&SHORT, &mut rows), counted(2));
-    assert_eq!(write(&rows, &mut [0; 8]), refused(5, 0));
-    assert_eq!(check(&[]), refused(2, 0));
-    assert_eq!(check(&[0; ROWS_LEN]), refused(12, 0));
-    assert_eq!(check(&rows_of(&NOWHERE)), refused(31, 1));
+    let mut rows = [9; ROWS];
+    assert_eq!(read(BASE, &SHORT, &mut []), refused(2, 0));
+    assert_eq!(read(BASE, &SHORT[..8], &mut rows), refused(12, 8));
+    assert_eq!(judge_rows(BASE, &[]), refused(2, 0));
+    assert_eq!(judge_rows(BASE, &rows), refused(12, 0));
+    assert_eq!(write(BASE, &rows, &mut []), refused(12, 0));
+    assert_eq!(read(BASE, &SHORT, &mut rows), counted(2));
+    assert_eq!(write(BASE, &rows, &mut [0; 8]), refused(5, 0));
+    assert_eq!(check(BASE, &[]), refused(2, 0));
+    assert_eq!(check(BASE, &[0; ROWS]), refused(12, 0));
+    assert_eq!(check(BASE, &rows_of(&NOWHERE)), refused(31, 1));
+}
+
+#[test]
+fn every_field_of_a_refused_set() {
+    let (mut rows, mut store) = ([9; ROWS], [9; STORE]);
+    assert_eq!(read(FLAT, &SHORT, &mut rows), refused(74, 0));
+    assert_eq!(judge_rows(FLAT, &rows), refused(74, 0));
+    assert_eq!(write(FLAT, &rows, &mut [9; 16]), refused(74, 0));
+    assert_eq!(check(FLAT, &rows), refused(74, 0));
+    let ran = run(FLAT, &rows, &READINGS, &mut store);
+    assert_eq!(ran, stopped(1, 74, 0));
+    let called = call(FLAT, &SHORT, &READINGS, &mut rows, &mut store);
+    assert_eq!(called, not_called(74, 0));
+    assert_eq!((rows, store), ([9; ROWS], [9; STORE]));
+}
+
+/// Each number of a set arrives where it is looked at.
+#[test]
+fn every_field_of_a_set() {
+    let limits = |terms, variables, boxes, levels| Limits {
+        terms,
+        variables,
+        boxes,
+        levels,
+    };
+    let reads = |limits: Limits, script: &[u8]| {
+        let mut rows = vec![9; limits.row_numbers()];
+        read(limits, script, &mut rows)
+    };
+    assert_eq!(reads(limits(4, 1, 1, 3), &BOXED), counted(4));
+    assert_eq!(reads(limits(3, 1, 1, 3), &BOXED), refused(16, 10));
+    assert_eq!(reads(limits(4, 1, 0, 3), &BOXED), refused(17, 7));
+    assert_eq!(reads(limits(4, 1, 1, 2), &BOXED), refused(15, 8));
+    assert_eq!(reads(limits(2, 6, 0, 2), &NOWHERE), counted(2));
+    assert_eq!(reads(limits(2, 5, 0, 2), &NOWHERE), refused(14, 8));
 }
 
 #[test]
 fn every_field_of_a_run() {
-    let mut store = [9; STORE_LEN];
+    let mut store = [9; STORE];
     let ran = RunAnswer {
         outcome: 0,
         number: 0,
@@ -91,21 +132,27 @@ fn every_field_of_a_run() {
         value: 1,
     };
     let boxed = rows_of(&BOXED);
-    assert_eq!(run(&boxed, &READINGS, &mut store), ran);
+    assert_eq!(run(BASE, &boxed, &READINGS, &mut store), ran);
     let nowhere = rows_of(&NOWHERE);
-    assert_eq!(run(&nowhere, &READINGS, &mut store), stopped(2, 60, 1));
-    assert_eq!(run(&boxed[5..], &READINGS, &mut store), stopped(1, 2, 0));
-    assert_eq!(run(&boxed, &READINGS, &mut []), stopped(1, 3, 0));
-    assert_eq!(run(&boxed, &[], &mut store), stopped(1, 4, 0));
+    assert_eq!(
+        run(BASE, &nowhere, &READINGS, &mut store),
+        stopped(2, 60, 1)
+    );
+    assert_eq!(
+        run(BASE, &boxed[5..], &READINGS, &mut store),
+        stopped(1, 2, 0)
+    );
+    assert_eq!(run(BASE, &boxed, &READINGS, &mut []), stopped(1, 3, 0));
+    assert_eq!(run(BASE, &boxed, &[], &mut store), stopped(1, 4, 0));
     let mut left = boxed;
     left[5 * 4 + 4] = 1;
-    assert_eq!(run(&left, &READINGS, &mut store), stopped(1, 19, 4));
+    assert_eq!(run(BASE, &left, &READINGS, &mut store), stopped(1, 19, 4));
 }
 
 #[test]
 fn every_field_of_a_call() {
-    let (mut rows, mut store) = ([9; ROWS_LEN], [9; STORE_LEN]);
-    let mut called = |script: &[u8]| call(script, &READINGS, &mut rows, &mut store);
+    let (mut rows, mut store) = ([9; ROWS], [9; STORE]);
+    let mut called = |script: &[u8]| call(BASE, script, &READINGS, &mut rows, &mut store);
     let whole = CallAnswer {
         refused: 0,
         number: 0,
@@ -115,13 +162,13 @@ fn every_field_of_a_call() {
         cells: 1,
     };
     assert_eq!(called(&BOXED), whole);
-    assert_eq!(called(&[0; 4097]), not_called(1, 0));
+    assert_eq!(called(&[0; 32_769]), not_called(1, 0));
     assert_eq!(called(&BOXED[..11]), not_called(12, 11));
     assert_eq!(called(&NOWHERE), not_called(31, 1));
-    let no_rows = call(&BOXED, &READINGS, &mut [], &mut store);
+    let no_rows = call(BASE, &BOXED, &READINGS, &mut [], &mut store);
     assert_eq!(no_rows, not_called(2, 0));
-    let no_store = call(&BOXED, &READINGS, &mut rows, &mut []);
+    let no_store = call(BASE, &BOXED, &READINGS, &mut rows, &mut []);
     assert_eq!(no_store, not_called(3, 0));
-    let no_readings = call(&BOXED, &[], &mut rows, &mut store);
+    let no_readings = call(BASE, &BOXED, &[], &mut rows, &mut store);
     assert_eq!(no_readings, not_called(4, 0));
 }

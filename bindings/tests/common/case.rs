@@ -1,7 +1,8 @@
 //! One case of a comparison, and how it is shown when it fails.
 
 use super::guarded::{Cell, Guarded};
-use roomscript::FIELDS;
+use super::sets::shown;
+use roomscript::{Limits, FIELDS};
 use std::fmt::{self, Debug, Display, Formatter, LowerHex};
 
 /// What both programs were given.
@@ -19,6 +20,8 @@ pub struct Case<'a> {
     pub seed: Option<u64>,
     /// Counted from 0; a run of one case more than this meets it again.
     pub number: u64,
+    /// The set that was handed in.
+    pub limits: Limits,
     pub input: Input<'a>,
 }
 
@@ -58,14 +61,27 @@ impl Case<'_> {
             format_args!("guards of the {what} are written"),
         );
     }
+
+    /// A refusal by the caller leaves a buffer that was lent full of junk as it
+    /// was.
+    #[track_caller]
+    pub fn unchanged_by_caller<T: Cell>(&self, number: u32, lent: &Guarded<T>, what: &str) {
+        if number < 10 || number == 74 {
+            self.expect(
+                lent.junk_from(0),
+                format_args!("{what}: a refusal by the caller changes nothing"),
+            );
+        }
+    }
 }
 
 impl Display for Case<'_> {
     fn fmt(&self, to: &mut Formatter<'_>) -> fmt::Result {
         match self.seed {
-            Some(seed) => writeln!(to, "seed {seed}, case {}", self.number)?,
-            None => writeln!(to, "case {} of all", self.number)?,
+            Some(seed) => write!(to, "seed {seed}, case {}", self.number)?,
+            None => write!(to, "case {} of all", self.number)?,
         }
+        writeln!(to, ", set {}", shown(self.limits))?;
         match self.input {
             Input::Script(script) | Input::Call(script, _) => {
                 write!(to, "script of {}", hex_bytes(script))?

@@ -93,8 +93,8 @@ pub fn edges() -> Vec<Example> {
             "accepted 130 call 6 cells 64",
         ),
         example("boxes-65", &boxes_beside(65), "refused 17 at 391"),
-        example("bytes-4096", &bytes(4096), "refused 19 at 25"),
-        example("bytes-4097", &bytes(4097), "refused 1 at 0"),
+        example("bytes-32768", &bytes(32_768), "refused 19 at 25"),
+        example("bytes-32769", &bytes(32_769), "refused 1 at 0"),
         example("no-bytes", &[], "refused 12 at 0"),
     ];
     for (name, length) in [("readings-short", 31), ("nothing", 0)] {

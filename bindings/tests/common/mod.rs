@@ -7,6 +7,7 @@ pub mod due;
 pub mod examples;
 pub mod guarded;
 pub mod inputs;
+pub mod sets;
 pub mod settings;
 pub mod store;
 pub mod tally;

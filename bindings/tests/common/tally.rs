@@ -8,14 +8,14 @@ use std::io::{self, Write};
 
 /// Number 0 stands for success.
 pub struct Tally {
-    operation: &'static str,
+    operation: String,
     counts: BTreeMap<u32, u64>,
 }
 
 impl Tally {
-    pub fn new(operation: &'static str) -> Self {
+    pub fn new(operation: impl Into<String>) -> Self {
         Tally {
-            operation,
+            operation: operation.into(),
             counts: BTreeMap::new(),
         }
     }
@@ -45,13 +45,13 @@ impl Tally {
     /// The same where some more numbers may occur, but are rare.
     pub fn report_with(&self, settings: &Settings, expected: &[u32], rare: &[u32]) {
         let name = format!("{} (seed {})", self.operation, settings.seed);
-        let must: &[u32] = if settings.is_whole() { expected } else { &[] };
+        let must: &[u32] = if settings.whole { expected } else { &[] };
         self.show(&name, must, &[expected, rare].concat());
     }
 
     /// The same for cases that are all that there are.
     pub fn report_all(&self, expected: &[u32]) {
-        self.show(self.operation, expected, expected);
+        self.show(&self.operation, expected, expected);
     }
 
     fn show(&self, name: &str, must: &[u32], may: &[u32]) {

@@ -1,6 +1,6 @@
 //! Terms as rows, so that scripts can be written close to their notation.
 
-use roomscript::{FIELDS, ROWS_LEN};
+use roomscript::{Limits, FIELDS};
 
 pub type Row = [u32; FIELDS];
 
@@ -59,17 +59,29 @@ pub fn block(terms: &[Term]) -> Term {
     [vec![[0x0B, terms.len() as u32, 0, 0, 0]], terms.concat()].concat()
 }
 
-/// All rows of a script with these terms in its outermost block.
-pub fn rows_of(terms: &[Term]) -> Vec<u32> {
+/// All rows of a script with these terms in its outermost block, under a set
+/// whose terms are not fewer.
+pub fn rows_under(limits: Limits, terms: &[Term]) -> Vec<u32> {
     let mut rows = block(terms).concat();
-    rows.resize(ROWS_LEN, 0);
+    assert!(rows.len() <= limits.row_numbers(), "terms of the set");
+    rows.resize(limits.row_numbers(), 0);
     rows
+}
+
+/// The same under the language's own set.
+pub fn rows_of(terms: &[Term]) -> Vec<u32> {
+    rows_under(Limits::BASE, terms)
 }
 
 /// The bytes of a script with these terms in its outermost block.
 pub fn script_of(terms: &[Term]) -> Vec<u8> {
+    bytes_of(&block(terms))
+}
+
+/// The bytes of a script with these rows.
+pub fn bytes_of(rows: &[Row]) -> Vec<u8> {
     let mut script = b"RCS\x00\x01".to_vec();
-    for row in block(terms) {
+    for row in rows {
         let bytes = row.map(|field| field as u8);
         let operands = match row[0] {
             0x01 => &row[1].to_be_bytes(),

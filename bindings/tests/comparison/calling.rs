@@ -4,13 +4,13 @@
 use crate::common::case::{Case, Input};
 use crate::common::due;
 use crate::common::guarded::Guarded;
-use crate::common::settings::Settings;
 use crate::common::store::is_tidy;
 use crate::common::tally::Tally;
 use crate::layers::AUTHOR;
+use crate::sets::{length, near_misses_under, Sets};
 use reference::random::Random;
 use reference::Generator;
-use roomscript::{Called, Refusal, MAX_BYTES, ROWS_LEN, STORE_LEN};
+use roomscript::{Called, Limits, Refusal, MAX_BYTES};
 
 /// Buffers that both programs write, one each.
 struct Written {
@@ -57,16 +57,17 @@ impl Buffers {
 
     /// Lends the script and the readings, and junk to write on, seldom of a
     /// length that is refused.
-    fn lend(&mut self, script: &[u8], given: &[i32], random: &mut Random) {
-        let junk = random.bits() as u32;
-        let mut length = |right: usize| match random.below(50) {
-            0 => random.pick(&[0, right - 1, right + 1, 2 * right]),
-            _ => right,
+    fn lend(&mut self, case: &Case, made_for: Limits, random: &mut Random) {
+        let Input::Call(script, given) = case.input else {
+            panic!("a case of another kind");
         };
-        self.rows.fill(length(ROWS_LEN), junk);
-        self.store.fill(length(STORE_LEN), !junk);
+        let (limits, junk) = (case.limits, random.bits() as u32);
+        let rows = length(random, limits.row_numbers(), made_for.row_numbers());
+        self.rows.fill(rows, junk);
+        let store = length(random, limits.store_numbers(), made_for.store_numbers());
+        self.store.fill(store, !junk);
         let mut given = given.to_vec();
-        given.resize(length(given.len()), 5);
+        given.resize(length(random, given.len(), given.len()), 5);
         self.script.hold(script, junk);
         self.readings.hold(&given, junk);
     }
@@ -85,6 +86,7 @@ fn call_by_both(case: &Case, script: &[u8], buffers: &mut Buffers) -> Result<Cal
     let Buffers { rows, store, .. } = buffers;
     let given = buffers.readings.lent().to_vec();
     let answer = roomscript::call(
+        case.limits,
         buffers.script.lent(),
         buffers.readings.lent(),
         rows.ours.lent_mut(),
@@ -92,7 +94,7 @@ fn call_by_both(case: &Case, script: &[u8], buffers: &mut Buffers) -> Result<Cal
     );
     let (other_rows, other_store) = (rows.other.lent_mut(), store.other.lent_mut());
     let lengths = [other_rows.len(), other_store.len(), given.len()];
-    let expected = due::call(script, &given, other_rows, other_store);
+    let expected = due::call(case.limits, script, &given, other_rows, other_store);
     case.equal(
         answer,
         expected,
@@ -101,53 +103,74 @@ fn call_by_both(case: &Case, script: &[u8], buffers: &mut Buffers) -> Result<Cal
     rows.compare(case, "rows after call");
     store.compare(case, "store after call");
     buffers.only_read(case, script, &given);
-    if let Ok(called) = answer {
-        let tidy = is_tidy(buffers.store.ours.lent(), called.cells);
-        case.expect(tidy, "the store after a call is not tidy");
+    match answer {
+        Ok(called) => {
+            let tidy = is_tidy(case.limits, buffers.store.ours.lent(), called.cells);
+            case.expect(tidy, "the store after a call is not tidy");
+        }
+        Err(refusal) => {
+            let Buffers { rows, store, .. } = buffers;
+            case.unchanged_by_caller(refusal.number, &rows.ours, "rows after call");
+            case.expect(store.ours.junk_from(0), "store after a refusal");
+        }
     }
     answer
 }
 
 type Make = fn(&mut Generator, &mut Random, &mut Vec<u8>);
 
-fn compare(make: Make, mut tally: Tally, expected: &[u32], rare: &[u32]) {
-    let settings = Settings::from_environment();
+fn compare(make: Make, name: &str, sets: Sets, expected: &[u32], rare: &[u32]) {
+    let settings = sets.settings();
     let mut generator = Generator::new(settings.seed);
     let mut random = Random::new(!settings.seed);
     let mut buffers = Buffers::new();
+    let mut tally = Tally::new(format!("call, {name}, {}", sets.name()));
     let mut script = Vec::new();
     for number in 0..settings.cases {
+        let limits = sets.next(&mut generator);
         make(&mut generator, &mut random, &mut script);
         let given = generator.readings();
         let case = Case {
             seed: Some(settings.seed),
             number,
+            limits,
             input: Input::Call(&script, &given),
         };
-        buffers.lend(&script, &given, &mut random);
+        buffers.lend(&case, due::ours(generator.limits()), &mut random);
         let answer = call_by_both(&case, &script, &mut buffers);
         tally.count(answer.map(|called| called.terms));
     }
     tally.report_with(&settings, expected, rare);
 }
 
-/// The bytes of rows that the generator made.
-fn written(rows: &[u32], script: &mut Vec<u8>) {
+/// The bytes of rows that the generator makes, under its set or, where no
+/// script is within that, under the least one above it that has room.
+fn written(
+    generator: &mut Generator,
+    make: fn(&mut Generator, &mut Vec<u32>),
+    script: &mut Vec<u8>,
+) {
+    let own = generator.limits();
+    let roomy = reference::Limits {
+        terms: own.terms.max(2),
+        levels: own.levels.max(2),
+        ..own
+    };
+    generator.set_limits(roomy);
+    let mut rows = Vec::new();
+    make(generator, &mut rows);
+    generator.set_limits(own);
     script.resize(MAX_BYTES, 0);
-    let length = reference::write(rows, script).expect("rows of a script");
+    let length = reference::write(roomy, &rows, script).expect("rows of a script");
     script.truncate(length as usize);
 }
 
 fn accepted(generator: &mut Generator, _: &mut Random, script: &mut Vec<u8>) {
-    let mut rows = Vec::new();
-    generator.accepted_rows(&mut rows);
-    written(&rows, script);
+    written(generator, Generator::accepted_rows, script);
 }
 
 fn near_miss(generator: &mut Generator, _: &mut Random, script: &mut Vec<u8>) {
-    let mut rows = Vec::new();
-    generator.near_miss_rows(&mut rows);
-    written(&rows, script);
+    written(generator, Generator::near_miss_rows, script);
 }
 
 /// Half of them are accepted scripts with a byte or two changed, so that they
@@ -167,19 +190,46 @@ fn damaged(generator: &mut Generator, random: &mut Random, script: &mut Vec<u8>)
     }
 }
 
-#[test]
-fn accepted_scripts_are_called_alike() {
-    compare(accepted, Tally::new("call, accepted"), &[0, 2, 3, 4], &[]);
+/// Under a set without room for any script the second term is one too many, or
+/// too deep.
+fn without_room(sets: Sets) -> &'static [u32] {
+    match sets {
+        Sets::Within => &[15, 16],
+        _ => &[],
+    }
 }
 
-#[test]
-fn near_misses_are_called_alike() {
-    let expected = [&AUTHOR[..], &[2, 3, 4]].concat();
-    compare(near_miss, Tally::new("call, near misses"), &expected, &[]);
+fn accepted_scripts(sets: Sets) {
+    let expected = sets.expected(&[0, 2, 3, 4], &[2, 3, 4, 16]);
+    compare(accepted, "accepted", sets, &expected, without_room(sets));
 }
 
-#[test]
-fn damaged_scripts_are_called_alike() {
-    let expected: Vec<u32> = (0..=4).chain(10..=19).collect();
-    compare(damaged, Tally::new("call, damaged"), &expected, &AUTHOR);
+fn near_misses(sets: Sets) {
+    let (author, rare) = near_misses_under(sets);
+    let expected = sets.expected(&[&author[..], &[2, 3, 4]].concat(), &[2, 3, 4, 16]);
+    let rare = [rare, without_room(sets)].concat();
+    compare(near_miss, "near misses", sets, &expected, &rare);
+}
+
+fn damaged_scripts(sets: Sets) {
+    let all: Vec<u32> = (0..=4).chain(10..=19).collect();
+    let in_least = [1, 2, 3, 4, 10, 11, 12, 13, 14, 16, 18];
+    let expected = sets.expected(&all, &in_least);
+    let rare: &[u32] = match sets {
+        Sets::LEAST | Sets::Outside => &[],
+        _ => &AUTHOR,
+    };
+    compare(damaged, "damaged", sets, &expected, rare);
+}
+
+mod accepted_scripts_are_called_alike {
+    crate::under_each_set!(super::accepted_scripts);
+}
+
+mod near_misses_are_called_alike {
+    crate::under_each_set!(super::near_misses);
+}
+
+mod damaged_scripts_are_called_alike {
+    crate::under_each_set!(super::damaged_scripts);
 }

@@ -4,7 +4,9 @@ use crate::alphabet::{sequences, Alphabet};
 use crate::common::case::{Case, Input};
 use crate::common::terms::*;
 use crate::layers::{Layers, Room, FAULTS};
-use roomscript::ROWS_LEN;
+use roomscript::Limits;
+
+const LIMITS: Limits = Limits::BASE;
 
 const READINGS: [i32; 8] = [1, 2, 3, 4, 5, 6, 7, 8];
 
@@ -12,7 +14,7 @@ const READINGS: [i32; 8] = [1, 2, 3, 4, 5, 6, 7, 8];
 /// at most so many terms in all. Answers how many there are.
 fn compare(opening: &[Term], alphabet: &Alphabet, most: usize, layers: &mut Layers) -> u64 {
     let sizes = alphabet.terms(most);
-    let mut rows = vec![0; ROWS_LEN];
+    let mut rows = vec![0; LIMITS.row_numbers()];
     let mut number = 0;
     let mut first = block(opening);
     for size in 1..=most {
@@ -25,9 +27,13 @@ fn compare(opening: &[Term], alphabet: &Alphabet, most: usize, layers: &mut Laye
             let case = Case {
                 seed: None,
                 number,
+                limits: LIMITS,
                 input: Input::Run(&rows, &READINGS),
             };
-            let room = Room::whole(number as u32);
+            let room = Room {
+                length: LIMITS.store_numbers(),
+                junk: number as u32,
+            };
             layers.check_and_run(&case, &rows, &READINGS, room);
             number += 1;
         });
@@ -50,7 +56,7 @@ fn compare_all(
 fn all_scripts_of_up_to_five_terms() {
     let places = [(0, 0), (0, 1), (1, 0), (1, 1)];
     let alphabet = Alphabet::new(&places, &[0, 1]);
-    let mut layers = Layers::new("check, up to five terms", "run, up to five terms");
+    let mut layers = Layers::new("up to five terms");
     // The outermost block is one of the five.
     let scripts = compare(&[], &alphabet, 4, &mut layers);
     assert_eq!(scripts, 348_786);
@@ -66,7 +72,7 @@ fn all_scripts_of_up_to_five_terms() {
 fn all_scripts_with_one_variable_and_up_to_four_terms_more() {
     let places = [(0, 0), (0, 1), (1, 0), (1, 1)];
     let alphabet = Alphabet::new(&places, &[1]);
-    let mut layers = Layers::new("check, four terms more", "run, four terms more");
+    let mut layers = Layers::new("four terms more");
     let openings = [vec![let_(0, number(1))], vec![let_(0, boxed(number(1)))]];
     let scripts = compare_all(&openings, &alphabet, 4, &mut layers);
     assert_eq!(scripts, 623_520);
@@ -99,7 +105,7 @@ fn openings() -> Vec<Vec<Term>> {
 fn all_scripts_with_two_variables_and_up_to_three_terms_more() {
     let places = [(0, 0), (0, 1), (0, 2), (1, 0), (1, 1), (1, 2)];
     let alphabet = Alphabet::new(&places, &[2]);
-    let mut layers = Layers::new("check, three terms more", "run, three terms more");
+    let mut layers = Layers::new("three terms more");
     let scripts = compare_all(&openings(), &alphabet, 3, &mut layers);
     assert_eq!(scripts, 401_544);
     let checked = [0, 30, 32, 33, 34, 35, 36, 37, 38, 39, 40, 41, 43];

@@ -2,128 +2,193 @@
 
 use crate::common::case::{Case, Input};
 use crate::common::settings::Settings;
-use crate::layers::{Layers, Room, AUTHOR, FAULTS};
+use crate::layers::{Layers, Room, FAULTS};
+use crate::sets::{author_under, length, near_misses_under, Sets};
 use reference::random::Random;
 use reference::Generator;
-use roomscript::{READINGS_LEN, STORE_LEN};
+use roomscript::{Limits, READINGS_LEN};
 
 const EXTREMES: [i32; 7] = [i32::MIN, i32::MIN + 1, -1, 0, 1, i32::MAX - 1, i32::MAX];
 
 /// The numbers that rows of any form and length add.
 const FORM: [u32; 8] = [2, 12, 13, 14, 15, 17, 18, 19];
 
-fn ordinary(random: &mut Random) -> [i32; READINGS_LEN] {
-    [(); READINGS_LEN].map(|()| random.below(400) as i32)
+fn ordinary(random: &mut Random) -> Vec<i32> {
+    (0..READINGS_LEN)
+        .map(|_| random.below(400) as i32)
+        .collect()
 }
 
-fn extreme(random: &mut Random) -> [i32; READINGS_LEN] {
-    [(); READINGS_LEN].map(|()| random.pick(&EXTREMES))
+fn extreme(random: &mut Random) -> Vec<i32> {
+    (0..READINGS_LEN).map(|_| random.pick(&EXTREMES)).collect()
 }
 
-/// Both programs check and run the rows that are made, with each set of
-/// readings that is given for them. The random numbers are a sequence of their
-/// own, so that the rows depend on nothing else.
-fn compare(
-    layers: &mut Layers,
-    make: impl Fn(&mut Generator, u64, &mut Vec<u32>),
-    give: impl Fn(&mut Generator, &mut Random) -> Vec<Vec<i32>>,
-    length: fn(&mut Random) -> usize,
-) -> Settings {
-    let settings = Settings::from_environment();
+/// How the cases of a comparison are made: rows, the readings that they are
+/// run with, one after the other, and the length of the store.
+struct Kind {
+    name: &'static str,
+    rows: fn(&mut Generator, u64, &mut Vec<u32>),
+    readings: fn(&mut Random) -> Vec<Vec<i32>>,
+    store: fn(&mut Random, Limits) -> usize,
+}
+
+/// Both programs check and run the rows that are made, with all readings that
+/// are given for them. The random numbers are a sequence of their own, so that
+/// the rows depend on nothing else.
+fn compare(kind: &Kind, sets: Sets) -> (Settings, Layers) {
+    let settings = sets.settings();
+    let mut layers = Layers::new(&format!("{}, {}", kind.name, sets.name()));
     let mut generator = Generator::new(settings.seed);
     let mut random = Random::new(!settings.seed);
     let mut rows = Vec::new();
     for number in 0..settings.cases {
-        make(&mut generator, number, &mut rows);
-        for given in give(&mut generator, &mut random) {
+        let limits = sets.next(&mut generator);
+        (kind.rows)(&mut generator, number, &mut rows);
+        if sets == Sets::Outside {
+            rows.resize(length(&mut random, limits.row_numbers(), rows.len()), 0);
+        }
+        for given in (kind.readings)(&mut random) {
             let case = Case {
                 seed: Some(settings.seed),
                 number,
+                limits,
                 input: Input::Run(&rows, &given),
             };
+            let made_for = generator.limits().store_numbers();
             let room = Room {
-                length: length(&mut random),
+                length: match sets {
+                    Sets::Outside => length(&mut random, limits.store_numbers(), made_for),
+                    _ => (kind.store)(&mut random, limits),
+                },
                 junk: random.bits() as u32,
             };
             layers.check_and_run(&case, &rows, &given, room);
         }
     }
-    settings
+    (settings, layers)
 }
 
-fn whole(_: &mut Random) -> usize {
-    STORE_LEN
+fn whole(_: &mut Random, limits: Limits) -> usize {
+    limits.store_numbers()
 }
 
-#[test]
-fn accepted_scripts_are_checked_and_run_alike() {
-    let mut layers = Layers::new("check, steered", "run, steered");
-    let settings = compare(
-        &mut layers,
-        |generator, _, rows| generator.accepted_rows(rows),
-        |_, random| vec![ordinary(random).to_vec(), extreme(random).to_vec()],
-        whole,
-    );
+fn steered(sets: Sets) {
+    let kind = Kind {
+        name: "steered",
+        rows: |generator, _, rows| generator.accepted_rows(rows),
+        readings: |random| vec![ordinary(random), extreme(random)],
+        store: whole,
+    };
+    let (settings, layers) = compare(&kind, sets);
     // All of them are accepted, and no fault is met.
-    layers.checked.report(&settings, &[0]);
-    layers.ran.report(&settings, &[0]);
+    let expected = sets.expected(&[0], &[12]);
+    let rare = without_room(sets);
+    layers.checked.report_with(&settings, &expected, rare);
+    layers.ran.report_with(&settings, &expected, rare);
+    if sets.have_room() {
+        layers.reached.report(&settings);
+    }
 }
 
-/// Rows of the right form, checked and then run unchecked.
-fn compare_formed(make: fn(&mut Generator, &mut Vec<u32>), mut layers: Layers) {
-    let settings = compare(
-        &mut layers,
-        |generator, _, rows| make(generator, rows),
-        |generator, _| vec![generator.readings().to_vec()],
-        whole,
-    );
-    layers.checked.report(&settings, &AUTHOR);
-    layers.ran.report(&settings, &FAULTS);
+/// Under a set without room for any script the second term finds no row, or is
+/// too deep.
+fn without_room(sets: Sets) -> &'static [u32] {
+    match sets {
+        Sets::Within => &[12, 15],
+        _ => &[],
+    }
 }
 
-#[test]
-fn near_misses_are_checked_and_run_alike() {
-    let layers = Layers::new("check, near misses", "run, near misses");
-    compare_formed(Generator::near_miss_rows, layers);
+/// Rows of the right form, checked and then run unchecked, with the numbers of
+/// the check that must occur and those that may.
+fn formed(
+    name: &'static str,
+    rows: fn(&mut Generator, u64, &mut Vec<u32>),
+    sets: Sets,
+    (author, rare): (Vec<u32>, &[u32]),
+) {
+    let kind = Kind {
+        name,
+        rows,
+        readings: |random| vec![any_value(random)],
+        store: whole,
+    };
+    let (settings, layers) = compare(&kind, sets);
+    let author = sets.expected(&author, &[12]);
+    let rare = [rare, without_room(sets)].concat();
+    layers.checked.report_with(&settings, &author, &rare);
+    let faults = sets.expected(&FAULTS, &[12]);
+    layers
+        .ran
+        .report_with(&settings, &faults, without_room(sets));
 }
 
-#[test]
-fn wild_rows_are_checked_and_run_alike() {
-    let layers = Layers::new("check, wild rows", "run, wild rows");
-    compare_formed(Generator::wild_rows, layers);
+fn any_value(random: &mut Random) -> Vec<i32> {
+    let any = |random: &mut Random| match random.below(6) {
+        0 => random.bits() as i32,
+        1 => random.pick(&EXTREMES),
+        _ => random.below(400) as i32,
+    };
+    (0..READINGS_LEN).map(|_| any(random)).collect()
+}
+
+fn near_misses(sets: Sets) {
+    let rows = |generator: &mut Generator, _, rows: &mut Vec<u32>| generator.near_miss_rows(rows);
+    formed("near misses", rows, sets, near_misses_under(sets));
+}
+
+fn wild(sets: Sets) {
+    let rows = |generator: &mut Generator, _, rows: &mut Vec<u32>| generator.wild_rows(rows);
+    formed("wild rows", rows, sets, (author_under(sets), &[]));
 }
 
 /// Seldom a length that is refused.
-fn store_length(random: &mut Random) -> usize {
-    if random.percent(97) {
-        return STORE_LEN;
-    }
-    random.pick(&[0, 1, 3, STORE_LEN - 1, STORE_LEN + 1, 2 * STORE_LEN])
+fn any_store(random: &mut Random, limits: Limits) -> usize {
+    let right = limits.store_numbers();
+    length(random, right, right)
 }
 
 /// Seldom too many or too few.
-fn any_readings(random: &mut Random) -> Vec<i32> {
-    let mut given = extreme(random).to_vec();
+fn any_readings(random: &mut Random) -> Vec<Vec<i32>> {
+    let mut given = extreme(random);
     if random.percent(3) {
         given.resize(random.pick(&[0, 1, 7, 9, 16]), 5);
     }
-    given
+    vec![given]
 }
 
-#[test]
-fn any_rows_are_checked_and_run_alike() {
-    let mut layers = Layers::new("check, any rows", "run, any rows");
-    let settings = compare(
-        &mut layers,
-        |generator, number, rows| match number % 2 {
+fn any_rows(sets: Sets) {
+    let kind = Kind {
+        name: "any rows",
+        rows: |generator, number, rows| match number % 2 {
             0 => generator.rows_any_length(rows),
             _ => generator.mixed_rows(rows),
         },
-        |_, random| vec![any_readings(random)],
-        store_length,
-    );
-    let checked = [&AUTHOR[..], &FORM].concat();
+        readings: any_readings,
+        store: any_store,
+    };
+    let (settings, layers) = compare(&kind, sets);
+    let in_least = [2, 12, 13, 14, 18];
+    let checked = [&author_under(sets)[..], &FORM].concat();
+    let checked = sets.expected(&checked, &in_least);
     layers.checked.report(&settings, &checked);
     let ran = [&FAULTS[..], &FORM, &[3, 4]].concat();
+    let ran = sets.expected(&ran, &[&in_least[..], &[3, 4]].concat());
     layers.ran.report(&settings, &ran);
+}
+
+mod accepted_scripts_are_checked_and_run_alike {
+    crate::under_each_set!(super::steered);
+}
+
+mod near_misses_are_checked_and_run_alike {
+    crate::under_each_set!(super::near_misses);
+}
+
+mod wild_rows_are_checked_and_run_alike {
+    crate::under_each_set!(super::wild);
+}
+
+mod any_rows_are_checked_and_run_alike {
+    crate::under_each_set!(super::any_rows);
 }

@@ -5,7 +5,8 @@ use crate::common::guarded::Guarded;
 use crate::common::store::is_tidy;
 use crate::common::tally::Tally;
 use crate::common::{due, Answer, RunAnswer};
-use roomscript::{FIELDS, STORE_LEN};
+use crate::reached::Reached;
+use roomscript::{Stop, FIELDS, READINGS_LEN};
 
 const BOX: u32 = 7;
 
@@ -22,28 +23,34 @@ pub struct Layers {
     other: Guarded<u32>,
     pub checked: Tally,
     pub ran: Tally,
+    /// By the scripts that the check accepts.
+    pub reached: Reached,
 }
 
 impl Layers {
-    pub fn new(checked: &'static str, ran: &'static str) -> Self {
+    pub fn new(what: &str) -> Self {
         Layers {
             rows: Guarded::new(),
             readings: Guarded::new(),
             ours: Guarded::new(),
             other: Guarded::new(),
-            checked: Tally::new(checked),
-            ran: Tally::new(ran),
+            checked: Tally::new(format!("check, {what}")),
+            ran: Tally::new(format!("run, {what}")),
+            reached: Reached::new(format!("check, {what}")),
         }
     }
 
     /// Checks rows by both. The rows stay as they are.
     pub fn check(&mut self, case: &Case, rows: &[u32], junk: u32) -> Answer {
         self.rows.hold(rows, junk);
-        let answer = roomscript::check(self.rows.lent());
-        case.equal(answer, due::check(rows), "answer of check");
+        let answer = roomscript::check(case.limits, self.rows.lent());
+        case.equal(answer, due::check(case.limits, rows), "answer of check");
         case.same(self.rows.lent(), rows, "rows after check");
         case.guarded(&self.rows, "rows after check");
         self.checked.count(answer);
+        if let Ok(terms) = answer {
+            self.reached.count(case.limits, rows, terms);
+        }
         answer
     }
 
@@ -54,8 +61,9 @@ impl Layers {
         ours.fill(room.length, room.junk);
         other.fill(room.length, room.junk);
         self.readings.hold(given, room.junk);
-        let answer = roomscript::run(self.rows.lent(), self.readings.lent(), ours.lent_mut());
-        let expected = due::run(rows, given, other.lent_mut());
+        let (lent, readings) = (self.rows.lent(), self.readings.lent());
+        let answer = roomscript::run(case.limits, lent, readings, ours.lent_mut());
+        let expected = due::run(case.limits, rows, given, other.lent_mut());
         let length = room.length;
         case.equal(
             answer,
@@ -68,6 +76,9 @@ impl Layers {
         case.guarded(&self.rows, "rows after run");
         case.same(self.readings.lent(), given, "readings after run");
         case.guarded(&self.readings, "readings after run");
+        if let Err(Stop::Refused(_)) = answer {
+            case.expect(self.ours.junk_from(0), "store after a refusal");
+        }
         self.ran.count_run(answer);
         answer
     }
@@ -81,7 +92,7 @@ impl Layers {
         };
         let boxes = rows.chunks(FIELDS).filter(|row| row[0] == BOX).count();
         case.equal(ran.cells, boxes as u32, "cells of an accepted script");
-        let tidy = is_tidy(self.ours.lent(), ran.cells);
+        let tidy = is_tidy(case.limits, self.ours.lent(), ran.cells);
         case.expect(tidy, "the store after an accepted script is not tidy");
     }
 
@@ -89,7 +100,8 @@ impl Layers {
     pub fn check_and_run(&mut self, case: &Case, rows: &[u32], given: &[i32], room: Room) {
         let checked = self.check(case, rows, room.junk);
         let ran = self.run(case, rows, given, room);
-        if checked.is_ok() && room.length == STORE_LEN && given.len() == roomscript::READINGS_LEN {
+        let whole = room.length == case.limits.store_numbers() && given.len() == READINGS_LEN;
+        if checked.is_ok() && whole {
             self.as_demanded(case, rows, ran);
         }
     }
@@ -100,13 +112,4 @@ impl Layers {
 pub struct Room {
     pub length: usize,
     pub junk: u32,
-}
-
-impl Room {
-    pub fn whole(junk: u32) -> Self {
-        Room {
-            length: STORE_LEN,
-            junk,
-        }
-    }
 }

@@ -1,13 +1,13 @@
 //! Rows judged and written by both programs, and read again.
 
 use crate::common::case::{Case, Input};
+use crate::common::due;
 use crate::common::guarded::Guarded;
-use crate::common::settings::Settings;
 use crate::common::tally::Tally;
-use crate::due;
+use crate::sets::{length, Sets};
 use reference::random::Random;
 use reference::Generator;
-use roomscript::{MAX_BYTES, ROWS_LEN};
+use roomscript::{Limits, MAX_BYTES};
 
 /// The buffers of a case, reused from one to the next.
 struct Buffers {
@@ -28,40 +28,48 @@ impl Buffers {
     }
 }
 
-#[test]
-fn rows_are_judged_and_written_alike() {
-    let settings = Settings::from_environment();
+fn compare(sets: Sets) {
+    let settings = sets.settings();
     let mut generator = Generator::new(settings.seed);
     // A sequence of its own, so that the rows depend on nothing else.
     let mut random = Random::new(!settings.seed);
     let mut buffers = Buffers::new();
-    let mut judged = Tally::new("judge_rows");
-    let mut written = Tally::new("write");
+    let mut judged = Tally::new(format!("judge_rows, {}", sets.name()));
+    let mut written = Tally::new(format!("write, {}", sets.name()));
     let mut rows = Vec::new();
     for number in 0..settings.cases {
+        let limits = sets.next(&mut generator);
         generator.rows_any_length(&mut rows);
+        if sets == Sets::Outside {
+            rows.resize(length(&mut random, limits.row_numbers(), rows.len()), 0);
+        }
         let case = Case {
             seed: Some(settings.seed),
             number,
+            limits,
             input: Input::Rows(&rows),
         };
         let junk = random.bits() as u32;
         buffers.rows.hold(&rows, junk);
         judge_by_both(&case, &rows, &mut buffers, &mut judged);
-        for length in output_lengths(&rows, &mut random) {
+        for length in output_lengths(limits, &rows, &mut random) {
             let junk = random.bits() as u32;
             buffers.ours.fill(length, junk);
             buffers.other.fill(length, junk);
             write_by_both(&case, &rows, &mut buffers, &mut written);
         }
     }
-    judged.report(&settings, &[0, 2, 12, 13, 14, 15, 17, 18, 19]);
-    written.report(&settings, &[0, 2, 5, 12, 13, 14, 15, 17, 18, 19]);
+    // In the least set no row is left for a second term.
+    let with_room = [0, 2, 12, 13, 14, 15, 17, 18, 19];
+    let in_least = [2, 12, 13, 14, 18];
+    judged.report(&settings, &sets.expected(&with_room, &in_least));
+    let with_room = [&with_room[..], &[5]].concat();
+    written.report(&settings, &sets.expected(&with_room, &in_least));
 }
 
 fn judge_by_both(case: &Case, rows: &[u32], buffers: &mut Buffers, tally: &mut Tally) {
-    let answer = roomscript::judge_rows(buffers.rows.lent());
-    let expected = due(reference::judge_rows(rows));
+    let answer = roomscript::judge_rows(case.limits, buffers.rows.lent());
+    let expected = due::judge_rows(case.limits, rows);
     case.equal(answer, expected, "answer of judge_rows");
     case.same(buffers.rows.lent(), rows, "rows after judge_rows");
     case.guarded(&buffers.rows, "rows after judge_rows");
@@ -69,10 +77,13 @@ fn judge_by_both(case: &Case, rows: &[u32], buffers: &mut Buffers, tally: &mut T
 }
 
 /// Lengths of outputs: none, around the length of the script where there is
-/// one, and longer than any script.
-fn output_lengths(rows: &[u32], random: &mut Random) -> Vec<usize> {
-    let longer = MAX_BYTES + random.index(200);
-    match reference::write(rows, &mut [0; MAX_BYTES]) {
+/// one, and seldom longer than any script.
+fn output_lengths(limits: Limits, rows: &[u32], random: &mut Random) -> Vec<usize> {
+    let longer = match random.below(8) {
+        0 => MAX_BYTES + random.index(200),
+        _ => 4096 + random.index(200),
+    };
+    match due::write(limits, rows, &mut [0; MAX_BYTES]) {
         Ok(length) => {
             let length = length as usize;
             let shorter = random.index(length);
@@ -87,8 +98,8 @@ fn output_lengths(rows: &[u32], random: &mut Random) -> Vec<usize> {
 fn write_by_both(case: &Case, rows: &[u32], buffers: &mut Buffers, tally: &mut Tally) {
     let Buffers { ours, other, .. } = buffers;
     let room = ours.lent().len();
-    let answer = roomscript::write(buffers.rows.lent(), ours.lent_mut());
-    let expected = due(reference::write(rows, other.lent_mut()));
+    let answer = roomscript::write(case.limits, buffers.rows.lent(), ours.lent_mut());
+    let expected = due::write(case.limits, rows, other.lent_mut());
     case.equal(
         answer,
         expected,
@@ -103,21 +114,26 @@ fn write_by_both(case: &Case, rows: &[u32], buffers: &mut Buffers, tally: &mut T
     case.same(buffers.rows.lent(), rows, "rows after write");
     case.guarded(&buffers.rows, "rows after write");
     tally.count(answer);
-    if let Ok(length) = answer {
-        read_again(case, rows, length, buffers);
+    match answer {
+        Ok(length) => read_again(case, rows, length, buffers),
+        Err(_) => case.expect(ours.junk_from(0), "output after a refusal"),
     }
 }
 
 /// Reading what was written gives the rows back.
 fn read_again(case: &Case, rows: &[u32], length: u32, buffers: &mut Buffers) {
     let Buffers { again, ours, .. } = buffers;
-    again.fill(ROWS_LEN, length);
+    again.fill(case.limits.row_numbers(), length);
     let script = &ours.lent()[..length as usize];
     case.equal(
-        roomscript::read(script, again.lent_mut()),
-        roomscript::judge_rows(rows),
+        roomscript::read(case.limits, script, again.lent_mut()),
+        roomscript::judge_rows(case.limits, rows),
         "answer of read after write",
     );
     case.same(again.lent(), rows, "rows read after write");
     case.guarded(again, "rows read after write");
+}
+
+mod rows_are_judged_and_written_alike {
+    crate::under_each_set!(super::compare);
 }

@@ -1,14 +1,14 @@
 //! Scripts read by both programs, and written again.
 
 use crate::common::case::{Case, Input};
+use crate::common::due;
 use crate::common::guarded::Guarded;
-use crate::common::settings::Settings;
 use crate::common::tally::Tally;
 use crate::common::Answer;
-use crate::due;
+use crate::reached::Reached;
+use crate::sets::{length, Sets};
 use reference::random::Random;
 use reference::Generator;
-use roomscript::ROWS_LEN;
 
 /// The buffers of a case, reused from one to the next.
 struct Buffers {
@@ -29,56 +29,59 @@ impl Buffers {
     }
 }
 
-/// Seldom a length that is refused.
-fn rows_length(random: &mut Random) -> usize {
-    if random.percent(97) {
-        return ROWS_LEN;
-    }
-    random.pick(&[0, 1, 5, ROWS_LEN - 1, ROWS_LEN + 1, 2 * ROWS_LEN])
-}
-
-#[test]
-fn scripts_are_read_alike() {
-    let settings = Settings::from_environment();
+fn compare(sets: Sets) {
+    let settings = sets.settings();
     let mut generator = Generator::new(settings.seed);
     // A sequence of its own, so that the scripts depend on nothing else.
     let mut random = Random::new(!settings.seed);
     let mut buffers = Buffers::new();
-    let mut tally = Tally::new("read");
+    let mut tally = Tally::new(format!("read, {}", sets.name()));
+    let mut reached = Reached::new(format!("read, {}", sets.name()));
     let mut script = Vec::new();
     for number in 0..settings.cases {
+        let limits = sets.next(&mut generator);
         generator.script(&mut script);
         let case = Case {
             seed: Some(settings.seed),
             number,
+            limits,
             input: Input::Script(&script),
         };
         let junk = random.bits() as u32;
         buffers.script.hold(&script, junk);
-        buffers.ours.fill(rows_length(&mut random), junk);
+        let made_for = generator.limits().row_numbers();
+        let rows = length(&mut random, limits.row_numbers(), made_for);
+        buffers.ours.fill(rows, junk);
         let answer = read_by_both(&case, &script, &mut buffers, junk);
         tally.count(answer);
         if let Ok(terms) = answer {
             judge_and_restore(&case, &script, terms, &mut buffers, junk);
+            reached.count(limits, buffers.ours.lent(), terms);
         }
     }
-    tally.report(
-        &settings,
-        &[0, 1, 2, 10, 11, 12, 13, 14, 15, 16, 17, 18, 19],
-    );
+    if sets.have_room() {
+        reached.report(&settings);
+    }
+    // Under the least set the second term is always one too many.
+    let with_room = [0, 1, 2, 10, 11, 12, 13, 14, 15, 16, 17, 18, 19];
+    let in_least = [1, 2, 10, 11, 12, 13, 14, 16, 18];
+    tally.report(&settings, &sets.expected(&with_room, &in_least));
 }
 
 /// The answer of both, with the same rows left by both.
 fn read_by_both(case: &Case, script: &[u8], buffers: &mut Buffers, junk: u32) -> Answer {
     let Buffers { ours, other, .. } = buffers;
     other.fill(ours.lent().len(), junk);
-    let answer = roomscript::read(buffers.script.lent(), ours.lent_mut());
-    let expected = due(reference::read(script, other.lent_mut()));
+    let answer = roomscript::read(case.limits, buffers.script.lent(), ours.lent_mut());
+    let expected = due::read(case.limits, script, other.lent_mut());
     case.equal(answer, expected, "answer of read");
     case.same(ours.lent(), other.lent(), "rows after read");
     case.guarded(ours, "rows after read");
     case.same(buffers.script.lent(), script, "script after read");
     case.guarded(&buffers.script, "script after read");
+    if let Err(refusal) = answer {
+        case.unchanged_by_caller(refusal.number, &buffers.ours, "rows after read");
+    }
     answer
 }
 
@@ -89,13 +92,13 @@ fn judge_and_restore(case: &Case, script: &[u8], terms: u32, buffers: &mut Buffe
         ours: rows, output, ..
     } = buffers;
     case.equal(
-        roomscript::judge_rows(rows.lent()),
+        roomscript::judge_rows(case.limits, rows.lent()),
         Ok(terms),
         "rows that were read, judged",
     );
     output.fill(script.len() + 3, junk);
     case.equal(
-        roomscript::write(rows.lent(), output.lent_mut()),
+        roomscript::write(case.limits, rows.lent(), output.lent_mut()),
         Ok(script.len() as u32),
         "rows that were read, written",
     );
@@ -106,4 +109,8 @@ fn judge_and_restore(case: &Case, script: &[u8], terms: u32, buffers: &mut Buffe
     );
     case.expect(output.junk_from(script.len()), "bytes past the script");
     case.guarded(output, "output");
+}
+
+mod scripts_are_read_alike {
+    crate::under_each_set!(super::compare);
 }

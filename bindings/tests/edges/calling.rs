@@ -9,7 +9,11 @@ use crate::common::refused;
 use crate::common::store::is_tidy;
 use crate::common::terms::*;
 use crate::hand::READINGS;
-use roomscript::{Called, Refusal, ROWS_LEN, STORE_LEN};
+use roomscript::{Called, Limits, Refusal};
+
+const BASE: Limits = Limits::BASE;
+const ROWS: usize = BASE.row_numbers();
+const STORE: usize = BASE.store_numbers();
 
 /// Rows and store, both full of junk.
 struct Lent {
@@ -28,7 +32,7 @@ impl Lent {
     #[track_caller]
     fn call(&mut self, script: &[u8], readings: &[i32]) -> Result<Called, Refusal> {
         let (rows, store) = (self.rows.lent_mut(), self.store.lent_mut());
-        let answer = asked::call(script, readings, rows, store);
+        let answer = asked::call(BASE, script, readings, rows, store);
         assert!(self.rows.guards_hold() && self.store.guards_hold());
         answer
     }
@@ -42,15 +46,15 @@ impl Lent {
 fn refusals_by_the_caller() {
     // Each length right or wrong, in every combination: the lowest number is
     // the one given, and every one of them comes before the bytes.
-    let scripts = [script_of(&e1()), b"X".to_vec(), vec![0; 4097]];
+    let scripts = [script_of(&e1()), b"X".to_vec(), vec![0; 32_769]];
     for script in &scripts {
-        for rows in [ROWS_LEN, 0, ROWS_LEN - 1, ROWS_LEN + 1] {
-            for store in [STORE_LEN, 0, STORE_LEN - 1, STORE_LEN + 1] {
+        for rows in [ROWS, 0, ROWS - 1, ROWS + 1] {
+            for store in [STORE, 0, STORE - 1, STORE + 1] {
                 for readings in [8, 0, 7, 9] {
                     let number = match (script.len(), rows, store, readings) {
-                        (4097, ..) => 1,
-                        (_, rows, ..) if rows != ROWS_LEN => 2,
-                        (_, _, store, _) if store != STORE_LEN => 3,
+                        (32_769, ..) => 1,
+                        (_, rows, ..) if rows != ROWS => 2,
+                        (_, _, store, _) if store != STORE => 3,
                         (_, _, _, readings) if readings != 8 => 4,
                         _ => continue,
                     };
@@ -82,25 +86,25 @@ fn bad_scripts() -> Vec<(Vec<u8>, u32, u32)> {
         (body(&boxes), 17, 5 + 2 + 64 * 3),
         (body(&[2, 0]), 18, 5),
         (body(&[0x0B, 1, 2, 0, 0]), 19, 9),
-        (vec![0x52; 4096], 10, 1),
+        (vec![0x52; 32_768], 10, 1),
     ]
 }
 
 #[test]
 fn refusals_by_the_bytes() {
     for (script, number, place) in bad_scripts() {
-        let mut lent = Lent::new(ROWS_LEN, STORE_LEN);
+        let mut lent = Lent::new(ROWS, STORE);
         assert_eq!(lent.call(&script, &READINGS), refused(number, place));
-        assert_eq!(lent.rows.lent(), [0; ROWS_LEN], "{number}");
+        assert_eq!(lent.rows.lent(), [0; ROWS], "{number}");
         assert!(lent.store.junk_from(0), "{number}");
     }
     // E1 cut short at each length.
     let whole = script_of(&e1());
     for length in 0..whole.len() {
-        let mut lent = Lent::new(ROWS_LEN, STORE_LEN);
+        let mut lent = Lent::new(ROWS, STORE);
         let answer = lent.call(&whole[..length], &READINGS);
         assert_eq!(answer, refused(12, length as u32));
-        assert_eq!(lent.rows.lent(), [0; ROWS_LEN]);
+        assert_eq!(lent.rows.lent(), [0; ROWS]);
         assert!(lent.store.junk_from(0));
     }
 }
@@ -108,7 +112,7 @@ fn refusals_by_the_bytes() {
 #[test]
 fn refusals_by_the_author_leave_the_rows() {
     let terms = [boxed(number(1)), copy((0, 0))];
-    let mut lent = Lent::new(ROWS_LEN, STORE_LEN);
+    let mut lent = Lent::new(ROWS, STORE);
     let answer = lent.call(&script_of(&terms), &READINGS);
     assert_eq!(answer, refused(31, 3));
     assert_eq!(lent.rows.lent(), rows_of(&terms));
@@ -117,7 +121,7 @@ fn refusals_by_the_author_leave_the_rows() {
 
 #[test]
 fn accepted_scripts() {
-    let mut lent = Lent::new(ROWS_LEN, STORE_LEN);
+    let mut lent = Lent::new(ROWS, STORE);
     let answer = lent.call(&script_of(&e1()), &READINGS);
     let called = |answer, terms, cells| {
         Ok(Called {
@@ -128,13 +132,13 @@ fn accepted_scripts() {
     };
     assert_eq!(answer, called(1, 8, 0));
     assert_eq!(lent.rows.lent(), rows_of(&e1()));
-    assert!(is_tidy(lent.store.lent(), 0));
+    assert!(is_tidy(BASE, lent.store.lent(), 0));
     // On the memory that the first call left.
     let terms = [let_(9, boxes(2, number(-7))), copy((9, 2))];
     let answer = lent.call(&script_of(&terms), &READINGS);
     assert_eq!(answer, called(-7, 6, 2));
     assert_eq!(lent.rows.lent(), rows_of(&terms));
-    assert!(is_tidy(lent.store.lent(), 2));
+    assert!(is_tidy(BASE, lent.store.lent(), 2));
     // The readings are the caller's.
     let answer = lent.call(&script_of(&[reading(4)]), &READINGS);
     assert_eq!(answer, called(i32::MIN, 2, 0));

@@ -6,6 +6,7 @@ use crate::common::store::{cell, is_tidy, store_of};
 use crate::common::terms::*;
 use crate::common::{fault, ran, refused};
 use crate::hand::*;
+use roomscript::Limits;
 
 /// Accepted with so many terms; the run gives the answer and the cells and
 /// leaves the store tidy.
@@ -14,7 +15,7 @@ fn accepted(terms: &[Term], count: u32, answer: i32, cells: u32) {
     assert_eq!(checks(terms), Ok(count));
     let (given, store) = runs(terms);
     assert_eq!(given, ran(answer, cells));
-    assert!(is_tidy(&store, cells));
+    assert!(is_tidy(Limits::BASE, &store, cells));
 }
 
 #[test]

@@ -1,21 +1,25 @@
-//! The limits of a script (LANGUAGE 2.8), from bytes and from rows: bytes,
-//! levels, terms and boxes, each at its edge and one beyond, and their order
-//! (5.10, 5.12).
+//! The limits of the language's own set (LANGUAGE 2.8), from bytes and from
+//! rows: bytes, levels, terms and boxes, each at its edge and one beyond, and
+//! their order (5.10, 5.12).
 
 use crate::common::refused;
 use crate::given::*;
 
 #[test]
-fn bytes_4096_and_4097() {
-    // No script of 4,096 bytes is accepted: 512 terms take fewer.
+fn bytes_32768_and_32769() {
+    // No script of 32,768 bytes is accepted: all terms that there can be take
+    // fewer.
     let mut bytes = E1.to_vec();
-    bytes.resize(4096, 0);
+    bytes.resize(32_768, 0);
     assert_eq!(reads(&bytes), refused(19, 25));
     bytes.push(0);
     assert_eq!(reads(&bytes), refused(1, 0));
-    assert_eq!(reads(&[0x52; 4096]), refused(10, 1));
-    assert_eq!(reads(&[0x52; 4097]), refused(1, 0));
-    assert_eq!(reads(&[0x52; 100_000]), refused(1, 0));
+    for length in [4096, 4097, 20_485, 20_486, 32_768] {
+        assert_eq!(reads(&vec![0x52; length]), refused(10, 1));
+    }
+    for length in [32_769, 65_536, 65_537, 100_000] {
+        assert_eq!(reads(&vec![0x52; length]), refused(1, 0));
+    }
 }
 
 #[test]

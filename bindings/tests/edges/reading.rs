@@ -1,15 +1,18 @@
 //! Reading (LANGUAGE 6.2): what rows come of the bytes, and each refusal by the
 //! bytes (5.9 to 5.11).
 
+use crate::asked::read;
 use crate::common::guarded::Guarded;
 use crate::common::refused;
 use crate::given::*;
-use roomscript::{read, ROWS_LEN};
+use roomscript::Limits;
+
+const BASE: Limits = Limits::BASE;
 
 #[test]
 fn e1_gives_its_rows() {
-    let mut rows = Guarded::junk(ROWS_LEN, 5);
-    assert_eq!(read(&E1, rows.lent_mut()), Ok(8));
+    let mut rows = Guarded::junk(BASE.row_numbers(), 5);
+    assert_eq!(read(BASE, &E1, rows.lent_mut()), Ok(8));
     assert_eq!(rows.lent(), rows_of(&E1_ROWS));
     assert_eq!(reads(&E1), Ok(8));
 }
@@ -50,8 +53,8 @@ fn each_kind_gives_its_row() {
         [0x0B, 1, 0, 0, 0],
         [0x01, 0xFFFF_FFFE, 0, 0, 0],
     ];
-    let mut rows = Guarded::junk(ROWS_LEN, 6);
-    assert_eq!(read(&script(&body), rows.lent_mut()), Ok(17));
+    let mut rows = Guarded::junk(BASE.row_numbers(), 6);
+    assert_eq!(read(BASE, &script(&body), rows.lent_mut()), Ok(17));
     assert_eq!(rows.lent(), rows_of(&expected));
     assert_eq!(reads_body(&body), Ok(17));
 }
@@ -133,15 +136,15 @@ fn bytes_left() {
 
 #[test]
 fn refusals_by_the_caller() {
-    let long = vec![0; 4097];
+    let long = vec![0; 32_769];
     for length in [0, 1, 2559, 2561, 5120] {
         let mut rows = Guarded::junk(length, 7);
-        assert_eq!(read(&E1, rows.lent_mut()), refused(2, 0));
+        assert_eq!(read(BASE, &E1, rows.lent_mut()), refused(2, 0));
         // The lowest number first, and both before the bytes.
-        assert_eq!(read(&long, rows.lent_mut()), refused(1, 0));
-        assert_eq!(read(b"X", rows.lent_mut()), refused(2, 0));
+        assert_eq!(read(BASE, &long, rows.lent_mut()), refused(1, 0));
+        assert_eq!(read(BASE, b"X", rows.lent_mut()), refused(2, 0));
         assert!(rows.junk_from(0) && rows.guards_hold());
     }
-    assert_eq!(read(&[], &mut []), refused(2, 0));
+    assert_eq!(read(BASE, &[], &mut []), refused(2, 0));
     assert_eq!(reads(&long), refused(1, 0));
 }

@@ -7,13 +7,17 @@ use crate::common::store::{cell, is_tidy, store_of};
 use crate::common::terms::*;
 use crate::common::{fault, not_run, ran};
 use crate::hand::*;
-use roomscript::{ROWS_LEN, STORE_LEN};
+use roomscript::Limits;
+
+const BASE: Limits = Limits::BASE;
+const ROWS: usize = BASE.row_numbers();
+const STORE: usize = BASE.store_numbers();
 
 /// Runs with a store of junk, which a refusal must leave as it was.
 #[track_caller]
 fn refuses(rows: &[u32], readings: &[i32], length: usize) -> crate::common::RunAnswer {
     let mut store = Guarded::junk(length, 17);
-    let answer = asked::run(rows, readings, store.lent_mut());
+    let answer = asked::run(BASE, rows, readings, store.lent_mut());
     assert!(store.junk_from(0) && store.guards_hold());
     answer
 }
@@ -21,13 +25,13 @@ fn refuses(rows: &[u32], readings: &[i32], length: usize) -> crate::common::RunA
 #[test]
 fn refusals_by_the_caller() {
     let rows = rows_of(&[number(5)]);
-    let ended = vec![0; ROWS_LEN];
+    let ended = vec![0; ROWS];
     for length in [0, 1, 2559, 2561, 5120] {
         // The lowest number first, and all before the rows.
         let other = vec![0; length];
-        assert_eq!(refuses(&other, &READINGS, STORE_LEN), not_run(2, 0));
+        assert_eq!(refuses(&other, &READINGS, STORE), not_run(2, 0));
         assert_eq!(refuses(&other, &READINGS, 0), not_run(2, 0));
-        assert_eq!(refuses(&other, &[], STORE_LEN), not_run(2, 0));
+        assert_eq!(refuses(&other, &[], STORE), not_run(2, 0));
         assert_eq!(refuses(&other, &[], 0), not_run(2, 0));
     }
     for length in [0, 1, 3, 383, 385, 768] {
@@ -39,10 +43,10 @@ fn refusals_by_the_caller() {
     for length in [0, 1, 7, 9, 16] {
         for rows in [&rows, &ended] {
             let readings = vec![1; length];
-            assert_eq!(refuses(rows, &readings, STORE_LEN), not_run(4, 0));
+            assert_eq!(refuses(rows, &readings, STORE), not_run(4, 0));
         }
     }
-    assert_eq!(refuses(&ended, &READINGS, STORE_LEN), not_run(12, 0));
+    assert_eq!(refuses(&ended, &READINGS, STORE), not_run(12, 0));
 }
 
 #[test]
@@ -50,7 +54,7 @@ fn refusals_by_the_rows() {
     let with = |field: usize, value| {
         let mut rows = rows_of(&[let_(0, number(1)), copy((0, 0))]);
         rows[field] = value;
-        refuses(&rows, &READINGS, STORE_LEN)
+        refuses(&rows, &READINGS, STORE)
     };
     assert_eq!(with(15, 0), not_run(12, 3));
     assert_eq!(with(15, 12), not_run(13, 3));
@@ -62,14 +66,11 @@ fn refusals_by_the_rows() {
     let deep = (0..15).fold(number(1), |inner, _| block(&[inner]));
     assert_eq!(gives(&[deep.clone()[1..].to_vec()]), ran(1, 0));
     assert_eq!(
-        refuses(&rows_of(&[deep]), &READINGS, STORE_LEN),
+        refuses(&rows_of(&[deep]), &READINGS, STORE),
         not_run(15, 16)
     );
     let many = vec![boxed(number(1)); 65];
-    assert_eq!(
-        refuses(&rows_of(&many), &READINGS, STORE_LEN),
-        not_run(17, 129)
-    );
+    assert_eq!(refuses(&rows_of(&many), &READINGS, STORE), not_run(17, 129));
 }
 
 #[test]
@@ -116,20 +117,20 @@ fn all_cells_can_be_taken() {
     terms.push(number(6));
     let (answer, store) = runs(&terms);
     assert_eq!(answer, ran(6, 64));
-    assert!(is_tidy(&store, 64));
+    assert!(is_tidy(BASE, &store, 64));
     // Kept by variables up to the end.
     let mut terms: Vec<Term> = (0..64).map(|v| let_(v, boxed(number(7)))).collect();
     terms.push(copy((63, 1)));
     let (answer, store) = runs(&terms);
     assert_eq!(answer, ran(7, 64));
-    assert!(is_tidy(&store, 64));
+    assert!(is_tidy(BASE, &store, 64));
     // All in one chain, which is dropped as a whole.
     let mut terms = vec![let_(0, boxed(number(7)))];
     terms.extend(vec![assign((0, 0), boxed(mov((0, 0)))); 63]);
     terms.push(number(8));
     let (answer, store) = runs(&terms);
     assert_eq!(answer, ran(8, 64));
-    assert!(is_tidy(&store, 64));
+    assert!(is_tidy(BASE, &store, 64));
 }
 
 #[test]
@@ -160,7 +161,7 @@ fn a_variable_belongs_to_the_block_around_its_let() {
     let terms = [let_(0, let_(1, number(4))), copy((1, 0))];
     let (answer, store) = runs(&terms);
     assert_eq!(answer, ran(4, 0));
-    assert!(is_tidy(&store, 0));
+    assert!(is_tidy(BASE, &store, 0));
     // The inner block closes its own variables only.
     let left = [(0, [1, 1, 1])];
     let terms = [

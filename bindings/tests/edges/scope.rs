@@ -6,22 +6,25 @@ use crate::asked;
 use crate::common::refused;
 use crate::common::terms::*;
 use crate::hand::*;
-use roomscript::ROWS_LEN;
+use roomscript::Limits;
+
+const BASE: Limits = Limits::BASE;
+const ROWS: usize = BASE.row_numbers();
 
 #[test]
 fn rows_are_judged_first() {
     for length in [0, 1, 2559, 2561, 5120] {
-        assert_eq!(asked::check(&vec![0; length]), refused(2, 0));
-        assert_eq!(asked::check(&vec![u32::MAX; length]), refused(2, 0));
+        assert_eq!(asked::check(BASE, &vec![0; length]), refused(2, 0));
+        assert_eq!(asked::check(BASE, &vec![u32::MAX; length]), refused(2, 0));
     }
-    assert_eq!(asked::check(&[0; ROWS_LEN]), refused(12, 0));
+    assert_eq!(asked::check(BASE, &[0; ROWS]), refused(12, 0));
     let author = [copy((0, 0))];
     assert_eq!(checks(&author), refused(31, 1));
     // Each number of the form, with its row, and before the author's.
     let with = |field: usize, value| {
         let mut rows = rows_of(&author);
         rows[field] = value;
-        asked::check(&rows)
+        asked::check(BASE, &rows)
     };
     assert_eq!(with(5, 0), refused(12, 1));
     assert_eq!(with(5, 12), refused(13, 1));
@@ -29,7 +32,7 @@ fn rows_are_judged_first() {
     assert_eq!(with(8, 1), refused(14, 1));
     assert_eq!(with(0, 10), refused(18, 0));
     assert_eq!(with(10, 2), refused(19, 2));
-    assert_eq!(with(ROWS_LEN - 1, 1), refused(19, 511));
+    assert_eq!(with(ROWS - 1, 1), refused(19, 511));
 }
 
 #[test]
@@ -38,12 +41,12 @@ fn limits_come_before_the_author() {
     let deep = (0..14).fold(number(1), |inner, _| block(&[inner]));
     assert_eq!(checks(&[copy((0, 0)), deep.clone()]), refused(31, 1));
     let deeper = rows_of(&[copy((0, 0)), block(&[block(&[deep])])]);
-    assert_eq!(asked::check(&deeper), refused(15, 17));
+    assert_eq!(asked::check(BASE, &deeper), refused(15, 17));
     let mut many = vec![copy((0, 0))];
     many.extend(vec![boxed(number(1)); 64]);
     assert_eq!(checks(&many), refused(31, 1));
     many.push(boxed(number(1)));
-    assert_eq!(asked::check(&rows_of(&many)), refused(17, 130));
+    assert_eq!(asked::check(BASE, &rows_of(&many)), refused(17, 130));
 }
 
 #[test]

@@ -1,18 +1,29 @@
 //! Writing (LANGUAGE 6.4): the bytes that come of rows, and outputs of every
 //! length.
 
+use crate::asked::write;
 use crate::common::guarded::Guarded;
 use crate::common::refused;
 use crate::given::*;
-use roomscript::write;
+use roomscript::Limits;
+
+const BASE: Limits = Limits::BASE;
 
 /// Writes to outputs around the length of a script.
 #[track_caller]
 fn writes_to_each_length(rows: &[u32], script: &[u8]) {
     let length = script.len();
-    for room in (0..20).chain([length - 1, length, length + 1, length + 9, 4096, 9000]) {
+    for room in (0..20).chain([
+        length - 1,
+        length,
+        length + 1,
+        length + 9,
+        4096,
+        32_768,
+        40_000,
+    ]) {
         let mut output = Guarded::junk(room, 8);
-        let answer = write(rows, output.lent_mut());
+        let answer = write(BASE, rows, output.lent_mut());
         assert!(output.guards_hold(), "output of {room}");
         if room < length {
             assert_eq!(answer, refused(5, 0), "output of {room}");
@@ -74,7 +85,7 @@ fn each_kind_gives_its_bytes() {
 
 fn written(first: &[Row]) -> Vec<u8> {
     let mut output = vec![0xA5; 64];
-    let length = write(&rows_of(first), &mut output).expect("rows of a script");
+    let length = write(BASE, &rows_of(first), &mut output).expect("rows of a script");
     output.truncate(length as usize);
     output
 }
@@ -85,13 +96,16 @@ fn rows_are_judged_before_the_output() {
     let left = rows_of(&[block(1), READING, READING]);
     for room in [0, 1, 4, 64] {
         let mut output = Guarded::junk(room, 9);
-        assert_eq!(write(&ended, output.lent_mut()), refused(12, 0));
-        assert_eq!(write(&left, output.lent_mut()), refused(19, 2));
+        assert_eq!(write(BASE, &ended, output.lent_mut()), refused(12, 0));
+        assert_eq!(write(BASE, &left, output.lent_mut()), refused(19, 2));
         for length in [0, 2559, 2561] {
-            assert_eq!(write(&vec![0; length], output.lent_mut()), refused(2, 0));
+            assert_eq!(
+                write(BASE, &vec![0; length], output.lent_mut()),
+                refused(2, 0)
+            );
         }
         assert!(output.junk_from(0) && output.guards_hold());
     }
-    assert_eq!(write(&[], &mut []), refused(2, 0));
-    assert_eq!(write(&rows_of(&E1_ROWS), &mut []), refused(5, 0));
+    assert_eq!(write(BASE, &[], &mut []), refused(2, 0));
+    assert_eq!(write(BASE, &rows_of(&E1_ROWS), &mut []), refused(5, 0));
 }

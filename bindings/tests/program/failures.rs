@@ -73,7 +73,7 @@ fn an_error_after_some_bytes() {
 #[test]
 fn an_error_after_more_bytes_than_a_script_has() {
     let (from, mut to) = pipe().expect("a pipe");
-    to.write_all(&[0; 32 + 4097]).expect("room in the pipe");
+    to.write_all(&[0; 32 + 32_769]).expect("room in the pipe");
     let from = at_once(&from, OpenOptions::new().read(true));
     let output = run(Command::new(executable()).stdin(from));
     told(&output, "refused 1 at 0\n", "");

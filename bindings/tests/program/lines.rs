@@ -45,10 +45,11 @@ fn inputs_of_every_length_around_the_readings() {
 fn very_long_inputs() {
     let whole = &inputs::listed()[0].input;
     for length in [
-        32 + 4095,
         32 + 4096,
         32 + 4097,
-        8192,
+        32 + 32_767,
+        32 + 32_768,
+        32 + 32_769,
         65_536,
         65_537,
         100_000,
@@ -116,7 +117,7 @@ fn generated_inputs_print_alike() {
         "occurred in roomcheck (seed {seed}): {counts:?}"
     );
     for kind in ["accepted", "readings", "1", "12", "19", "31", "33", "39"] {
-        let occurred = counts.contains_key(kind) || !settings.is_whole();
+        let occurred = counts.contains_key(kind) || !settings.whole;
         assert!(occurred, "{kind} did not occur");
     }
 }
