@@ -4,7 +4,7 @@ use native.Mathlib.Omega.{arith}
 use mathlib.Core.Path.{_≡_, ap, ap₂, _∙_}
 use mathlib.Core.List.{List}
 use lib.IntN.{ℤ}
-use lib.ListN.{length, drop, replicate}
+use lib.ListN.{length, drop}
 use borrow.Author.Tests.{lt-ltb, le-ltb}
 use Rattle.reader.specs.Layout.{zeros}
 use Rattle.reader.specs.Limits.{Limits, base, rowNumbers, storeNumbers}
@@ -35,11 +35,11 @@ module _ (l : Limits) (input rows store line : List ℕ) (r : ℕ) (after : List
       let q : (answer, (rows₁, store₁)) ≡ callOf l (drop 32 input) (readingsOf input) rows store = m ∙ ap₂ (λ (x : List ℕ) (y : List ℤ). callOf l x y rows store) d e in
       rw (le-ltb (length input) 32 s) (in-front (lineOf answer) p h rows₁ store₁ ∙ ap (λ (x : CallMade). reportCall x line) q)
 
--- The lengths of rows and store are any numbers that equal those of the set: no list of a known length is written out.
-pub report-base : (m n : ℕ) → m ≡ rowNumbers base → n ≡ storeNumbers base
-    → (input line : List ℕ) (r : ℕ) (rows₁ store₁ after : List ℕ)
-    → (r, (rows₁, (store₁, after))) ≡ reportOf base input (replicate m 0) (replicate n 0) line
+-- That rows and store are the zeros of the set's lengths comes last, so that it is asked of the lists that were lent.
+pub report-base : (input rows store line : List ℕ) (r : ℕ) (rows₁ store₁ after : List ℕ)
+    → (r, (rows₁, (store₁, after))) ≡ reportOf base input rows store line
+    → rows ≡ zeros (rowNumbers base) → store ≡ zeros (storeNumbers base)
     → (r, after) ≡ baseReportOf input line
-unfolding baseReportOf zeros
-report-base m n p q input line r rows₁ store₁ after e =
-    ap lineReported (e ∙ ap₂ (λ (x y : ℕ). reportOf base input (replicate x 0) (replicate y 0) line) p q)
+unfolding baseReportOf
+report-base input rows store line r rows₁ store₁ after e p q =
+    ap lineReported (e ∙ ap₂ (λ (x y : List ℕ). reportOf base input x y line) p q)

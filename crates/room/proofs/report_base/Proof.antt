@@ -1,5 +1,6 @@
 -- `room::report_base` meets its contract: the set handed in is the language's, and rows and store have its lengths.
 use mathlib.Core.Path.{refl}
+use Rattle.reader.specs.Layout.{zeros}
 use Rattle.reader.specs.Limits.{base, rowNumbers, storeNumbers}
 use Rattle.room.proofs.ReportLaws.{report-base}
 use borrow.Author.Needs.{needs}
@@ -16,8 +17,8 @@ report-requires : tie.Need-report-requires
 report-requires c κs = search needs
 
 returns : tie.Need-returns
-unfolding base rowNumbers storeNumbers
-returns c = (report-base 2560 384 refl refl _ _ _ _ _ _ (c .before .before .report .ensures .0), c .before .before .report .ensures .1)
+unfolding base rowNumbers storeNumbers zeros
+returns c = (report-base _ _ _ _ _ _ _ _ (c .before .before .report .ensures .0) refl refl, c .before .before .report .ensures .1)
 
 pub report-base-spec : {M : Type 1} → statement M
 report-base-spec =
