@@ -64,3 +64,5 @@ pub mod FollowBound
 pub mod LargerRules
 pub mod LargerJudge
 pub mod Larger
+-- The numbers of refusals.
+pub mod RefusalNumbers

@@ -24,6 +24,11 @@ unfoldable pub givenRows : ℕ → List ℕ
 givenRows zero = []
 givenRows (suc n) = 2 ∷ 0 ∷ 0 ∷ givenRows n
 
+-- All the lent numbers of a tidy store (LANGUAGE 7.4), with so many cells taken: every variable's row and every cell not taken is 0, 0, 0, every
+-- cell taken 2, 0, 0.
+abbrev pub tidyStore : Limits → ℕ → List ℕ
+tidyStore l cells = closedRows (l .variables) ++ (givenRows cells ++ closedRows (l .boxes - cells))
+
 -- What is said of the run of an accepted script t with the readings, in a store that was `earlier` before.
 pub record Safe (l : Limits) (t : Term) (readings : ℕ → ℕ) (earlier : Store) : Type 0 where
   pub final : State
@@ -37,9 +42,7 @@ pub record Safe (l : Limits) (t : Term) (readings : ℕ → ℕ) (earlier : Stor
   pub untaken : (c : ℕ) → final .taken ≤ c → final .store (cell c) ≡ closed
   pub given : (c : ℕ) → c < final .taken → final .store (cell c) ≡ givenBack
   -- so of all the lent numbers.
-  pub numbers :
-      encode (l .variables) (storeRows l) (final .store)
-      ≡ closedRows (l .variables) ++ (givenRows (final .taken) ++ closedRows (l .boxes - final .taken))
+  pub numbers : encode (l .variables) (storeRows l) (final .store) ≡ tidyStore l (final .taken)
   -- The cells taken, which the run reports, the boxes that finished, and the cells given back are equally many.
   pub boxes : final .taken ≡ boxesRun readings t (begun earlier)
   pub back : final .taken ≡ cellsGivenBack (l .boxes) (final .store)

@@ -1,0 +1,170 @@
+-- The numbers of refusals: judging rows refuses with 12 to 19 only (LANGUAGE 5.4), the ownership rules with 30 to 43 only (5.5).
+use Prim.Native.Nat.{ℕ, zero, suc, _≤_}
+use native.Mathlib.Omega.{arith}
+use mathlib.Core.Path.{_≡_}
+use mathlib.Core.Bool.{Bool, true, false}
+use mathlib.Core.Option.{Option, none, some}
+use mathlib.Core.List.{List, [], _∷_}
+use lib.Dec.{T, leb, leb→le}
+use Rattle.reader.specs.Result.{Result, ok, err, Refusal, need, _>>=_}
+use Rattle.reader.specs.Limits.{Limits}
+use Rattle.reader.specs.Script.{Place, Term, number, reading, copy, move, borrowShared, borrowExclusive, box, declare, assign, below, block, Terms, last, more}
+use Rattle.reader.specs.Kinds.{Kind, kNumber, kReading, kCopy, kMove, kShared, kExclusive, kBox, kLet, kAssign, kBelow, kBlock, Field, word, until}
+use Rattle.reader.specs.Layout.{inRows}
+use Rattle.reader.specs.Reader.{Cursor, Reads, _>>=_ as _&_, done, expect, first, peek, skip, next, ranged, field, operands, zeroFields, restOfRow, known, kind, opening, counted, several, built, term, nothingLeft, over, script, answer, decode}
+use Rattle.rules.specs.Environment.{Slot, free, used, live, Environment, Ty}
+use Rattle.rules.specs.Rules.{inScope, reached, valued, judgePlace, judgeReadable, judgeCopy, judgeMove, judgeShared, judgeExclusive, judgeBox, judgeLet, judgeAssign, judgeNumber, judgeBelow, judgeBlockEnd}
+use Rattle.rules.specs.Judge.{judge, judges, judgeScript}
+
+-- If the result is a refusal, its number is from a to b.
+pub record Only {A : Type 0} (a b : ℕ) (m : Result Refusal A) : Type 0 where
+  pub number-in : (e : Refusal) → m ≡ err e → (a ≤ e .0) × (e .0 ≤ b)
+
+module _ {a b : ℕ} where
+  -- An answer is no refusal.
+  fine : {A : Type 0} (x : A) → Only a b (ok x)
+  fine x = record { number-in = λ e q. let z : _≡_ {A = ℕ} 0 1 = cc in absurd (omega arith) }
+
+  -- The two tests compute where the numbers are written out, so that `search` closes them.
+  refused : {A : Type 0} (n i : ℕ) → T (leb a n) → T (leb n b) → Only {A = A} a b (err (n, i))
+  refused n i h k = record { number-in = λ e q. let z : _≡_ {A = ℕ} n (e .0) = cc in (omega (arith, leb→le a n h), omega (arith, leb→le n b k)) }
+
+  -- A chain refuses where its first step does or where the rest does.
+  pub onward : {A B : Type 0} {m : Result Refusal A} {f : A → Result Refusal B} → Only a b m → ((x : A) → Only a b (f x)) → Only a b (m >>= f)
+  unfolding _>>=_
+  onward {m = ok x} h k = k x
+  onward {m = err x} h k = record { number-in = λ e q. h .number-in e cc }
+
+  -- A test has one number.
+  pub tested : (t : Bool) (n i : ℕ) → T (leb a n) → T (leb n b) → Only a b (need t (n, i))
+  unfolding need
+  tested true n i h k = fine tt
+  tested false n i h k = refused n i h k
+
+  -- A chain of the reader: the same wherever each step begins.
+  reads : {A B : Type 0} {m : Reads A} {f : A → Reads B} → ((s : Cursor) → Only a b (m s)) → ((x : A) (s : Cursor) → Only a b (f x s)) → (s : Cursor) → Only a b ((m & f) s)
+  unfolding _&_
+  reads h k s = onward (h s) (λ r. k (r .0) (r .1))
+
+-- With these `search` goes through a definition step by step and looks at each number.
+ruleset steps = (onward, reads, tested, fine, refused)
+
+-- ---- judging rows
+
+first-only : (xs : List ℕ) (i : ℕ) → Only 12 19 (first xs (12, i))
+unfolding first
+first-only [] i = search steps
+first-only (x ∷ xs) i = search steps
+
+known-only : (o : Option Kind) (i : ℕ) → Only 12 19 (known o (13, i))
+unfolding known
+known-only none i = search steps
+known-only (some k) i = search steps
+
+ruleset of-rows = (steps, first-only, known-only)
+
+-- The steps of the reader that ask for no law of their own are unfolded where they stand.
+operands-only : (fs : List Field) (s : Cursor) → Only 12 19 (operands inRows fs s)
+unfolding operands field next ranged peek expect skip done
+operands-only [] = search of-rows
+operands-only (word ∷ fs) = search (of-rows, operands-only fs)
+operands-only (until x y ∷ fs) = search (of-rows, operands-only fs) depth 8
+
+zero-fields : (n : ℕ) (s : Cursor) → Only 12 19 (zeroFields n s)
+unfolding zeroFields ranged peek expect skip done
+zero-fields zero = search of-rows
+zero-fields (suc n) = search (of-rows, zero-fields n) depth 8
+
+module _ (t : Reads Term) (h : (s : Cursor) → Only 12 19 (t s)) where
+  several-only : (n : ℕ) (s : Cursor) → Only 12 19 (several t n s)
+  unfolding several done
+  several-only zero = search of-rows
+  several-only (suc n) = search (of-rows, several-only n)
+
+module _ (inner : Bool → Reads Term) (h : (o : Bool) (s : Cursor) → Only 12 19 (inner o s)) where
+  built-only : (k : Kind) (i : ℕ) (vs : List ℕ) (s : Cursor) → Only 12 19 (built k i vs inner s)
+  unfolding built done
+  built-only kNumber i vs = search of-rows
+  built-only kReading i vs = search of-rows
+  built-only kCopy i vs = search of-rows
+  built-only kMove i vs = search of-rows
+  built-only kShared i vs = search of-rows
+  built-only kExclusive i vs = search of-rows
+  built-only kBox i vs = search of-rows
+  built-only kLet i vs = search of-rows
+  built-only kAssign i vs = search of-rows
+  built-only kBelow i vs = search of-rows
+  built-only kBlock i vs = search (of-rows, several-only)
+
+opening-only : (l : Limits) (v : ℕ) (outer : Bool) (s : Cursor) → Only 12 19 (opening l v inRows outer s)
+unfolding opening kind peek expect done
+opening-only l v outer = search of-rows depth 8
+
+-- By the levels: the terms inside have one fewer.
+term-only : (l : Limits) (v d : ℕ) (outer : Bool) (s : Cursor) → Only 12 19 (term l v inRows d outer s)
+unfolding term expect counted skip restOfRow
+term-only l v zero outer = search (of-rows, opening-only)
+term-only l v (suc d) outer = search (of-rows, opening-only, operands-only, zero-fields, built-only, term-only l v d) depth 8
+
+nothing-left : (k : ℕ) (xs : List ℕ) → Only 12 19 (nothingLeft inRows k xs)
+unfolding nothingLeft
+nothing-left k [] = search steps
+nothing-left k (x ∷ xs) = onward (search steps) (λ u. nothing-left (suc k) xs)
+
+decode-only : (l : Limits) (rows : List ℕ) → Only 12 19 (decode l rows)
+unfolding decode answer script over done
+decode-only l rows = search (steps, nothing-left, term-only)
+
+-- The numbers that judging rows can answer (LANGUAGE 5.4): 12 to 19.
+pub form-numbers : (l : Limits) (rows : List ℕ) (e : Refusal) → decode l rows ≡ err e → (12 ≤ e .0) × (e .0 ≤ 19)
+form-numbers l rows = decode-only l rows .number-in
+
+-- ---- the ownership rules
+
+scope-only : (sl : Slot) (i : ℕ) → Only 30 43 (inScope sl (31, i))
+unfolding inScope
+scope-only free i = search steps
+scope-only used i = search steps
+scope-only (live v) i = search steps
+
+reached-only : (o : Option Place) (i : ℕ) → Only 30 43 (reached o (33, i))
+unfolding reached
+reached-only none i = search steps
+reached-only (some q) i = search steps
+
+valued-only : (o : Option Ty) (i : ℕ) → Only 30 43 (valued o (41, i))
+unfolding valued
+valued-only none i = search steps
+valued-only (some t) i = search steps
+
+ruleset of-rules = (steps, scope-only, reached-only, valued-only)
+
+module _ (nv : ℕ) where
+  -- The rules are unfolded too. An inner term comes first, then the rule.
+  mutual
+    unfolding judge judgePlace judgeReadable judgeCopy judgeMove judgeShared judgeExclusive judgeBox judgeLet judgeAssign judgeNumber judgeBelow judgeBlockEnd
+
+    judge-only : (t : Term) (level : ℕ) (Γ : Environment) → Only 30 43 (judge nv t level Γ)
+    judge-only (number i n) level Γ = search of-rules
+    judge-only (reading i n) level Γ = search of-rules
+    judge-only (copy i p) level Γ = search of-rules depth 8
+    judge-only (move i p) level Γ = search of-rules depth 8
+    judge-only (borrowShared i p) level Γ = search of-rules depth 8
+    judge-only (borrowExclusive i p) level Γ = search of-rules depth 8
+    judge-only (box i t) level Γ = onward (judge-only t level Γ) (λ o. search of-rules)
+    judge-only (declare i x t) level Γ = onward (search of-rules) (λ u. onward (judge-only t level _) (λ o. search of-rules))
+    judge-only (assign i p t) level Γ = onward (judge-only t level Γ) (λ o. search of-rules depth 8)
+    judge-only (below i p q) level Γ = search of-rules depth 8
+    judge-only (block i ts) level Γ = onward (judges-only ts (suc level) Γ) (λ o. search of-rules)
+
+    judges-only : (ts : Terms) (level : ℕ) (Γ : Environment) → Only 30 43 (judges nv ts level Γ)
+    judges-only (last t) level Γ = judge-only t level Γ
+    judges-only (more t ts) level Γ = onward (judge-only t level Γ) (λ o. judges-only ts level (o .0))
+
+  script-only : (t : Term) → Only 30 43 (judgeScript nv t)
+  unfolding judgeScript
+  script-only t = search (steps, judge-only)
+
+-- Those that the ownership rules can answer (LANGUAGE 5.5): 30 to 43.
+pub author-numbers : (nv : ℕ) (t : Term) (e : Refusal) → judgeScript nv t ≡ err e → (30 ≤ e .0) × (e .0 ≤ 43)
+author-numbers nv t = script-only nv t .number-in
