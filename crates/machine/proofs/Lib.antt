@@ -22,5 +22,6 @@ pub mod RowLaws
 pub mod TermLaws
 pub mod WrapLaws
 pub mod BlockRunLaws
+pub mod FitLaws
 pub mod JudgedRows
 pub mod ScriptLaws

@@ -1,15 +1,15 @@
--- A whole run: what `run_script`, `run_judged` and `run` answer.
+-- A whole run: what `run_script`, `run_judged` and `run_unchecked` answer.
 use Prim.Native.Nat.{ℕ, _-_, _≤_, _<_}
 use native.Mathlib.Omega.{arith}
 use mathlib.Core.Path.{_≡_, refl, sym, ap, _∙_}
-use mathlib.Core.Bool.{true, false}
+use mathlib.Core.Bool.{true}
 use mathlib.Core.Option.{none, some}
 use mathlib.Core.List.{List, []}
 use lib.IntN.{ℤ}
 use lib.ListN.{length, getD}
 use mir.Syntax.{w32}
 use mir.Val.{toZ}
-use borrow.Author.Tests.{eq-eqb, ne-eqb}
+use borrow.Author.Tests.{eq-eqb}
 use Rattle.reader.specs.Result.{Result, ok, err, Refusal, need, _>>=_}
 use Rattle.reader.specs.Limits.{Limits, inRanges, rowNumbers, storeRows, storeNumbers}
 use Rattle.reader.specs.Script.{Term}
@@ -27,7 +27,7 @@ use Rattle.machine.specs.Store.{Store, State, Ran}
 use Rattle.machine.specs.Locate.{numberIn}
 use Rattle.machine.specs.Run.{Outcome, run, runScript}
 use Rattle.machine.specs.Encode.{encode}
-use Rattle.machine.specs.Answers.{answered, refused, faulted, AnswerAndStore, toldRun, runFits, runnable, bitsOf, ranInto, runInto, runOf}
+use Rattle.machine.specs.Answers.{answered, refused, faulted, AnswerAndStore, toldRun, runFits, runnable, bitsOf, ranInto, runInto, uncheckedOf}
 use Rattle.machine.specs.Words.{valueOf, storeOf}
 use Rattle.machine.specs.Parts.{stateAt, since, Stop, seen, Stood, atRow, outcome, stood, ranOn, EndReady, BlockClosed, endOf, boxesBy, stoodOn, runAt, TermReady, TermRan, BlockReady, BlockRan, ScriptReady, scriptOn, scriptRan, RunReady}
 use Rattle.machine.specs.declared.around.Standing.{Standing}
@@ -104,65 +104,50 @@ module _ (set : Limits) where
   refused-rows readings w (err e) n p q = let z : _≡_ {A = Refusal} (n, p) e = cc in ap (λ (x : Refusal). (refused (x .0) (x .1), w)) z
 
   module _ (rows : List ℕ) (readings : List ℤ) (w : List ℕ) where
-    pub set-outside : inRanges set ≡ false → _≡_ {A = AnswerAndStore} (toldRun (out.Refused 74 0), w) (runOf set rows readings w)
-    unfolding toldRun runOf runInto runnable runFits need _>>=_
-    set-outside o = rw o
+    pub unfit-refused : (n : ℕ) → runFits set rows readings w ≡ err (n, 0) → _≡_ {A = AnswerAndStore} (toldRun (out.Refused n 0), w) (uncheckedOf set rows readings w)
+    unfolding toldRun uncheckedOf runInto runnable _>>=_
+    unfit-refused n e = rw e
 
-    module _ (i : inRanges set ≡ true) where
-      pub rows-length : (length rows ≡ rowNumbers set → ⊥) → _≡_ {A = AnswerAndStore} (toldRun (out.Refused 2 0), w) (runOf set rows readings w)
-      unfolding toldRun runOf runInto runnable runFits need _>>=_
-      rows-length n = rw (i, ne-eqb (length rows) (rowNumbers set) n)
+    module _ (i : inRanges set ≡ true) (a : length rows ≡ rowNumbers set) (b : length w ≡ storeNumbers set) (c : length readings ≡ 8) where
+      runs-decoded : runnable set rows readings w ≡ decode set rows
+      unfolding runnable runFits need _>>=_
+      runs-decoded = rw (i, eq-eqb (length rows) (rowNumbers set) a, eq-eqb (length w) (storeNumbers set) b, eq-eqb (length readings) 8 c)
 
-      module _ (a : length rows ≡ rowNumbers set) where
-        pub store-length : (length w ≡ storeNumbers set → ⊥) → _≡_ {A = AnswerAndStore} (toldRun (out.Refused 3 0), w) (runOf set rows readings w)
-        unfolding toldRun runOf runInto runnable runFits need _>>=_
-        store-length n = rw (i, eq-eqb (length rows) (rowNumbers set) a, ne-eqb (length w) (storeNumbers set) n)
+      judged-decoded : judgedOf set rows ≡ (decode set rows >>= λ t. ok (size t))
+      unfolding judgedOf rowsTree need _>>=_
+      judged-decoded = rw (i, eq-eqb (length rows) (rowNumbers set) a)
 
-        module _ (b : length w ≡ storeNumbers set) where
-          pub readings-length : (length readings ≡ 8 → ⊥) → _≡_ {A = AnswerAndStore} (toldRun (out.Refused 4 0), w) (runOf set rows readings w)
-          unfolding toldRun runOf runInto runnable runFits need _>>=_
-          readings-length n = rw (i, eq-eqb (length rows) (rowNumbers set) a, eq-eqb (length w) (storeNumbers set) b, ne-eqb (length readings) 8 n)
+      -- The rows are refused.
+      pub rows-refused : (n p : ℕ) → told (judgement.Refused n p) ≡ judgedOf set rows → _≡_ {A = AnswerAndStore} (toldRun (out.Refused n p), w) (uncheckedOf set rows readings w)
+      unfolding toldRun uncheckedOf told
+      rows-refused n p q = go (decode set rows) (q ∙ judged-decoded) ∙ ap (runInto set readings w) (sym runs-decoded)
+        where
+          go : (m : Result Refusal Term) → _≡_ {A = Result Refusal ℕ} (err (n, p)) (m >>= λ t. ok (size t)) → _≡_ {A = AnswerAndStore} (refused n p, w) (runInto set readings w m)
+          go m q = refused-rows readings w m n p q
 
-          module _ (c : length readings ≡ 8) where
-            runs-decoded : runnable set rows readings w ≡ decode set rows
-            unfolding runnable runFits need _>>=_
-            runs-decoded = rw (i, eq-eqb (length rows) (rowNumbers set) a, eq-eqb (length w) (storeNumbers set) b, eq-eqb (length readings) 8 c)
+      -- They are accepted.
+      module _ (words : (j : ℕ) → getD rows j 0 < 4294967296) (terms : ℕ) (q : ok terms ≡ judgedOf set rows) where
+        script : (t : Term) × (decode set rows ≡ ok t)
+        script = accepted-rows (decode set rows) terms (q ∙ judged-decoded)
 
-            judged-decoded : judgedOf set rows ≡ (decode set rows >>= λ t. ok (size t))
-            unfolding judgedOf rowsTree need _>>=_
-            judged-decoded = rw (i, eq-eqb (length rows) (rowNumbers set) a)
+        runs : Runnable set rows (script .0)
+        runs = judged set rows (script .0) words a (script .1)
 
-            -- The rows are refused.
-            pub rows-refused : (n p : ℕ) → told (judgement.Refused n p) ≡ judgedOf set rows → _≡_ {A = AnswerAndStore} (toldRun (out.Refused n p), w) (runOf set rows readings w)
-            unfolding toldRun runOf told
-            rows-refused n p q = go (decode set rows) (q ∙ judged-decoded) ∙ ap (runInto set readings w) (sym runs-decoded)
-              where
-                go : (m : Result Refusal Term) → _≡_ {A = Result Refusal ℕ} (err (n, p)) (m >>= λ t. ok (size t)) → _≡_ {A = AnswerAndStore} (refused n p, w) (runInto set readings w m)
-                go m q = refused-rows readings w m n p q
+        script-judged : ScriptReady set rows readings w
+        unfolding boxesBy
+        script-judged = record {
+          ranges = i;
+          long = a;
+          eight = c;
+          size = b;
+          root = runs .root;
+          is = rw (runs .is) tt;
+          cells = rw (runs .is) (runs .cells);
+        }
 
-            -- They are accepted.
-            module _ (words : (j : ℕ) → getD rows j 0 < 4294967296) (terms : ℕ) (q : ok terms ≡ judgedOf set rows) where
-              script : (t : Term) × (decode set rows ≡ ok t)
-              script = accepted-rows (decode set rows) terms (q ∙ judged-decoded)
-
-              runs : Runnable set rows (script .0)
-              runs = judged set rows (script .0) words a (script .1)
-
-              script-judged : ScriptReady set rows readings w
-              unfolding boxesBy
-              script-judged = record {
-                ranges = i;
-                long = a;
-                eight = c;
-                size = b;
-                root = runs .root;
-                is = rw (runs .is) tt;
-                cells = rw (runs .is) (runs .cells);
-              }
-
-              script-is : scriptRan set rows readings ≡ runOf set rows readings w
-              unfolding scriptRan scriptOn runOf runInto
-              script-is = rw (runs .is) (sym (ap (runInto set readings w) (runs-decoded ∙ script .1)))
+        script-is : scriptRan set rows readings ≡ uncheckedOf set rows readings w
+        unfolding scriptRan scriptOn uncheckedOf runInto
+        script-is = rw (runs .is) (sym (ap (runInto set readings w) (runs-decoded ∙ script .1)))
 
   -- The reader's word for the rows, and the lengths, are all that the run asks.
   module _ (rows : List ℕ) (readings : List ℤ) (w : List ℕ) (g : RunReady set rows readings w) where
@@ -182,7 +167,7 @@ module _ (set : Limits) where
       run-ready : ScriptReady set rows readings w
       run-ready = script-judged rows readings w (decoded .1 .ranges) (decoded .1 .length) (g .size) (g .eight) words (g .terms) (sym (g .judged))
 
-      run-is : scriptRan set rows readings ≡ runOf set rows readings w
+      run-is : scriptRan set rows readings ≡ uncheckedOf set rows readings w
       run-is = script-is rows readings w (decoded .1 .ranges) (decoded .1 .length) (g .size) (g .eight) words (g .terms) (sym (g .judged))
 
   -- ---- the run of judged rows
@@ -229,17 +214,17 @@ module _ (set : Limits) where
           ran = term-ran .is 0 (omega arith) ∙ ap (λ (S : Store). runAt readings (treeAt (set .variables) (set .levels) rows 0) (record { store = S; taken = 0; opened = [] })) closed-now
 
           -- A fault of a term.
-          pub script-faults : (r .fault ≡ 0 → ⊥) → _≡_ {A = AnswerAndStore} (toldRun (out.Faulted (r .fault) (r .term)), w₃) (runOf set rows readings w)
+          pub script-faults : (r .fault ≡ 0 → ⊥) → _≡_ {A = AnswerAndStore} (toldRun (out.Faulted (r .fault) (r .term)), w₃) (uncheckedOf set rows readings w)
           unfolding scriptRan toldRun
           script-faults n = tree-faults readings w₃ (b .tidy .words) (treeAt (set .variables) (set .levels) rows 0) (g .is) (r .fault) (r .term) (sym (stood-stops set w₃ opened₂ 0 r n) ∙ ran) ∙ run-is rows readings w ready words
 
           module _ (n : r .fault ≡ 0) where
             -- The answer is no number.
-            pub script-wrong : (r .kind ≡ 1 → ⊥) → _≡_ {A = AnswerAndStore} (toldRun (out.Faulted 61 0), w₃) (runOf set rows readings w)
+            pub script-wrong : (r .kind ≡ 1 → ⊥) → _≡_ {A = AnswerAndStore} (toldRun (out.Faulted 61 0), w₃) (uncheckedOf set rows readings w)
             unfolding scriptRan toldRun
             script-wrong k = tree-wrong readings w₃ (b .tidy .words) opened₂ r (treeAt (set .variables) (set .levels) rows 0) (g .is) (sym (stood-goes set w₃ opened₂ 0 r n) ∙ ran) k ∙ run-is rows readings w ready words
 
             -- The answer.
-            pub script-answers : r .kind ≡ 1 → (a : ℤ) → a ≡ toZ w32 (r .payload) → _≡_ {A = AnswerAndStore} (toldRun (out.Answered a (r .taken)), w₃) (runOf set rows readings w)
+            pub script-answers : r .kind ≡ 1 → (a : ℤ) → a ≡ toZ w32 (r .payload) → _≡_ {A = AnswerAndStore} (toldRun (out.Answered a (r .taken)), w₃) (uncheckedOf set rows readings w)
             unfolding scriptRan toldRun
             script-answers k a ea = rw ea ((tree-answers readings w₃ (b .tidy .words) opened₂ r (treeAt (set .variables) (set .levels) rows 0) (g .is) (sym (stood-goes set w₃ opened₂ 0 r n) ∙ ran) k) ∙ run-is rows readings w ready words)

@@ -1,4 +1,4 @@
--- What `run` answers, and what it leaves in the store, on every input (LANGUAGE 6.6).
+-- What `run_unchecked` answers, and what it leaves in the store, on every input (LANGUAGE 6.7).
 use Prim.Native.Nat.{ℕ}
 use mathlib.Core.List.{List}
 use lib.Dec.{eqb}
@@ -23,7 +23,7 @@ pub data Answer : Type 0 where
   answered : ℤ → ℕ → Answer
   refused faulted : ℕ → ℕ → Answer
 
--- Each case of the code's answer, with its number and values (LANGUAGE 6.6).
+-- Each case of the code's answer, with its number and values (LANGUAGE 6.7).
 unfoldable pub toldRun : RunOutcome → Answer
 toldRun (Answered a c) = answered a c
 toldRun (Refused n p) = refused n p
@@ -51,16 +51,16 @@ runnable l rows readings store =
 unfoldable pub bitsOf : List ℤ → ℕ → ℕ
 bitsOf readings n = ofZ w32 (getD readings n (pos 0))
 
--- The store as the run left it, after a fault too (LANGUAGE 4.21, 6.6).
+-- The store as the run left it, after a fault too (LANGUAGE 4.21, 6.7).
 unfoldable pub ranInto : Limits → Ran (State × ℕ) → AnswerAndStore
 ranInto l (ok e) = (answered (toZ w32 (e .1)) (e .0 .taken), encode (l .variables) (storeRows l) (e .0 .store))
 ranInto l (err f) = (faulted (f .number) (f .term), encode (l .variables) (storeRows l) (f .state .store))
 
--- A refusal leaves the store as it was (LANGUAGE 6.6). A run first clears it (4.4), so that what it held does not count: any may be named.
+-- A refusal leaves the store as it was (LANGUAGE 6.7). A run first clears it (4.4), so that what it held does not count: any may be named.
 unfoldable pub runInto : Limits → List ℤ → List ℕ → Result Refusal Term → AnswerAndStore
 runInto l readings store (ok t) = ranInto l (runScript (bitsOf readings) t (λ x. closed))
 runInto l readings store (err e) = (refused (e .0) (e .1), store)
 
--- `run` (LANGUAGE 6.6): the answer and the store.
-unfoldable pub runOf : Limits → List ℕ → List ℤ → List ℕ → AnswerAndStore
-runOf l rows readings store = runInto l readings store (runnable l rows readings store)
+-- `run_unchecked` (LANGUAGE 6.7): the answer and the store.
+unfoldable pub uncheckedOf : Limits → List ℕ → List ℤ → List ℕ → AnswerAndStore
+uncheckedOf l rows readings store = runInto l readings store (runnable l rows readings store)

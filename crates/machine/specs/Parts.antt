@@ -369,6 +369,13 @@ scriptOn set readings (some r) = ranInto set (runScript (bitsOf readings) (r .0)
 unfoldable pub scriptRan : Limits → List ℕ → List ℤ → AnswerAndStore
 scriptRan set rows readings = scriptOn set readings (treeAt (set .variables) (set .levels) rows 0)
 
+-- The number of the caller's refusal for the set and the lengths of rows, store and readings; 0 for none.
+unfoldable pub fitNumber : Limits → ℕ → ℕ → ℕ → ℕ
+fitNumber l rows store readings =
+    pick (inRanges l)
+    (pick (eqb rows (rowNumbers l)) (pick (eqb store (storeNumbers l)) (pick (eqb readings 8) 0 4) 3) 2)
+    74
+
 -- What the run of judged rows asks: the reader's word for the rows, and the lengths of the rest.
 pub record RunReady (set : Limits) (rows : List ℕ) (readings : List ℤ) (w : List ℕ) : Type 0 where
   pub terms : ℕ

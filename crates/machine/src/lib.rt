@@ -2,8 +2,8 @@
 ghost use mathlib.Core.Path.{_≡_};
 ghost use Prim.Native.Nat.{_≤_};
 ghost use lib.ListN.{length};
-ghost use Rattle.machine.specs.Answers.{toldRun, runOf};
-ghost use Rattle.machine.specs.Parts.{RunReady};
+ghost use Rattle.machine.specs.Answers.{toldRun, uncheckedOf};
+ghost use Rattle.machine.specs.Parts.{fitNumber, RunReady};
 
 mod numbers; // numbers.rt: the numbers in the store's rows, and the faults
 mod store; // store.rt: the rows of the lent store
@@ -44,7 +44,7 @@ fn run_script(
     opened: &mut [u8],
 ) -> RunOutcome
     requires { ⌜ RunReady set (now rows) (now readings) (now store) × (set .terms ≤ length (now opened)) ⌝ }
-    ensures { λ r. ⌜ (toldRun r, now (store .exit)) ≡ runOf set (now (rows .entry)) (now (readings .entry)) (now (store .entry)) ⌝ }
+    ensures { λ r. ⌜ (toldRun r, now (store .exit)) ≡ uncheckedOf set (now (rows .entry)) (now (readings .entry)) (now (store .entry)) ⌝ }
 {
     clear(store);
     let sizes = limits::packed(set);
@@ -64,7 +64,7 @@ fn run_script(
 // opened, so that its runs do not clear a long one.
 pub fn run_judged(set: Limits, rows: &[u32], readings: &[i32], store: &mut [u32]) -> RunOutcome
     requires { ⌜ RunReady set (now rows) (now readings) (now store) ⌝ }
-    ensures { λ r. ⌜ (toldRun r, now (store .exit)) ≡ runOf set (now (rows .entry)) (now (readings .entry)) (now (store .entry)) ⌝ }
+    ensures { λ r. ⌜ (toldRun r, now (store .exit)) ≡ uncheckedOf set (now (rows .entry)) (now (readings .entry)) (now (store .entry)) ⌝ }
 {
     if set.terms as usize <= SHORT {
         let mut short: [u8; SHORT] = [0; SHORT];
@@ -74,22 +74,35 @@ pub fn run_judged(set: Limits, rows: &[u32], readings: &[i32], store: &mut [u32]
     run_script(set, rows, readings, store, &mut long)
 }
 
-// Run (LANGUAGE 6.6): the script of the term rows, unchecked, with the readings, under the set (2.8). A refusal leaves
-// the store unchanged; a fault leaves it as the run rules had it (4.21).
-pub fn run(set: Limits, rows: &[u32], readings: &[i32], store: &mut [u32]) -> RunOutcome
-    ensures { λ r. ⌜ (toldRun r, now (store .exit)) ≡ runOf set (now (rows .entry)) (now (readings .entry)) (now (store .entry)) ⌝ }
+// The number of the caller's refusal (LANGUAGE 5.3), for the lengths of rows, store and readings: 74 for the set, then the
+// lowest (5.8); 0 for none.
+pub fn fit_number(set: Limits, rows: usize, store: usize, readings: usize) -> u32
+    ensures { λ r. ⌜ r ≡ fitNumber set rows store readings ⌝ }
 {
     if !limits::in_ranges(set) {
-        return RunOutcome::Refused(limits::SET_OUTSIDE, 0);
+        return limits::SET_OUTSIDE;
     }
-    if rows.len() != limits::row_numbers(set) {
-        return RunOutcome::Refused(limits::ROWS_LENGTH, 0);
+    if rows != limits::row_numbers(set) {
+        return limits::ROWS_LENGTH;
     }
-    if store.len() != limits::store_numbers(set) {
-        return RunOutcome::Refused(limits::STORE_LENGTH, 0);
+    if store != limits::store_numbers(set) {
+        return limits::STORE_LENGTH;
     }
-    if readings.len() != limits::READINGS as usize {
-        return RunOutcome::Refused(limits::READINGS_LENGTH, 0);
+    if readings != limits::READINGS as usize {
+        return limits::READINGS_LENGTH;
+    }
+    0
+}
+
+// Run unchecked (LANGUAGE 6.7): the script of the term rows, accepted by the check or not, with the readings, under the
+// set (2.8). A refusal leaves the store unchanged; a fault leaves it as the run rules had it (4.21). It is for lessons
+// and tests that show what a script does that the check refuses; the run that checks first is `room::run`.
+pub fn run_unchecked(set: Limits, rows: &[u32], readings: &[i32], store: &mut [u32]) -> RunOutcome
+    ensures { λ r. ⌜ (toldRun r, now (store .exit)) ≡ uncheckedOf set (now (rows .entry)) (now (readings .entry)) (now (store .entry)) ⌝ }
+{
+    let number = fit_number(set, rows.len(), store.len(), readings.len());
+    if number != 0 {
+        return RunOutcome::Refused(number, 0);
     }
     let judged = reader::judge_rows(set, rows);
     match judged {

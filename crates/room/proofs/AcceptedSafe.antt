@@ -1,4 +1,5 @@
--- Rows that the check accepts run safely (LANGUAGE 7.4): what the check's answer says of the rows, and safety of their script.
+-- What `run` and `run_unchecked` do with rows that the check accepts or refuses (LANGUAGE 6.6, 7.4): what the check's answer says of the rows,
+-- and safety of their script.
 use Prim.Native.Nat.{ℕ}
 use mathlib.Core.Path.{_≡_, ap, _∙_}
 use mathlib.Core.List.{List}
@@ -8,14 +9,15 @@ use Rattle.reader.specs.Limits.{Limits}
 use Rattle.ownership.proofs.Accepted.{accepted}
 use Rattle.machine.specs.Values.{closed}
 use Rattle.machine.specs.Store.{Store, State}
-use Rattle.machine.specs.Answers.{answered, bitsOf, ranInto, runOf}
+use Rattle.machine.specs.Answers.{bitsOf, uncheckedOf}
 use Rattle.safety.proofs.Demand3.{demand-three}
 use Rattle.safety.proofs.Larger.{one-end}
-use Rattle.room.specs.Accepted.{AcceptedRuns}
-use Rattle.room.proofs.TreeRows.{runs-tree}
+use Rattle.room.specs.Running.{runOf}
+use Rattle.room.specs.Accepted.{AcceptedRuns, RefusedRuns}
+use Rattle.room.proofs.TreeRows.{unchecked-safe, run-safe}
+use Rattle.room.proofs.RunLaws.{check-refuses}
 
 pub accepted-runs : (l : Limits) → AcceptedRuns l
-unfolding ranInto
 accepted-runs l rows n u e readings store eight long =
     let a = accepted l rows n u e in
     let safe = demand-three l (a .script) (a .within) (a .judged) (bitsOf readings) in
@@ -32,6 +34,9 @@ accepted-runs l rows n u e readings store eight long =
       cells = s .final .taken;
       its-answer = λ earlier. ap (λ (k : State × ℕ). toZ w32 (k .1)) (one earlier);
       its-cells = λ earlier. ap (λ (k : State × ℕ). k .0 .taken) (one earlier);
-      ran = ap (λ (r : List ℕ). runOf l r readings store) (a .laid) ∙ runs-tree l (a .script) (a .ranges) (a .within) readings store eight long ∙ ap (ranInto l) (s .ends)
-          ∙ ap (λ (x : List ℕ). (answered (toZ w32 (s .answer)) (s .final .taken), x)) (s .numbers);
+      ran = ap (λ (r : List ℕ). runOf l r readings store) (a .laid) ∙ run-safe l (a .script) (a .ranges) (a .within) readings store eight long s (a .judged);
+      ran-unchecked = ap (λ (r : List ℕ). uncheckedOf l r readings store) (a .laid) ∙ unchecked-safe l (a .script) (a .ranges) (a .within) readings store eight long s;
     }
+
+pub refused-runs : (l : Limits) → RefusedRuns l
+refused-runs l rows e h readings store eight long = check-refuses l rows readings store eight long e h

@@ -1,29 +1,36 @@
--- The safety of a call under any set, from the equation that its answer meets.
-use Prim.Native.Nat.{ℕ, _-_}
+-- The safety of a call under any set, from the equation that its answer meets: that of the run of the script that was read.
+use Prim.Native.Nat.{ℕ}
 use native.Mathlib.Omega.{arith}
 use mathlib.Core.Path.{_≡_, refl, sym, ap, _∙_, subst}
-use mathlib.Core.List.{List, _++_}
+use mathlib.Core.Bool.{true}
+use mathlib.Core.List.{List}
 use lib.IntN.{ℤ}
 use mir.Syntax.{w32}
 use mir.Val.{toZ}
-use Rattle.reader.specs.Result.{Result, ok, err, Refusal}
-use Rattle.reader.specs.Limits.{Limits, rowNumbers, storeRows}
-use Rattle.reader.specs.Layout.{rowsOf, zeros}
+use Rattle.reader.specs.Result.{Result, ok, err, Refusal, _>>=_}
+use Rattle.reader.specs.Limits.{Limits, inRanges}
+use Rattle.reader.specs.Layout.{bytesOf, rowsOf}
 use Rattle.reader.specs.Script.{Term}
 use Rattle.reader.specs.Reader.{parse}
-use Rattle.reader.specs.Within.{Under}
+use Rattle.reader.specs.Within.{Under, Within}
 use Rattle.reader.specs.Measures.{size}
-use Rattle.reader.proofs.RoundTrip.{parsed}
+use Rattle.reader.specs.Answers.{Answered, lengthsFit, readOf}
+use Rattle.reader.proofs.Answers.{then}
+use Rattle.reader.proofs.RoundTrip.{parsed, parses}
+use Rattle.reader.proofs.Undo.{read-says}
 use Rattle.rules.specs.Judge.{judgeScript}
+use Rattle.ownership.specs.Answers.{checkOf}
 use Rattle.machine.specs.Values.{closed}
-use Rattle.machine.specs.Store.{Store, State, Ran}
-use Rattle.machine.specs.Run.{runScript}
-use Rattle.machine.specs.Encode.{encode}
-use Rattle.safety.specs.Safety.{Safe, closedRows, givenRows}
-use Rattle.machine.specs.Answers.{bitsOf}
-use Rattle.machine.proofs.Apart.{err≢ok}
+use Rattle.machine.specs.Store.{Store}
+use Rattle.machine.specs.Answers.{runFits, bitsOf}
+use Rattle.machine.proofs.FitLaws.{Fit, fit-says}
+use Rattle.safety.specs.Safety.{Safe, tidyStore}
 use Rattle.safety.proofs.Demand3.{demand-three}
-use Rattle.room.specs.Calling.{CallAnswer, called, refused, CallMade, callFits, runCalled, judgedCalled, parsedCalled, fitCalled, callOf, SafeCall}
+use Rattle.room.specs.Running.{RunMade, runOf}
+use Rattle.room.specs.Running as running
+use Rattle.room.specs.Calling.{CallAnswer, called, refused, CallMade, callFits, withTerms, runCalled, readCalled, fitCalled, callOf, SafeCall}
+use Rattle.room.proofs.TreeRows.{checks-tree, run-safe}
+use Rattle.room.proofs.RunLaws.{check-refuses}
 
 pub called-refused : {A : Type 0} {n c m p : ℕ} {a : ℤ} → called n a c ≡ refused m p → A
 called-refused e = let z : _≡_ {A = ℕ} 0 1 = cc in absurd (omega arith)
@@ -44,48 +51,56 @@ module _ (l : Limits) (script : List ℕ) (readings : List ℤ) (rows store : Li
     untouched = λ m q e. refl;
   }
 
-  module _ (t : Term) (w : parse l script ≡ ok t) (j : judgeScript (l .variables) t ≡ ok tt) where
-    safely : Safe l t (bitsOf readings) (λ x. closed)
-    safely = accepted-safe t w j (λ x. closed)
+  -- The run of a script t of n terms that was read.
+  module _ (t : Term) (n : ℕ) (after : List ℕ) (w : parse l script ≡ ok t) (count : n ≡ size t) where
+    unaccepted : (e : Refusal) → Left (runCalled n after (running.refused (e .0) (e .1), store))
+    unfolding withTerms
+    unaccepted e = unchanged (e .0) (e .1) after
 
-    ran : (x : Ran (State × ℕ)) → runScript (bitsOf readings) t (λ x. closed) ≡ x → Left (runCalled l t x)
-    unfolding runCalled
-    ran (err f) e = absurd (err≢ok (sym e ∙ safely .ends))
-    ran (ok r) e =
-        let q : _≡_ {A = Ran (State × ℕ)} (ok r) (ok (safely .final, safely .answer)) = sym e ∙ safely .ends in
-        let s : r ≡ (safely .final, safely .answer) = cc in
-        let z : r .0 ≡ safely .final = ap (λ (k : State × ℕ). k .0) s in
-        let v : toZ w32 (r .1) ≡ toZ w32 (safely .answer) = ap (λ (k : State × ℕ). toZ w32 (k .1)) s in
-        let x : r .0 .taken ≡ safely .final .taken = ap (λ (k : State). k .taken) z in
-        record {
-          safe = accepted-safe;
-          answers = λ n a c k.
-              let p : n ≡ size t = cc in
-              let y : a ≡ toZ w32 (r .1) = cc in
-              let o : c ≡ r .0 .taken = cc in
-              (t, w, p, safely, y ∙ v, o ∙ x);
-          tidy = λ n a c k.
-              let y : r .0 .taken ≡ c = cc in
-              ap (λ (x : State). encode (l .variables) (storeRows l) (x .store)) z ∙ safely .numbers
-              ∙ ap (λ (x : ℕ). closedRows (l .variables) ++ (givenRows x ++ closedRows (l .boxes - x))) (sym x ∙ y);
-          untouched = λ n p k. called-refused k;
-        }
+    ran : (j : judgeScript (l .variables) t ≡ ok tt) (s : Safe l t (bitsOf readings) (λ x. closed)) → Left (runCalled n after (running.answered (toZ w32 (s .answer)) (s .final .taken), tidyStore l (s .final .taken)))
+    unfolding withTerms
+    ran j s = record {
+      safe = accepted-safe;
+      answers = λ m a c k.
+          let p : m ≡ n = cc in
+          let y : a ≡ toZ w32 (s .answer) = cc in
+          let o : c ≡ s .final .taken = cc in
+          (t, w, p ∙ count, s, y, o);
+      tidy = λ m a c k. let o : s .final .taken ≡ c = cc in ap (tidyStore l) o;
+      untouched = λ m p k. called-refused k;
+    }
+
+  read-left : (n : ℕ) (rows₁ : List ℕ) → readOf l script rows ≡ (ok n, rows₁) → Fit l rows readings store → Left (runCalled n rows₁ (runOf l rows₁ readings store))
+  unfolding _>>=_
+  read-left n rows₁ h f = go (judgeScript (l .variables) t) refl
+    where
+      q : (inRanges l ≡ true) × (t : Term) × Within l t × (script ≡ bytesOf t) × (n ≡ size t) × (rows₁ ≡ rowsOf l t)
+      q = read-says l script rows n rows₁ u h
+
+      t : Term
+      t = q .1
+
+      w : parse l script ≡ ok t
+      w = ap (parse l) (q .3) ∙ parses l t (q .2)
+
+      on-tree : (x : RunMade) → runOf l (rowsOf l t) readings store ≡ x → Left (runCalled n rows₁ x) → Left (runCalled n rows₁ (runOf l rows₁ readings store))
+      on-tree x e k = subst (λ (y : RunMade). Left (runCalled n rows₁ y)) (sym (ap (λ (r : List ℕ). runOf l r readings store) (q .5) ∙ e)) k
+
+      go : (j : Result Refusal (Unit {0})) → judgeScript (l .variables) t ≡ j → Left (runCalled n rows₁ (runOf l rows₁ readings store))
+      go (ok v) j = let s = accepted-safe t w j (λ x. closed) in on-tree _ (run-safe l t (q .0) (q .2) readings store (f .eight) (f .size) s j) (ran t n rows₁ w (q .4) j s)
+      go (err e) j = on-tree _ (check-refuses l (rowsOf l t) readings store (f .eight) (f .size) e (checks-tree l t (q .0) (q .2) ∙ rw j)) (unaccepted t n rows₁ w (q .4) e)
 
   left : Left (callOf l script readings rows store)
-  unfolding callOf fitCalled parsedCalled judgedCalled
-  left = fit (callFits l script readings rows store)
+  unfolding callOf fitCalled readCalled callFits
+  left = fit (callFits l script readings rows store) refl
     where
-      judged : (t : Term) → parse l script ≡ ok t → (j : Result Refusal (Unit {0})) → judgeScript (l .variables) t ≡ j → Left (judgedCalled l readings store t j)
-      judged t w (ok x) e = ran t w e (runScript (bitsOf readings) t (λ x. closed)) refl
-      judged t w (err f) e = unchanged (f .0) (f .1) (rowsOf l t)
+      read : Fit l rows readings store → (a : Result Refusal ℕ) (rows₁ : List ℕ) → readOf l script rows ≡ (a, rows₁) → Left (readCalled l readings store a rows₁)
+      read f (ok n) rows₁ h = read-left n rows₁ h f
+      read f (err e) rows₁ h = unchanged (e .0) (e .1) rows₁
 
-      read : (t : Result Refusal Term) → parse l script ≡ t → Left (parsedCalled l readings store t)
-      read (ok t) e = judged t e (judgeScript (l .variables) t) refl
-      read (err f) e = unchanged (f .0) (f .1) (zeros (rowNumbers l))
-
-      fit : (f : Result Refusal (Unit {0})) → Left (fitCalled f rows store (parsedCalled l readings store (parse l script)))
-      fit (ok x) = read (parse l script) refl
-      fit (err f) = unchanged (f .0) (f .1) rows
+      fit : (f : Result Refusal (Unit {0})) → callFits l script readings rows store ≡ f → Left (fitCalled f rows store (readCalled l readings store (readOf l script rows .0) (readOf l script rows .1)))
+      fit (ok x) h = read (fit-says l rows readings store x (then (lengthsFit l script rows) (λ _. runFits l rows readings store) x h .2)) (readOf l script rows .0) (readOf l script rows .1) refl
+      fit (err f) h = unchanged (f .0) (f .1) rows
 
   pub safe-call : (r : CallAnswer) (rows₁ store₁ : List ℕ) → (r, (rows₁, store₁)) ≡ callOf l script readings rows store → SafeCall l script readings r store store₁
   safe-call r rows₁ store₁ e = subst Left (sym e) left

@@ -19,6 +19,7 @@ use Rattle.machine.specs.Drop
 use Rattle.machine.specs.Run
 use Rattle.machine.specs.Answers
 use Rattle.safety.specs.Examples
+use Rattle.room.specs.Running
 use Rattle.room.specs.Calling
 use Rattle.room.specs.Line
 use Rattle.room.specs.ExampleLines
@@ -28,14 +29,15 @@ pub lines-hold : LinesHold
 unfolding
     ExampleLines.lineIn ExampleLines.printed ExampleLines.e1Readings ExampleLines.on ExampleLines.examples
     Line.digitsBy Line.decimal Line.signed Line.lineOf Line.shortLine Line.readingsOf Line.inFront Line.reported Line.reportCall Line.reportOf
-    Calling.callFits Calling.runCalled Calling.judgedCalled Calling.parsedCalled Calling.fitCalled Calling.callOf Calling.readingAt
+    Calling.callFits Calling.withTerms Calling.readCalled Calling.fitCalled Calling.callOf Calling.readingAt
+    Running.judgedFirst Running.unfaulted Running.ranJudged Running.runOf
     Result._>>=_ Result.need
     Limits.base Limits.inRanges Limits.maxBytes Limits.rowNumbers Limits.storeNumbers
     Kinds.byteOf Kinds.kinds Kinds.among Kinds.kindOf Kinds.fields
-    Layout.bytesOf Layout.lay Layout.head Layout.wordOf Layout.unused Layout.zeros Layout.others
-    Reader._>>=_ Reader.done Reader.placeIn Reader.expect Reader.first Reader.peek Reader.skip Reader.next Reader.ranged Reader.field Reader.operands Reader.restOfRow Reader.is Reader.boxesOf Reader.ended Reader.known Reader.kind Reader.opening Reader.counted Reader.several Reader.built Reader.term Reader.nothingLeft Reader.over Reader.script Reader.mark Reader.version Reader.leading Reader.answer Reader.parse
+    Layout.bytesOf Layout.lay Layout.head Layout.wordOf Layout.unused Layout.zeros Layout.others Layout.rowsOf
+    Reader._>>=_ Reader.done Reader.placeIn Reader.expect Reader.first Reader.peek Reader.skip Reader.next Reader.ranged Reader.field Reader.operands Reader.restOfRow Reader.is Reader.boxesOf Reader.ended Reader.known Reader.kind Reader.opening Reader.counted Reader.several Reader.built Reader.term Reader.nothingLeft Reader.over Reader.script Reader.mark Reader.version Reader.leading Reader.answer Reader.parse Reader.decode Reader.zeroFields
     Measures.size
-    Reading.lengthsFit
+    Reading.lengthsFit Reading.parsedInto Reading.onFit Reading.readOf
     Links.leadingBoxes Links.maxLinks Links.noShared Links.isNumber Links.copies Links.sameLink Links.sameLinks
     Environment.update Environment.isFree Environment.levelOf Environment.borrowOf Environment.livesAt Environment.leaveSlot Environment.leave
     Follow.through Follow.followAt Follow.follow Follow.wholeAt Follow.wholeThere Follow.valueWhole
@@ -46,6 +48,6 @@ unfolding
     Locate.followed Locate.locateFrom Locate.locate Locate.filled Locate.numberIn
     Drop.giveBack Drop.dropStep Drop.isGivenBack Drop.cellsGivenBack Drop.cellsLeft Drop.dropAlong Drop.dropValue Drop.closeAll
     Run.runCopy Run.runMove Run.runBorrow Run.runNumber Run.less Run.runBelow Run.runBox Run.runLet Run.runAssign Run.runBlockEnd Run.run Run.runScript
-    Answers.runFits Answers.bitsOf
+    Answers.runFits Answers.runnable Answers.bitsOf Answers.ranInto Answers.runInto Answers.uncheckedOf
     Examples.boxed Examples.e1Bytes Examples.e2 Examples.e3 Examples.e4 Examples.e5 Examples.e6 Examples.e7 Examples.e9 Examples.nine Examples.eight Examples.e11
 lines-hold = refl

@@ -15,91 +15,81 @@ use Rattle.reader.specs.Limits.{Limits, inRanges, maxBytes, rowNumbers, storeNu
 use Rattle.reader.specs.Larger.{NoSmaller}
 use Rattle.reader.specs.Script.{Term}
 use Rattle.reader.specs.Layout.{zeros, rowsOf}
-use Rattle.reader.specs.Reader.{parse}
 use Rattle.reader.specs.Measures.{size}
 use Rattle.reader.specs.Within.{Within}
 use Rattle.reader.specs.Answers.{lengthsFit, readOf, rowsTree, judgedOf}
 use Rattle.reader.proofs.Answers.{then, needed}
-use Rattle.reader.proofs.RoundTrip.{parsed, decoded}
-use Rattle.reader.proofs.MoreLimits.{within-more, parse-more, rows-more}
+use Rattle.reader.proofs.RoundTrip.{decoded}
+use Rattle.reader.proofs.MoreLimits.{within-more, rows-more}
 use Rattle.reader.proofs.Undo.{read-says, reads-tree}
 use Rattle.reader.proofs.Promise.{tree-decoded}
 use Rattle.rules.specs.Judge.{judgeScript}
 use Rattle.ownership.specs.Answers.{checkOf}
 use Rattle.ownership.proofs.Accepted.{accepted, accepts}
 use Rattle.machine.specs.Values.{closed}
-use Rattle.machine.specs.Store.{State, Ran}
-use Rattle.machine.specs.Run.{runScript}
-use Rattle.machine.specs.Answers.{Answer, answered, runFits, bitsOf, ranInto, runOf}
-use Rattle.safety.specs.Safety.{Safe}
+use Rattle.machine.specs.Store.{State}
+use Rattle.machine.specs.Answers.{runFits, bitsOf}
+use Rattle.machine.proofs.FitLaws.{Fit, fit-says}
 use Rattle.safety.proofs.Larger as trees
-use Rattle.room.specs.Calling.{CallAnswer, called, callFits, runCalled, judgedCalled, parsedCalled, fitCalled, callOf}
+use Rattle.room.specs.Running as running
+use Rattle.room.specs.Running.{RunAnswer, answered, RunMade, runOf}
+use Rattle.room.specs.Calling.{called, callFits, withTerms, readCalled, fitCalled, callOf}
 use Rattle.room.specs.Larger.{SameAgain, LargerScripts, LargerRows, SameChecks, LargerCalls, LargerSets}
-use Rattle.room.proofs.TreeRows.{checks-tree, runs-tree}
+use Rattle.room.proofs.TreeRows.{checks-tree, run-safe}
+use Rattle.room.proofs.RunLaws.{check-refuses}
+use Rattle.room.proofs.RunSafe.{answered-refused}
 use Rattle.room.proofs.CallSafe.{called-refused}
 
--- What `run` answers on the rows of a script whose run is safe.
-safe-answer : (l : Limits) (t : Term) → inRanges l ≡ true → Within l t → (readings : List ℤ) (store : List ℕ) → length readings ≡ 8 → length store ≡ storeNumbers l
-    → (s : Safe l t (bitsOf readings) (λ x. closed)) → runOf l (rowsOf l t) readings store .0 ≡ answered (toZ w32 (s .answer)) (s .final .taken)
-unfolding ranInto
-safe-answer l t r within readings store eight long s =
-    ap (λ (k : Answer × List ℕ). k .0) (runs-tree l t r within readings store eight long) ∙ ap (λ (k : Ran (State × ℕ)). ranInto l k .0) (s .ends)
-
--- ---- what a call's answer says
-
--- The caller's numbers that no set changes: the lengths of the script and of the readings.
-fits-say : (l : Limits) (script : List ℕ) (readings : List ℤ) (rows store : List ℕ) (u : Unit {0}) → callFits l script readings rows store ≡ ok u
-    → (length script ≤ maxBytes) × (length readings ≡ 8)
-unfolding callFits lengthsFit runFits
-fits-say l script readings rows store u h =
-    let a = then (lengthsFit l script rows) _ u h in
-    let b = then (need (inRanges l) (74, 0)) _ (a .0) (a .1) in
-    let c = then (need (leb (length script) maxBytes) (1, 0)) _ (a .0) (b .2) in
-    let d = then (need (inRanges l) (74, 0)) _ u (a .2) in
-    let e = then (need (eqb (length rows) (rowNumbers l)) (2, 0)) _ u (d .2) in
-    let f = then (need (eqb (length store) (storeNumbers l)) (3, 0)) _ u (e .2) in
-    (leb-true _ _ (needed _ _ (c .0) (c .1)), eqb-true _ _ (needed _ _ u (f .2)))
-
-all-fit : (l : Limits) (script : List ℕ) (readings : List ℤ) (rows store : List ℕ) → inRanges l ≡ true → length script ≤ maxBytes → length rows ≡ rowNumbers l
-    → length store ≡ storeNumbers l → length readings ≡ 8 → callFits l script readings rows store ≡ ok tt
-unfolding callFits lengthsFit runFits need _>>=_
-all-fit l script readings rows store r few full long eight =
-    rw (r, le-leb (length script) maxBytes few, eq-eqb (length rows) (rowNumbers l) full, eq-eqb (length store) (storeNumbers l) long, eq-eqb (length readings) 8 eight)
-
--- A call that answers: its lengths fit, and its script is read and accepted.
-record Answers (l : Limits) (script : List ℕ) (readings : List ℤ) (r : CallAnswer) : Type 0 where
+-- A call that answers: its lengths fit, its script is read, and the rows run.
+record Answers (l : Limits) (script : List ℕ) (readings : List ℤ) (rows store : List ℕ) (n : ℕ) (a : ℤ) (c : ℕ) : Type 0 where
   pub few : length script ≤ maxBytes
-  pub eight : length readings ≡ 8
-  pub tree : Term
-  pub parses : parse l script ≡ ok tree
-  pub judged : judgeScript (l .variables) tree ≡ ok tt
-  pub ran : runCalled l tree (runScript (bitsOf readings) tree (λ x. closed)) .0 ≡ r
+  pub fit : Fit l rows readings store
+  pub read : readOf l script rows .0 ≡ ok n
+  pub ran : runOf l (readOf l script rows .1) readings store .0 ≡ answered a c
 
 module _ (l : Limits) (script : List ℕ) (readings : List ℤ) (rows store : List ℕ) (n : ℕ) (a : ℤ) (c : ℕ) where
-  call-says : callOf l script readings rows store .0 ≡ called n a c → Answers l script readings (called n a c)
-  unfolding callOf fitCalled parsedCalled judgedCalled
+  -- The lengths that no set changes, and those that a run asks.
+  fits-say : (u : Unit {0}) → callFits l script readings rows store ≡ ok u → (length script ≤ maxBytes) × Fit l rows readings store
+  unfolding callFits lengthsFit
+  fits-say u h =
+      let x = then (lengthsFit l script rows) (λ _. runFits l rows readings store) u h in
+      let y = then (need (inRanges l) (74, 0)) _ (x .0) (x .1) in
+      let z = then (need (leb (length script) maxBytes) (1, 0)) _ (x .0) (y .2) in
+      (leb-true _ _ (needed _ _ (z .0) (z .1)), fit-says l rows readings store u (x .2))
+
+  terms-say : (k : ℕ) (r : RunAnswer) → withTerms k r ≡ called n a c → (k ≡ n) × (r ≡ answered a c)
+  unfolding withTerms
+  terms-say k (answered b d) h = (cc, cc)
+  terms-say k (running.refused m p) h = called-refused (sym h)
+
+  call-says : callOf l script readings rows store .0 ≡ called n a c → Answers l script readings rows store n a c
+  unfolding callOf fitCalled readCalled
   call-says = fit (callFits l script readings rows store) refl
     where
-      judged : (length script ≤ maxBytes) × (length readings ≡ 8) → (t : Term) → parse l script ≡ ok t → (j : Result Refusal (Unit {0})) → judgeScript (l .variables) t ≡ j
-          → judgedCalled l readings store t j .0 ≡ called n a c → Answers l script readings (called n a c)
-      judged f t w (ok x) j h = record { few = f .0; eight = f .1; tree = t; parses = w; judged = j; ran = h }
-      judged f t w (err e) j h = called-refused (sym h)
+      read : (length script ≤ maxBytes) × Fit l rows readings store → (r : Result Refusal ℕ) → readOf l script rows .0 ≡ r
+          → readCalled l readings store r (readOf l script rows .1) .0 ≡ called n a c → Answers l script readings rows store n a c
+      read f (ok k) e h =
+          let s = terms-say k (runOf l (readOf l script rows .1) readings store .0) h in
+          record { few = f .0; fit = f .1; read = e ∙ ap ok (s .0); ran = s .1 }
+      read f (err x) e h = called-refused (sym h)
 
-      read : (length script ≤ maxBytes) × (length readings ≡ 8) → (p : Result Refusal Term) → parse l script ≡ p → parsedCalled l readings store p .0 ≡ called n a c
-          → Answers l script readings (called n a c)
-      read f (ok t) w h = judged f t w (judgeScript (l .variables) t) refl h
-      read f (err e) w h = called-refused (sym h)
-
-      fit : (f : Result Refusal (Unit {0})) → callFits l script readings rows store ≡ f → fitCalled f rows store (parsedCalled l readings store (parse l script)) .0 ≡ called n a c
-          → Answers l script readings (called n a c)
-      fit (ok x) g h = read (fits-say l script readings rows store x g) (parse l script) refl h
+      fit : (f : Result Refusal (Unit {0})) → callFits l script readings rows store ≡ f
+          → fitCalled f rows store (readCalled l readings store (readOf l script rows .0) (readOf l script rows .1)) .0 ≡ called n a c → Answers l script readings rows store n a c
+      fit (ok x) g h = read (fits-say x g) (readOf l script rows .0) refl h
       fit (err e) g h = called-refused (sym h)
 
--- What a call answers once it has run has no set in it.
-ran-same : (l m : Limits) (t : Term) (x : Ran (State × ℕ)) → runCalled m t x .0 ≡ runCalled l t x .0
-unfolding runCalled
-ran-same l m t (ok e) = refl
-ran-same l m t (err f) = refl
+-- A call whose lengths fit answers what reading and running answer.
+module _ (l : Limits) (script : List ℕ) (readings : List ℤ) (rows store : List ℕ) where
+  all-fit : inRanges l ≡ true → length script ≤ maxBytes → length rows ≡ rowNumbers l → length store ≡ storeNumbers l → length readings ≡ 8
+      → callFits l script readings rows store ≡ ok tt
+  unfolding callFits lengthsFit runFits need _>>=_
+  all-fit r few full long eight =
+      rw (r, le-leb (length script) maxBytes few, eq-eqb (length rows) (rowNumbers l) full, eq-eqb (length store) (storeNumbers l) long, eq-eqb (length readings) 8 eight)
+
+  call-answers : callFits l script readings rows store ≡ ok tt → (n : ℕ) (again : List ℕ) → readOf l script rows ≡ (ok n, again) → (a : ℤ) (c : ℕ) → runOf l again readings store .0 ≡ answered a c
+      → callOf l script readings rows store .0 ≡ called n a c
+  unfolding callOf fitCalled readCalled withTerms
+  call-answers f n again e a c r = rw (f, e, r)
 
 -- ---- the statements
 
@@ -116,8 +106,8 @@ module _ (l m : Limits) (le : NoSmaller l m) (r : inRanges m ≡ true) where
             record {
               answer = toZ w32 (S .smaller .answer);
               cells = S .smaller .final .taken;
-              smaller = safe-answer l t q within readings store eight long (S .smaller);
-              larger = safe-answer m t r (K .within) readings store′ eight long′ (S .larger)
+              smaller = ap (λ (k : RunMade). k .0) (run-safe l t q within readings store eight long (S .smaller) judged);
+              larger = ap (λ (k : RunMade). k .0) (run-safe m t r (K .within) readings store′ eight long′ (S .larger) (K .judged))
                   ∙ ap₂ (λ (v : ℕ) (s : State). answered (toZ w32 v) (s .taken)) (S .answer) (S .final);
             };
       }
@@ -162,14 +152,24 @@ module _ (l m : Limits) (le : NoSmaller l m) (r : inRanges m ≡ true) where
       ∙ ap (λ (j : Result Refusal (Unit {0})). j >>= λ _. ok (size t)) (trees.larger-sets l m le .verdict t (d .1))
       ∙ sym (checks-tree l t (c .ranges) (d .1)) ∙ ap (checkOf l) (sym (d .0))
 
+  -- A run that answers was accepted by the check.
+  ran-accepted : (rows : List ℕ) (readings : List ℤ) (store : List ℕ) → length readings ≡ 8 → length store ≡ storeNumbers l → (a : ℤ) (c : ℕ)
+      → runOf l rows readings store .0 ≡ answered a c → (k : ℕ) × (checkOf l rows ≡ ok k)
+  ran-accepted rows readings store eight long a c h = go (checkOf l rows) refl
+    where
+      go : (v : Result Refusal ℕ) → checkOf l rows ≡ v → (k : ℕ) × (checkOf l rows ≡ ok k)
+      go (ok k) e = (k, e)
+      go (err e) q = answered-refused (sym h ∙ ap (λ (k : RunMade). k .0) (check-refuses l rows readings store eight long e q))
+
   calls : LargerCalls l m
-  unfolding callOf fitCalled parsedCalled judgedCalled
   calls script readings rows store rows′ store′ n a c u full long h =
       let A = call-says l script readings rows store n a c h in
-      let t = A .tree in
-      let j = trees.larger-sets l m le .stays t (parsed l script t u (A .parses) .1) (A .judged) .judged in
-      rw (all-fit m script readings rows′ store′ r (A .few) full long (A .eight), parse-more l m le script t u (A .parses), j)
-      (ran-same l m t (runScript (bitsOf readings) t (λ x. closed)) ∙ A .ran)
+      let f = A .fit in
+      let K = ran-accepted (readOf l script rows .1) readings store (f .eight) (f .size) a c (A .ran) in
+      let S = scripts script rows n (readOf l script rows .1) rows′ (K .0) u full (λ i. (A .read i, readOf l script rows .1)) (K .1) in
+      let R = S .3 .runs readings store store′ (f .eight) (f .size) long in
+      let same : answered (R .answer) (R .cells) ≡ answered a c = sym (R .smaller) ∙ A .ran in
+      call-answers m script readings rows′ store′ (all-fit m script readings rows′ store′ r (A .few) full long (f .eight)) n (S .1) (S .2) a c (R .larger ∙ same)
 
 pub larger-sets : LargerSets
 larger-sets l m le r = record { scripts = scripts l m le r; rows = of-rows l m le r; verdicts = verdicts l m le r; calls = calls l m le r }

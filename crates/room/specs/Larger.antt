@@ -14,7 +14,7 @@ use Rattle.reader.specs.Layout.{zeros}
 use Rattle.reader.specs.Within.{Under}
 use Rattle.reader.specs.Answers.{readOf, judgedOf}
 use Rattle.ownership.specs.Answers.{checkOf}
-use Rattle.machine.specs.Answers.{answered, runOf}
+use Rattle.room.specs.Running.{answered, runOf}
 use Rattle.room.specs.Calling.{called, callOf}
 
 -- Both runs come to their end, with the same answer and the same number of cells taken.

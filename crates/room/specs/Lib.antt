@@ -1,4 +1,5 @@
--- What one call that reads, checks and runs a script answers, and the line that reports it.
+-- What a run that checks first answers, and a call that reads and then runs; and the line that reports a call.
+pub mod Running
 pub mod Calling
 pub mod Accepted
 pub mod Larger

@@ -1,4 +1,4 @@
--- The line that the program prints (LANGUAGE 6.10), and what `report` answers and leaves in lent memory on every input (6.8).
+-- The line that the program prints (LANGUAGE 6.11), and what `report` answers and leaves in lent memory on every input (6.9).
 use Prim.Native.Nat.{ℕ, zero, suc, _+_, _/_, _%_}
 use Prim.Native.Char.{code}
 use Prim.Native.String.{String, [] as []ˢ, _∷_ as _∷ˢ_}
@@ -30,16 +30,16 @@ unfoldable pub signed : ℤ → List ℕ
 signed (pos n) = decimal n
 signed (negsuc n) = ascii "-" ++ decimal (suc n)
 
--- The line of an answer (LANGUAGE 6.10): terms, answer and cells taken; or number and place.
+-- The line of an answer (LANGUAGE 6.11): terms, answer and cells taken; or number and place.
 unfoldable pub lineOf : CallAnswer → List ℕ
 lineOf (called terms answer cells) = (ascii "accepted " ++ decimal terms) ++ (ascii " call " ++ signed answer) ++ (ascii " cells " ++ decimal cells) ++ ascii "\n"
 lineOf (refused number place) = (ascii "refused " ++ decimal number) ++ (ascii " at " ++ decimal place) ++ ascii "\n"
 
--- The line for fewer than 32 bytes of input (LANGUAGE 6.10).
+-- The line for fewer than 32 bytes of input (LANGUAGE 6.11).
 unfoldable pub shortLine : List ℕ
 shortLine = ascii "readings short\n"
 
--- The eight readings at the front of the input (LANGUAGE 6.9).
+-- The eight readings at the front of the input (LANGUAGE 6.10).
 unfoldable pub readingsOf : List ℕ → List ℤ
 readingsOf input =
     readingAt input 0 ∷ readingAt input 4 ∷ readingAt input 8 ∷ readingAt input 12
@@ -59,7 +59,7 @@ reported text rows store line = (length text, (rows, (store, inFront text line))
 unfoldable pub reportCall : CallMade → List ℕ → Reported
 reportCall made line = reported (lineOf (made .0)) (made .1 .0) (made .1 .1) line
 
--- `report`: the line of the call of the script after the readings (LANGUAGE 6.8, 6.9).
+-- `report`: the line of the call of the script after the readings (LANGUAGE 6.9, 6.10).
 unfoldable pub reportOf : Limits → List ℕ → List ℕ → List ℕ → List ℕ → Reported
 reportOf l input rows store line =
     pick (ltb (length input) 32)

@@ -1,16 +1,16 @@
-// Reads, checks and runs a script in one call, and puts the program's line of it into a buffer. What the check accepts
-// runs without a fault, so the answer has none.
+// Runs scripts that the check accepts, from term rows or from bytes, and puts the program's line of a call into a
+// buffer. What the check accepts runs without a fault, so no answer is one.
 mod line; // line.rt: the line of an answer
 
 ghost use mathlib.Core.Path.{_≡_};
 ghost use Prim.Native.Nat.{_≤_};
 ghost use lib.ListN.{length};
-ghost use Rattle.reader.specs.Result.{ok};
 ghost use Rattle.reader.specs.Limits.{storeNumbers};
-ghost use Rattle.reader.specs.Answers.{judgedOf};
-ghost use Rattle.room.specs.Calling.{toldCall, callOf, SafeCall, readingAt};
+ghost use Rattle.ownership.specs.Answers.{toldChecked, checkOf};
+ghost use Rattle.room.specs.Running.{toldRan, runOf, SafeRun};
+ghost use Rattle.room.specs.Calling.{toldCall, withTerms, callOf, SafeCall, readingAt};
 ghost use Rattle.room.specs.Line.{readingsOf, reportOf, baseReportOf};
-ghost use Rattle.room.specs.Parts.{fitNumber, checkedRun};
+ghost use Rattle.room.specs.Parts.{fitNumber};
 use machine::RunOutcome;
 use machine::signed::number_of;
 use ownership::Checked;
@@ -30,13 +30,58 @@ const ROWS: usize = 5 * limits::BASE.terms as usize;
 
 const STORE: usize = 3 * (limits::BASE.variables as usize + limits::BASE.boxes as usize);
 
-// The terms, the answer and the cells taken; or the refusal's number and place (LANGUAGE 6.7).
+// The answer and the cells taken; or the refusal's number and place (LANGUAGE 6.6).
+pub enum Ran {
+    Answered(i32, usize),
+    Refused(u32, usize),
+}
+
+// The terms, the answer and the cells taken; or the refusal's number and place (LANGUAGE 6.8).
 pub enum Called {
     Answered(usize, i32, usize),
     Refused(u32, usize),
 }
 
-// The number of the caller's refusal: 74 for the set, then the lowest (LANGUAGE 5.8); 0 for none.
+// The run of rows that were checked, where the check accepts them. It does not judge the rows again, and comes to
+// neither a refusal nor a fault.
+fn run_accepted(
+    set: Limits,
+    checked: Checked,
+    rows: &[u32],
+    readings: &[i32],
+    store: &mut [u32],
+) -> Ran
+    requires { ⌜ (toldChecked checked ≡ checkOf set (now rows)) × (length (now readings) ≡ 8) × (length (now store) ≡ storeNumbers set) ⌝ }
+    ensures { λ r. ⌜ (toldRan r, now (store .exit)) ≡ runOf set (now (rows .entry)) (now (readings .entry)) (now (store .entry)) ⌝ }
+{
+    match checked {
+        Checked::Refused(number, place) => Ran::Refused(number, place),
+        Checked::Accepted(terms) => {
+            let ran = machine::run_judged(set, rows, readings, store);
+            match ran {
+                RunOutcome::Answered(answer, cells) => Ran::Answered(answer, cells),
+                RunOutcome::Refused(number, place) => Ran::Refused(number, place),
+                RunOutcome::Faulted(number, term) => Ran::Refused(number, term),
+            }
+        }
+    }
+}
+
+// Run (LANGUAGE 6.6): the script of the term rows with the readings, under the set (2.8), if the check accepts it.
+// Every refusal (74, 2 to 4, 12 to 19, 30 to 43) leaves the store unchanged, and no fault is met.
+pub fn run(set: Limits, rows: &[u32], readings: &[i32], store: &mut [u32]) -> Ran
+    ensures answered { λ r. ⌜ (toldRan r, now (store .exit)) ≡ runOf set (now (rows .entry)) (now (readings .entry)) (now (store .entry)) ⌝ }
+    ensures safe { λ r. ⌜ SafeRun set (now (rows .entry)) (now (readings .entry)) (toldRan r) (now (store .entry)) (now (store .exit)) ⌝ }
+{
+    let number = machine::fit_number(set, rows.len(), store.len(), readings.len());
+    if number != 0 {
+        return Ran::Refused(number, 0);
+    }
+    let checked = ownership::check(set, rows);
+    run_accepted(set, checked, rows, readings, store)
+}
+
+// The number of the caller's refusal of a call: 74 for the set, then the lowest (LANGUAGE 5.8); 0 for none.
 fn fit_number(set: Limits, script: usize, rows: usize, store: usize, readings: usize) -> u32
     ensures { λ r. ⌜ r ≡ fitNumber set script rows store readings ⌝ }
 {
@@ -46,45 +91,22 @@ fn fit_number(set: Limits, script: usize, rows: usize, store: usize, readings: u
     if limits::BYTES < script {
         return limits::SCRIPT_TOO_LONG;
     }
-    if rows != limits::row_numbers(set) {
-        return limits::ROWS_LENGTH;
-    }
-    if store != limits::store_numbers(set) {
-        return limits::STORE_LENGTH;
-    }
-    if readings != limits::READINGS as usize {
-        return limits::READINGS_LENGTH;
-    }
-    0
+    machine::fit_number(set, rows, store, readings)
 }
 
-// The check of rows that were read, and the run of what it accepts. Neither judges the rows again.
-fn run_checked(
-    set: Limits,
-    terms: usize,
-    rows: &[u32],
-    readings: &[i32],
-    store: &mut [u32],
-) -> Called
-    requires { ⌜ (judgedOf set (now rows) ≡ ok terms) × (length (now readings) ≡ 8) × (length (now store) ≡ storeNumbers set) ⌝ }
-    ensures { λ r. ⌜ (toldCall r, now (store .exit)) ≡ checkedRun set terms (now (rows .entry)) (now (readings .entry)) (now (store .entry)) ⌝ }
+// A run's answer as a call's, with the terms that were read.
+fn with_terms(terms: usize, ran: Ran) -> Called
+    ensures { λ r. ⌜ toldCall r ≡ withTerms terms (toldRan ran) ⌝ }
 {
-    let checked = ownership::check_judged(set, rows, terms);
-    match checked {
-        Checked::Refused(number, term) => Called::Refused(number, term),
-        Checked::Accepted(n) => {
-            let ran = machine::run_judged(set, rows, readings, store);
-            match ran {
-                RunOutcome::Answered(answer, cells) => Called::Answered(terms, answer, cells),
-                RunOutcome::Refused(number, place) => Called::Refused(number, place),
-                RunOutcome::Faulted(number, term) => Called::Refused(number, term),
-            }
-        }
+    match ran {
+        Ran::Answered(answer, cells) => Called::Answered(terms, answer, cells),
+        Ran::Refused(number, place) => Called::Refused(number, place),
     }
 }
 
-// A call (LANGUAGE 6.7). The caller's refusals (74, 1 to 4) change nothing; those of the bytes (10 to 19) leave all
-// rows 0; those of the ownership rules (30 to 43) leave the rows of the script. In all of these the store is unchanged.
+// A call (LANGUAGE 6.8): read, then run. The caller's refusals (74, 1 to 4) change nothing; those of the bytes (10 to
+// 19) leave all rows 0; those of the ownership rules (30 to 43) leave the rows of the script. In all of these the store
+// is unchanged. Reading has judged the rows, so the check does not judge them again.
 pub fn call(
     set: Limits,
     script: &[u8],
@@ -102,11 +124,14 @@ pub fn call(
     let read = reader::read(set, script, rows);
     match read {
         Outcome::Refused(number, place) => Called::Refused(number, place),
-        Outcome::Count(terms) => run_checked(set, terms, rows, readings, store),
+        Outcome::Count(terms) => {
+            let checked = ownership::check_judged(set, rows, terms);
+            with_terms(terms, run_accepted(set, checked, rows, readings, store))
+        }
     }
 }
 
-// A reading of the input (LANGUAGE 6.9): the four bytes from `at` on, high byte first; 0 where there are not as many.
+// A reading of the input (LANGUAGE 6.10): the four bytes from `at` on, high byte first; 0 where there are not as many.
 fn reading_at(input: &[u8], at: usize) -> i32
     ensures { λ r. ⌜ r ≡ readingAt (now (input .entry)) at ⌝ }
 {
@@ -119,7 +144,7 @@ fn reading_at(input: &[u8], at: usize) -> i32
     number_of(word_at(input, at))
 }
 
-// The eight readings at the front of the input (LANGUAGE 6.9).
+// The eight readings at the front of the input (LANGUAGE 6.10).
 fn readings_of(input: &[u8]) -> [i32; 8]
     ensures { λ r. ⌜ r ≡ readingsOf (now (input .entry)) ⌝ }
 {
@@ -135,7 +160,7 @@ fn readings_of(input: &[u8]) -> [i32; 8]
     ]
 }
 
-// The program's work (LANGUAGE 6.8): the line for an input of eight readings and a script goes to the front of `line`,
+// The program's work (LANGUAGE 6.9): the line for an input of eight readings and a script goes to the front of `line`,
 // and the answer is its length.
 pub fn report(
     set: Limits,
@@ -155,7 +180,7 @@ pub fn report(
     line::put_called(line, called)
 }
 
-// The program's work (LANGUAGE 6.8) under the language's own set (2.8), with rows and store of its own.
+// The program's work (LANGUAGE 6.9) under the language's own set (2.8), with rows and store of its own.
 pub fn report_base(input: &[u8], line: &mut [u8; LINE]) -> usize
     ensures answered { λ r. ⌜ (r, now (line .exit)) ≡ baseReportOf (now (input .entry)) (now (line .entry)) ⌝ }
     ensures within { λ r. ⌜ r ≤ length (now (line .exit)) ⌝ }

@@ -1,4 +1,4 @@
-// The line of an answer (LANGUAGE 6.10), put into a buffer. 80 bytes hold every line that the numbers' types allow. A
+// The line of an answer (LANGUAGE 6.11), put into a buffer. 80 bytes hold every line that the numbers' types allow. A
 // function that puts bytes puts them from offset `at` on, and answers the offset after them.
 ghost use mathlib.Core.Path.{_≡_};
 ghost use mathlib.Core.List.{_∷_, [], _++_};

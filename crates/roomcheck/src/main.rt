@@ -1,4 +1,4 @@
-// The program (LANGUAGE 6.9 to 6.11). Reads eight readings and a script from standard input, and prints the line that
+// The program (LANGUAGE 6.10 to 6.12). Reads eight readings and a script from standard input, and prints the line that
 // `room::report_base` makes of them. Where reading fails there is no line: what was read may not be the whole input.
 ghost use lib.ListN.{length};
 ghost use Rattle.roomcheck.specs.Input.{Within};

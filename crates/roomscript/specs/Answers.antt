@@ -5,20 +5,26 @@ use mathlib.Core.List.{List}
 use lib.IntN.{ℤ, pos}
 use Rattle.reader.specs.Result.{Result, ok, err, Refusal}
 use Rattle.reader.specs.Limits.{Limits}
-use Rattle.machine.specs.Answers as run
+use Rattle.machine.specs.Answers as unchecked
+use Rattle.room.specs.Running as run
 use Rattle.room.specs.Calling as call
 use Rattle.roomscript.specs.declared.Answer.{Answer}
-use Rattle.roomscript.specs.declared.Ran.{Ran}
+use Rattle.roomscript.specs.declared.Run.{Run}
+use Rattle.roomscript.specs.declared.RunUnchecked.{RunUnchecked}
 use Rattle.roomscript.specs.declared.Call.{Call}
 
 unfoldable pub answerIn : Result Refusal ℕ → Answer
 answerIn (ok n) = record { refused = 0; number = 0; value = n }
 answerIn (err e) = record { refused = 1; number = e .0; value = e .1 }
 
-unfoldable pub ranIn : run.Answer → Ran
-ranIn (run.answered a c) = record { outcome = 0; number = 0; answer = a; value = c }
-ranIn (run.refused n p) = record { outcome = 1; number = n; answer = pos 0; value = p }
-ranIn (run.faulted n i) = record { outcome = 2; number = n; answer = pos 0; value = i }
+unfoldable pub ranIn : run.RunAnswer → Run
+ranIn (run.answered a c) = record { refused = 0; number = 0; answer = a; place = 0; cells = c }
+ranIn (run.refused n p) = record { refused = 1; number = n; answer = pos 0; place = p; cells = 0 }
+
+unfoldable pub uncheckedIn : unchecked.Answer → RunUnchecked
+uncheckedIn (unchecked.answered a c) = record { outcome = 0; number = 0; answer = a; value = c }
+uncheckedIn (unchecked.refused n p) = record { outcome = 1; number = n; answer = pos 0; value = p }
+uncheckedIn (unchecked.faulted n i) = record { outcome = 2; number = n; answer = pos 0; value = i }
 
 unfoldable pub calledIn : call.CallAnswer → Call
 calledIn (call.called t a c) = record { refused = 0; number = 0; answer = a; place = 0; terms = t; cells = c }
@@ -28,6 +34,9 @@ calledIn (call.refused n p) = record { refused = 1; number = n; answer = pos 0; 
 abbrev pub inC : {A B M : Type 0} → (A → B) → A × M → B × M
 inC form r = (form (r .0), r .1)
 
--- The answer is that of a safe call (LANGUAGE 7.4).
-abbrev pub SafeInC : Limits → List ℕ → List ℤ → Call → List ℕ → List ℕ → Type 0
-SafeInC l script readings r before after = (m : call.CallAnswer) × (r ≡ calledIn m) × call.SafeCall l script readings m before after
+-- The answer is that of a safe run, or of a safe call (LANGUAGE 7.4).
+abbrev pub SafeRunInC : Limits → List ℕ → List ℤ → Run → List ℕ → List ℕ → Type 0
+SafeRunInC l rows readings r before after = (m : run.RunAnswer) × (r ≡ ranIn m) × run.SafeRun l rows readings m before after
+
+abbrev pub SafeCallInC : Limits → List ℕ → List ℤ → Call → List ℕ → List ℕ → Type 0
+SafeCallInC l script readings r before after = (m : call.CallAnswer) × (r ≡ calledIn m) × call.SafeCall l script readings m before after

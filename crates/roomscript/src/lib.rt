@@ -3,14 +3,16 @@
 ghost use mathlib.Core.Path.{_≡_};
 ghost use Rattle.reader.specs.Answers.{told, readOf, judgedOf, writtenOf};
 ghost use Rattle.ownership.specs.Answers.{toldChecked, checkOf};
-ghost use Rattle.machine.specs.Answers.{toldRun, runOf};
+ghost use Rattle.machine.specs.Answers.{toldRun, uncheckedOf};
+ghost use Rattle.room.specs.Running.{toldRan, runOf};
 ghost use Rattle.room.specs.Calling.{toldCall, callOf};
-ghost use Rattle.roomscript.specs.Answers.{answerIn, ranIn, calledIn, inC, SafeInC};
+ghost use Rattle.roomscript.specs.Answers.{answerIn, ranIn, uncheckedIn, calledIn, inC, SafeRunInC, SafeCallInC};
 use machine::RunOutcome;
 use ownership::Checked;
 use reader::Outcome;
 use reader::limits::Limits;
 use room::Called;
+use room::Ran;
 
 // refused is 0 or 1. Where it is 0, value is the count (terms, or bytes written) and number is 0;
 // else number is the refusal's number (LANGUAGE 5.3 to 5.5) and value its place (5.2).
@@ -83,37 +85,33 @@ fn c_checked(checked: Checked) -> Answer
     }
 }
 
-// outcome is 0 where the run answers: value is then the count of cells taken. It is 1 for a refusal, with its
-// number and place, and 2 for a fault, with its number and term. answer is 0 unless the run answers.
+// refused is 0 or 1; where it is 1, number and place say why, and the others are 0. There is no fault (LANGUAGE 7.4).
 #[repr(C)]
-pub struct Ran {
-    pub outcome: u32,
+pub struct Run {
+    pub refused: u32,
     pub number: u32,
     pub answer: i32,
-    pub value: u64,
+    pub place: u64,
+    pub cells: u64,
 }
 
-fn c_ran(ran: RunOutcome) -> Ran
-    ensures { λ r. ⌜ r ≡ ranIn (toldRun ran) ⌝ }
+fn c_ran(ran: Ran) -> Run
+    ensures { λ r. ⌜ r ≡ ranIn (toldRan ran) ⌝ }
 {
     match ran {
-        RunOutcome::Answered(answer, cells) => Ran {
-            outcome: 0,
+        Ran::Answered(answer, taken) => Run {
+            refused: 0,
             number: 0,
             answer: answer,
-            value: cells as u64,
+            place: 0,
+            cells: taken as u64,
         },
-        RunOutcome::Refused(number, place) => Ran {
-            outcome: 1,
+        Ran::Refused(number, row_or_term) => Run {
+            refused: 1,
             number: number,
             answer: 0,
-            value: place as u64,
-        },
-        RunOutcome::Faulted(number, term) => Ran {
-            outcome: 2,
-            number: number,
-            answer: 0,
-            value: term as u64,
+            place: row_or_term as u64,
+            cells: 0,
         },
     }
 }
@@ -124,10 +122,59 @@ pub extern "C" fn roomscript_run(
     rows: &[u32],
     readings: &[i32],
     store: &mut [u32],
-) -> Ran
-    ensures { λ r. ⌜ (r, now (store .exit)) ≡ inC ranIn (runOf limits (now (rows .entry)) (now (readings .entry)) (now (store .entry))) ⌝ }
+) -> Run
+    ensures answered { λ r. ⌜ (r, now (store .exit)) ≡ inC ranIn (runOf limits (now (rows .entry)) (now (readings .entry)) (now (store .entry))) ⌝ }
+    ensures safe { λ r. ⌜ SafeRunInC limits (now (rows .entry)) (now (readings .entry)) r (now (store .entry)) (now (store .exit)) ⌝ }
 {
-    c_ran(machine::run(limits, rows, readings, store))
+    c_ran(room::run(limits, rows, readings, store))
+}
+
+// outcome is 0 where the run answers: value is then the count of cells taken. It is 1 for a refusal, with its
+// number and place, and 2 for a fault, with its number and term. answer is 0 unless the run answers.
+#[repr(C)]
+pub struct RunUnchecked {
+    pub outcome: u32,
+    pub number: u32,
+    pub answer: i32,
+    pub value: u64,
+}
+
+fn c_unchecked(ran: RunOutcome) -> RunUnchecked
+    ensures { λ r. ⌜ r ≡ uncheckedIn (toldRun ran) ⌝ }
+{
+    match ran {
+        RunOutcome::Answered(answer, cells) => RunUnchecked {
+            outcome: 0,
+            number: 0,
+            answer: answer,
+            value: cells as u64,
+        },
+        RunOutcome::Refused(number, place) => RunUnchecked {
+            outcome: 1,
+            number: number,
+            answer: 0,
+            value: place as u64,
+        },
+        RunOutcome::Faulted(number, term) => RunUnchecked {
+            outcome: 2,
+            number: number,
+            answer: 0,
+            value: term as u64,
+        },
+    }
+}
+
+// For lessons and tests about what the check prevents; everything else calls `roomscript_run` (LANGUAGE 6.7).
+#[no_mangle]
+pub extern "C" fn roomscript_run_unchecked(
+    limits: Limits,
+    rows: &[u32],
+    readings: &[i32],
+    store: &mut [u32],
+) -> RunUnchecked
+    ensures { λ r. ⌜ (r, now (store .exit)) ≡ inC uncheckedIn (uncheckedOf limits (now (rows .entry)) (now (readings .entry)) (now (store .entry))) ⌝ }
+{
+    c_unchecked(machine::run_unchecked(limits, rows, readings, store))
 }
 
 // refused is 0 or 1; where it is 1, number and place say why, and the others are 0.
@@ -173,7 +220,7 @@ pub extern "C" fn roomscript_call(
     store: &mut [u32],
 ) -> Call
     ensures answered { λ r. ⌜ (r, (now (rows .exit), now (store .exit))) ≡ inC calledIn (callOf limits (now (script .entry)) (now (readings .entry)) (now (rows .entry)) (now (store .entry))) ⌝ }
-    ensures safe { λ r. ⌜ SafeInC limits (now (script .entry)) (now (readings .entry)) r (now (store .entry)) (now (store .exit)) ⌝ }
+    ensures safe { λ r. ⌜ SafeCallInC limits (now (script .entry)) (now (readings .entry)) r (now (store .entry)) (now (store .exit)) ⌝ }
 {
     c_called(room::call(limits, script, readings, rows, store))
 }

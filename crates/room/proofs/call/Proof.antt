@@ -1,7 +1,7 @@
 -- `room::call` meets its contract. Assumes nothing.
 use Rattle.reader.proofs.Lists.{under-bytes}
 use Rattle.reader.proofs.Promise.{read-judged}
-use Rattle.room.proofs.CallLaws.{call-unfit, fit-lengths, call-unread, call-read}
+use Rattle.room.proofs.CallLaws.{call-unfit, fit-run, call-unread, call-read}
 use Rattle.room.proofs.CallSafe.{safe-call}
 use borrow.Author.Needs.{needs}
 use Rattle.room.proofs.call.Statement.{statement}
@@ -24,11 +24,16 @@ enum-known-read c = search needs
 enum-known-read-2 : tie.Need-enum-known-read-2
 enum-known-read-2 c = search needs
 
-run-checked-requires : tie.Need-run-checked-requires
-run-checked-requires c κs =
-    let lengths = fit-lengths _ (c .before .before .before .before .before .before .before .before .before .before .before .before .before .before .args .script .now) (c .before .before .before .before .before .before .before .before .before .before .before .before .before .before .args .readings .now) (c .before .before .before .before .before .before .before .before .before .before .before .before .before .before .args .rows .now) (c .before .before .before .before .before .before .before .before .before .before .before .before .before .before .args .store .now) _ (c .before .before .before .before .before .before .before .before .before .before .fit-number .ensures) (c .before .before .before .before .before .before .before .before .before .if1 .left) in
-    let bytes = under-bytes (c .before .before .before .before .before .before .before .before .before .before .before .before .before .before .args .script .now) (c .before .before .before .before .before .before .before .before .before .before .before .before .before .shared-slice-known .given) in
-    (read-judged _ _ bytes _ _ _ _ (c .before .before .before .before .before .before .before .read .ensures) (c .before .before .before .read3 .given .1), lengths .0, lengths .1)
+check-judged-requires : tie.Need-check-judged-requires
+check-judged-requires c κs = read-judged _ _ (under-bytes (c .before .before .before .before .before .before .before .before .before .before .before .before .before .args .script .now) (c .before .before .before .before .before .before .before .before .before .before .before .before .shared-slice-known .given)) _ _ _ _ (c .before .before .before .before .before .before .read .ensures) (c .before .before .read3 .given .1)
+
+run-accepted-requires : tie.Need-run-accepted-requires
+run-accepted-requires c κs =
+    let fit = fit-run _ (c .before .before .before .before .before .before .before .before .before .before .before .before .before .before .before .before .args .script .now) (c .before .before .before .before .before .before .before .before .before .before .before .before .before .before .before .before .args .readings .now) (c .before .before .before .before .before .before .before .before .before .before .before .before .before .before .before .before .args .rows .now) (c .before .before .before .before .before .before .before .before .before .before .before .before .before .before .before .before .args .store .now) _ (c .before .before .before .before .before .before .before .before .before .before .before .before .fit-number .ensures) (c .before .before .before .before .before .before .before .before .before .before .before .if1 .left) in
+    (c .before .before .check-judged .ensures, fit .eight, fit .size)
+
+with-terms-requires : tie.Need-with-terms-requires
+with-terms-requires c κs = search needs
 
 same-length : tie.Need-same-length
 same-length c = search needs
@@ -46,9 +51,8 @@ same-length-3 c = search needs
 
 returns-3 : tie.Need-returns-3
 returns-3 c =
-    let u = under-bytes (c .before .before .before .before .before .before .before .before .before .before .before .before .before .before .before .before .before .args .script .now) (c .before .before .before .before .before .before .before .before .before .before .before .before .before .before .before .before .shared-slice-known .given) in
-    let e = call-read _ _ (c .before .before .before .before .before .before .before .before .before .before .before .before .before .before .before .before .before .args .readings .now) _ _ _ (c .before .before .before .before .before .before .before .before .before .before .before .before .before .fit-number .ensures) (c .before .before .before .before .before .before .before .before .before .before .before .before .if1 .left) _ _ (c .before .before .before .before .before .before .before .before .before .before .read .ensures) u _ (c .before .before .before .before .before .before .read3 .given .1) _ _ (c .before .before .run-checked .ensures) in
-    (e, safe-call _ _ _ _ _ u _ _ _ e)
+    let e = call-read _ _ (c .before .before .before .before .before .before .before .before .before .before .before .before .before .before .before .before .before .before .before .before .args .readings .now) _ _ _ (c .before .before .before .before .before .before .before .before .before .before .before .before .before .before .before .before .fit-number .ensures) (c .before .before .before .before .before .before .before .before .before .before .before .before .before .before .before .if1 .left) _ _ (c .before .before .before .before .before .before .before .before .before .before .before .before .before .read .ensures) _ (c .before .before .before .before .before .before .before .before .before .read3 .given .1) _ _ (c .before .before .before .run-accepted .ensures) _ (c .with-terms .ensures) in
+    (e, safe-call _ _ _ _ _ (under-bytes (c .before .before .before .before .before .before .before .before .before .before .before .before .before .before .before .before .before .before .before .before .args .script .now) (c .before .before .before .before .before .before .before .before .before .before .before .before .before .before .before .before .before .before .before .shared-slice-known .given)) _ _ _ e)
 
 pub call-spec : {M : Type 1} → statement M
 call-spec =
@@ -59,7 +63,9 @@ call-spec =
     read-requires
     enum-known-read
     enum-known-read-2
-    run-checked-requires
+    check-judged-requires
+    run-accepted-requires
+    with-terms-requires
     same-length
     returns-2
     same-length-2

@@ -1,13 +1,13 @@
--- `roomscript::c_ran` meets its contract. Assumes nothing.
+-- `roomscript::c_unchecked` meets its contract. Assumes nothing.
 use mathlib.Core.Path.{refl}
 use mir.Facts.{toZ-ofZ}
 use mir.Syntax.{w32}
 use mir.Val.{SFits}
 use Rattle.machine.specs.Answers.{toldRun}
-use Rattle.roomscript.specs.Answers.{ranIn}
+use Rattle.roomscript.specs.Answers.{uncheckedIn}
 use borrow.Author.Needs.{needs}
-use Rattle.roomscript.proofs.c_ran.Statement.{statement}
-use Rattle.roomscript.proofs.c_ran.Tie as tie
+use Rattle.roomscript.proofs.c_unchecked.Statement.{statement}
+use Rattle.roomscript.proofs.c_unchecked.Tie as tie
 
 enum-known-ran : tie.Need-enum-known-ran
 enum-known-ran c = search needs
@@ -19,20 +19,20 @@ enum-known-ran-3 : tie.Need-enum-known-ran-3
 enum-known-ran-3 c = search needs
 
 returns : tie.Need-returns
-unfolding ranIn toldRun
+unfolding uncheckedIn toldRun
 returns c =
     let h : SFits w32 (c .before .ran .given .0 .0) = search needs in
     rw (c .before .ran .given .1, toZ-ofZ h) refl
 
 returns-2 : tie.Need-returns-2
-unfolding ranIn toldRun
+unfolding uncheckedIn toldRun
 returns-2 c = rw (c .before .ran2 .given .1) refl
 
 returns-3 : tie.Need-returns-3
-unfolding ranIn toldRun
+unfolding uncheckedIn toldRun
 returns-3 c = rw (c .before .ran3 .given .1) refl
 
-pub c-ran-spec : {M : Type 1} → statement M
-c-ran-spec =
+pub c-unchecked-spec : {M : Type 1} → statement M
+c-unchecked-spec =
     tie.close
     (tie.spec enum-known-ran enum-known-ran-2 enum-known-ran-3 returns returns-2 returns-3)

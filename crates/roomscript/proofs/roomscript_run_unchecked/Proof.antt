@@ -1,21 +1,21 @@
--- `roomscript::roomscript_run` meets its contract. Assumes nothing.
+-- `roomscript::roomscript_run_unchecked` meets its contract. Assumes nothing.
 use mathlib.Core.Path.{ap}
 use borrow.Author.Needs.{needs}
-use Rattle.roomscript.specs.Answers.{ranIn, inC}
-use Rattle.roomscript.proofs.roomscript_run.Statement.{statement}
-use Rattle.roomscript.proofs.roomscript_run.Tie as tie
+use Rattle.roomscript.specs.Answers.{uncheckedIn, inC}
+use Rattle.roomscript.proofs.roomscript_run_unchecked.Statement.{statement}
+use Rattle.roomscript.proofs.roomscript_run_unchecked.Tie as tie
 
-run-requires : tie.Need-run-requires
-run-requires c κs = search needs
+run-unchecked-requires : tie.Need-run-unchecked-requires
+run-unchecked-requires c κs = search needs
 
-c-ran-requires : tie.Need-c-ran-requires
-c-ran-requires c κs = search needs
+c-unchecked-requires : tie.Need-c-unchecked-requires
+c-unchecked-requires c κs = search needs
 
 same-length : tie.Need-same-length
 same-length c = search needs
 
 returns : tie.Need-returns
-returns c = rw (c .c-ran .ensures) (ap (inC ranIn) (c .before .before .before .run .ensures))
+returns c = rw (c .c-unchecked .ensures) (ap (inC uncheckedIn) (c .before .before .before .run-unchecked .ensures))
 
-pub roomscript-run-spec : {M : Type 1} → statement M
-roomscript-run-spec = tie.close (tie.spec run-requires c-ran-requires same-length returns)
+pub roomscript-run-unchecked-spec : {M : Type 1} → statement M
+roomscript-run-unchecked-spec = tie.close (tie.spec run-unchecked-requires c-unchecked-requires same-length returns)
