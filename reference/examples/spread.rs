@@ -2,7 +2,7 @@
 //! documentation of the crate lists it. The set of limits is that of the
 //! program, or given as four numbers: terms, variables, boxes and levels.
 
-use reference::{check, judge_rows, read, run, Generator, Limits, Refusal};
+use reference::{check, judge_rows, read, run, run_unchecked, Generator, Limits, Ran, Refusal};
 use std::collections::BTreeMap;
 use std::time::Instant;
 
@@ -28,6 +28,10 @@ const KINDS: [(&str, Make); 4] = [
     ("wild_rows", Generator::wild_rows),
     ("mixed_rows", Generator::mixed_rows),
 ];
+
+type Run = fn(Limits, &[u32], &[i32], &mut [u32]) -> Result<Ran, Refusal>;
+
+const RUNS: [(&str, Run); 2] = [("run", run), ("run_unchecked", run_unchecked)];
 
 fn given_limits() -> Limits {
     let number = |argument: String| argument.parse().expect("a number");
@@ -62,10 +66,12 @@ fn main() {
             make(generator, &mut rows);
             check(limits, &rows)
         });
-        count(&format!("{name}, run"), limits, |generator| {
-            make(generator, &mut rows);
-            let readings = generator.readings();
-            run(limits, &rows, &readings, &mut store).map(|ran| ran.cells)
-        });
+        for (entry, run) in RUNS {
+            count(&format!("{name}, {entry}"), limits, |generator| {
+                make(generator, &mut rows);
+                let readings = generator.readings();
+                run(limits, &rows, &readings, &mut store).map(|ran| ran.cells)
+            });
+        }
     }
 }

@@ -1,10 +1,10 @@
 //! The line that the program `roomcheck` prints for a standard input
-//! (LANGUAGE 6.9, 6.10).
+//! (LANGUAGE 6.10, 6.11).
 
+use crate::checked::run;
 use crate::form::read;
 use crate::limits::Limits;
-use crate::machine::{run, Ran, READINGS};
-use crate::ownership::check;
+use crate::machine::{Ran, READINGS};
 use crate::refusal::Refusal;
 
 /// The bytes of the readings before the script.
@@ -26,8 +26,7 @@ pub fn roomcheck(input: &[u8]) -> String {
 
 fn accepted(readings: &[u8], script: &[u8]) -> Result<(u32, Ran), Refusal> {
     let mut rows = [0; LIMITS.row_numbers()];
-    read(LIMITS, script, &mut rows)?;
-    let terms = check(LIMITS, &rows)?;
+    let terms = read(LIMITS, script, &mut rows)?;
     let mut given = [0; READINGS];
     for (reading, bytes) in given.iter_mut().zip(readings.as_chunks().0) {
         *reading = i32::from_be_bytes(*bytes);

@@ -1,16 +1,47 @@
-//! Scripts E1 to E11 (LANGUAGE 8.4).
+//! Scripts E1 to E11 (LANGUAGE 8.4), each under more than one set.
 
 mod common;
 
 use common::*;
+use reference::{check, run, Limits};
 
-/// Accepted with so many terms; the run gives the answer and the cells and
-/// leaves the store tidy.
+/// That of the program, the largest, and one that the scripts just fit in.
+const SETS: [Limits; 3] = [
+    LIMITS,
+    Limits::LARGEST,
+    Limits {
+        terms: 13,
+        variables: 4,
+        boxes: 9,
+        levels: 12,
+    },
+];
+
+/// Accepted with so many terms; both runs give the answer and the cells and
+/// leave the store tidy.
 fn accepted(terms: &[Term], count: u32, answer: i32, cells: u32) {
-    assert_eq!(check_terms(terms), Ok(count));
-    let (result, store) = run_terms(terms);
-    assert_eq!(result, ran(answer, cells));
-    assert_eq!(store, tidy(cells));
+    for limits in SETS {
+        assert_eq!(
+            check(limits, &rows_under(limits, &script(terms))),
+            Ok(count)
+        );
+        for run in RUNS {
+            let (result, store) = run_over_junk(run, limits, terms);
+            assert_eq!(result, ran(answer, cells));
+            assert_eq!(store, tidy_under(limits, cells));
+        }
+    }
+}
+
+/// Refused by the check, and so by the run, which leaves the store.
+fn refused_by_both(terms: &[Term], number: u32, term: u32) {
+    for limits in SETS {
+        let rows = rows_under(limits, &script(terms));
+        assert_eq!(check(limits, &rows), refused(number, term));
+        let (result, store) = run_over_junk(run, limits, terms);
+        assert_eq!(result, refused(number, term));
+        assert_eq!(store, junk(limits));
+    }
 }
 
 fn e3() -> [Term; 3] {
@@ -40,13 +71,13 @@ fn e1() {
 #[test]
 fn e2() {
     let terms = [let_(0, number(5)), let_(1, exclusive((0, 0))), copy((0, 0))];
-    assert_eq!(check_terms(&terms), refused(34, 5));
+    refused_by_both(&terms, 34, 5);
 }
 
 #[test]
 fn e3_and_e8() {
-    assert_eq!(check_terms(&e3()), refused(33, 6));
-    let (result, store) = run_terms(&e3());
+    refused_by_both(&e3(), 33, 6);
+    let (result, store) = unchecked(&e3());
     assert_eq!(result, refused(60, 6));
     assert_eq!(variable_row(&store, 0), [1, 0, 0]);
     assert_eq!(variable_row(&store, 1), [1, 2, 0]);
@@ -73,7 +104,7 @@ fn e5() {
         let_(1, block(&[let_(2, number(3)), shared((2, 0))])),
         copy((0, 0)),
     ];
-    assert_eq!(check_terms(&terms), refused(40, 4));
+    refused_by_both(&terms, 40, 4);
 }
 
 #[test]
@@ -98,14 +129,14 @@ fn e7() {
         assign((2, 2), number(4)),
         number(0),
     ];
-    assert_eq!(check_terms(&terms), refused(36, 7));
+    refused_by_both(&terms, 36, 7);
 }
 
 #[test]
 fn e9() {
     let terms = [let_(0, boxed(number(1))), let_(1, copy((0, 0))), number(0)];
-    assert_eq!(check_terms(&terms), refused(37, 5));
-    let (result, store) = run_terms(&terms);
+    refused_by_both(&terms, 37, 5);
+    let (result, store) = unchecked(&terms);
     assert_eq!(result, refused(63, 0));
     assert_eq!(store, tidy(1));
 }
@@ -113,7 +144,7 @@ fn e9() {
 #[test]
 fn e10() {
     let terms = |count| [let_(0, boxes(count, number(1))), number(0)];
-    assert_eq!(check_terms(&terms(9)), refused(42, 2));
+    refused_by_both(&terms(9), 42, 2);
     accepted(&terms(8), 12, 0, 8);
 }
 
@@ -126,5 +157,5 @@ fn e11() {
         assign((2, 0), block(&[let_(3, shared((1, 0))), shared((3, 1))])),
         copy((2, 1)),
     ];
-    assert_eq!(check_terms(&terms), refused(40, 8));
+    refused_by_both(&terms, 40, 8);
 }

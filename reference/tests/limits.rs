@@ -4,7 +4,7 @@ mod common;
 
 use common::*;
 use reference::form::{HEADER, MAX_BYTES};
-use reference::{check, judge_rows, read, run, write, Limits, Refusal};
+use reference::{check, judge_rows, read, run, run_unchecked, write, Limits, Refusal};
 
 const SMALLEST: Limits = Limits {
     terms: 1,
@@ -54,8 +54,10 @@ fn assert_outside(limits: Limits) {
         assert_eq!(check(limits, &rows), refused(74, 0));
         let (mut output, mut store) = (vec![9; length], vec![9; length]);
         assert_eq!(write(limits, &rows, &mut output), refused(74, 0));
-        assert_eq!(run(limits, &rows, &[], &mut store), refused(74, 0));
-        assert_eq!(run(limits, &rows, &READINGS, &mut store), refused(74, 0));
+        for run in RUNS {
+            assert_eq!(run(limits, &rows, &[], &mut store), refused(74, 0));
+            assert_eq!(run(limits, &rows, &READINGS, &mut store), refused(74, 0));
+        }
         assert!(rows.iter().chain(&store).all(|field| *field == 9));
         assert!(output.iter().all(|byte| *byte == 9));
     }
@@ -93,8 +95,11 @@ fn the_ends_of_the_ranges_are_inside() {
                 let mut rows = vec![9; limits.row_numbers()];
                 assert_eq!(read(limits, &[], &mut rows), refused(12, 0));
                 let mut store = vec![9; limits.store_numbers()];
-                let answer = run(limits, &rows, &READINGS, &mut store);
-                assert_eq!(answer, refused(12, 0));
+                for run in RUNS {
+                    let answer = run(limits, &rows, &READINGS, &mut store);
+                    assert_eq!(answer, refused(12, 0));
+                }
+                assert!(store.iter().all(|field| *field == 9));
             }
         }
     }
@@ -119,15 +124,21 @@ fn lengths_follow_from_the_set() {
             assert_eq!(judge_rows(limits, &rows), refused(2, 0));
             assert_eq!(write(limits, &rows, &mut []), refused(2, 0));
             assert_eq!(check(limits, &rows), refused(2, 0));
-            assert_eq!(run(limits, &rows, &[], &mut []), refused(2, 0));
+            for run in RUNS {
+                assert_eq!(run(limits, &rows, &[], &mut []), refused(2, 0));
+            }
         }
         let rows = vec![0; right];
         for length in [0, store - 1, store + 1, 2 * store, 384] {
             let mut lent = vec![9; length];
-            assert_eq!(run(limits, &rows, &[], &mut lent), refused(3, 0));
+            for run in RUNS {
+                assert_eq!(run(limits, &rows, &[], &mut lent), refused(3, 0));
+            }
             assert_eq!(lent, vec![9; length]);
         }
-        assert_eq!(run(limits, &rows, &[], &mut vec![9; store]), refused(4, 0));
+        for run in RUNS {
+            assert_eq!(run(limits, &rows, &[], &mut vec![9; store]), refused(4, 0));
+        }
     }
 }
 
@@ -279,7 +290,8 @@ fn cells_come_after_the_variables_of_the_set() {
         let mut rows = vec![7; limits.row_numbers()];
         read(limits, &script(&terms), &mut rows).expect("a script");
         let mut store = vec![9; limits.store_numbers()];
-        assert_eq!(run(limits, &rows, &READINGS, &mut store), refused(61, 6));
+        let answer = run_unchecked(limits, &rows, &READINGS, &mut store);
+        assert_eq!(answer, refused(61, 6));
         let row = |row: usize| variable_row(&store, row);
         assert_eq!([row(0), row(1)], [[1, 2, 0], [1, 3, variables]]);
         assert_eq!(row(variables as usize), [1, 1, 185]);

@@ -1,4 +1,4 @@
-//! The line of the program (LANGUAGE 6.10).
+//! The line of the program (LANGUAGE 6.11).
 
 mod common;
 

@@ -1,39 +1,55 @@
-//! The run rules (LANGUAGE 4), with the store as each fault leaves it (4.21).
+//! The run rules (LANGUAGE 4) by unchecked runs (6.7), with the store as each
+//! fault leaves it (4.21).
 
 mod common;
 
 use common::*;
-use reference::run;
+use reference::run_unchecked;
 
 #[test]
 fn refusals_before_the_run_leave_the_store() {
     let rows = rows_of(&script(&[number(5)]));
     let mut store = vec![9; STORE_LEN];
     assert_eq!(
-        run(LIMITS, &rows[1..], &READINGS, &mut store),
+        run_unchecked(LIMITS, &rows[1..], &READINGS, &mut store),
         refused(2, 0)
     );
-    assert_eq!(run(LIMITS, &rows[1..], &[], &mut []), refused(2, 0));
     assert_eq!(
-        run(LIMITS, &rows, &READINGS, &mut store[1..]),
+        run_unchecked(LIMITS, &rows[1..], &[], &mut []),
+        refused(2, 0)
+    );
+    assert_eq!(
+        run_unchecked(LIMITS, &rows, &READINGS, &mut store[1..]),
         refused(3, 0)
     );
-    assert_eq!(run(LIMITS, &rows, &[], &mut []), refused(3, 0));
+    assert_eq!(run_unchecked(LIMITS, &rows, &[], &mut []), refused(3, 0));
     assert_eq!(
-        run(LIMITS, &rows, &READINGS[1..], &mut store),
+        run_unchecked(LIMITS, &rows, &READINGS[1..], &mut store),
         refused(4, 0)
     );
-    assert_eq!(run(LIMITS, &rows, &[1; 9], &mut store), refused(4, 0));
-    assert_eq!(run(LIMITS, &[0; ROWS_LEN], &[], &mut store), refused(4, 0));
     assert_eq!(
-        run(LIMITS, &[0; ROWS_LEN], &READINGS, &mut store),
+        run_unchecked(LIMITS, &rows, &[1; 9], &mut store),
+        refused(4, 0)
+    );
+    assert_eq!(
+        run_unchecked(LIMITS, &[0; ROWS_LEN], &[], &mut store),
+        refused(4, 0)
+    );
+    assert_eq!(
+        run_unchecked(LIMITS, &[0; ROWS_LEN], &READINGS, &mut store),
         refused(12, 0)
     );
     let mut left = rows.clone();
     left[10] = 1;
-    assert_eq!(run(LIMITS, &left, &READINGS, &mut store), refused(19, 2));
+    assert_eq!(
+        run_unchecked(LIMITS, &left, &READINGS, &mut store),
+        refused(19, 2)
+    );
     assert_eq!(store, vec![9; STORE_LEN]);
-    assert_eq!(run(LIMITS, &rows, &READINGS, &mut store), ran(5, 0));
+    assert_eq!(
+        run_unchecked(LIMITS, &rows, &READINGS, &mut store),
+        ran(5, 0)
+    );
     assert_eq!(store, tidy(0));
 }
 
@@ -101,7 +117,7 @@ fn below_reads_its_first_place_first() {
 
 #[test]
 fn a_let_on_an_open_row() {
-    let (answer, store) = run_terms(&[let_(0, number(1)), let_(0, boxed(number(2)))]);
+    let (answer, store) = unchecked(&[let_(0, number(1)), let_(0, boxed(number(2)))]);
     assert_eq!(answer, refused(62, 3));
     assert_eq!(variable_row(&store, 0), [1, 1, 1]);
     assert_eq!(cell_row(&store, 0), [1, 1, 2]);
@@ -121,10 +137,10 @@ fn a_let_on_an_open_row() {
 
 #[test]
 fn storing_no_value_stores_empty() {
-    let (answer, store) = run_terms(&[let_(0, let_(1, number(1))), copy((0, 0))]);
+    let (answer, store) = unchecked(&[let_(0, let_(1, number(1))), copy((0, 0))]);
     assert_eq!(answer, refused(60, 4));
     assert_eq!(variable_row(&store, 0), [1, 0, 0]);
-    let (answer, store) = run_terms(&[let_(0, boxed(let_(1, number(1)))), copy((0, 1))]);
+    let (answer, store) = unchecked(&[let_(0, boxed(let_(1, number(1)))), copy((0, 1))]);
     assert_eq!(answer, refused(60, 5));
     assert_eq!(cell_row(&store, 0), [1, 0, 0]);
     let assigned = [
@@ -137,7 +153,7 @@ fn storing_no_value_stores_empty() {
 
 #[test]
 fn the_answer_is_judged_after_closing() {
-    let (answer, store) = run_terms(&[let_(0, boxed(number(1))), mov((0, 0))]);
+    let (answer, store) = unchecked(&[let_(0, boxed(number(1))), mov((0, 0))]);
     assert_eq!(answer, refused(61, 0));
     assert_eq!(variable_row(&store, 0), [0, 0, 0]);
     // Nothing drops the answer.
@@ -160,7 +176,7 @@ fn drops_of_a_block_name_the_block() {
         block(&[copy((0, 0)), copy((0, 0)), number(2)]),
         number(3),
     ];
-    let (answer, store) = run_terms(&terms);
+    let (answer, store) = unchecked(&terms);
     assert_eq!(answer, refused(63, 4));
     assert_eq!(variable_row(&store, 0), [1, 2, 0]);
     assert_eq!(cell_row(&store, 0), [2, 0, 0]);
@@ -176,13 +192,13 @@ fn drops_of_a_block_name_the_block() {
 
 #[test]
 fn dropping_goes_along_the_cells() {
-    let (answer, store) = run_terms(&[boxes(3, number(1)), copy((0, 0))]);
+    let (answer, store) = unchecked(&[boxes(3, number(1)), copy((0, 0))]);
     assert_eq!(answer, refused(60, 5));
     for cell in 0..3 {
         assert_eq!(cell_row(&store, cell), [2, 0, 0]);
     }
     // The innermost box finished first and has cell 0.
-    let (answer, store) = run_terms(&[let_(0, boxes(3, number(1))), copy((9, 0))]);
+    let (answer, store) = unchecked(&[let_(0, boxes(3, number(1))), copy((9, 0))]);
     assert_eq!(answer, refused(60, 6));
     assert_eq!(cell_row(&store, 0), [1, 1, 1]);
     assert_eq!(cell_row(&store, 1), [1, 2, 0]);
@@ -197,7 +213,7 @@ fn an_assign_drops_the_old_value_before_it_writes() {
         assign((0, 0), boxed(number(2))),
         copy((0, 1)),
     ];
-    let (answer, store) = run_terms(&terms);
+    let (answer, store) = unchecked(&terms);
     assert_eq!(answer, ran(2, 2));
     assert_eq!(store, tidy(2));
     // The row keeps the old value while it is dropped: the fault shows it.
@@ -207,7 +223,7 @@ fn an_assign_drops_the_old_value_before_it_writes() {
         assign((0, 0), number(2)),
         number(0),
     ];
-    let (answer, store) = run_terms(&twice);
+    let (answer, store) = unchecked(&twice);
     assert_eq!(answer, refused(63, 5));
     assert_eq!(variable_row(&store, 0), [1, 2, 0]);
     assert_eq!(cell_row(&store, 0), [2, 0, 0]);
@@ -221,7 +237,7 @@ fn a_cell_that_owns_itself_is_given_back_twice() {
         assign((0, 1), number(5)),
         number(0),
     ];
-    let (answer, store) = run_terms(&terms);
+    let (answer, store) = unchecked(&terms);
     assert_eq!(answer, refused(63, 6));
     assert_eq!(variable_row(&store, 0), [1, 2, 0]);
     assert_eq!(cell_row(&store, 0), [2, 0, 0]);
@@ -238,7 +254,7 @@ fn variables_are_closed_last_opened_first() {
         let_(2, number(3)),
         number(0),
     ];
-    let (answer, store) = run_terms(&terms);
+    let (answer, store) = unchecked(&terms);
     assert_eq!(answer, refused(63, 0));
     assert_eq!(store, tidy(2));
     let fault_between = [
@@ -247,7 +263,7 @@ fn variables_are_closed_last_opened_first() {
         let_(1, copy((2, 0))),
         number(0),
     ];
-    let (answer, store) = run_terms(&fault_between);
+    let (answer, store) = unchecked(&fault_between);
     assert_eq!(answer, refused(63, 0));
     assert_eq!(variable_row(&store, 0), [0, 0, 0]);
     assert_eq!(variable_row(&store, 1), [0, 0, 0]);

@@ -4,7 +4,7 @@
 mod common;
 
 use common::levels;
-use reference::{check, judge_rows, read, run, Generator, Limits, Refusal};
+use reference::{check, judge_rows, read, run_unchecked, Generator, Limits, Refusal};
 use std::collections::{BTreeMap, BTreeSet};
 
 fn set(terms: u32, variables: u32, boxes: u32, levels: u32) -> Limits {
@@ -85,7 +85,7 @@ fn the_smallest_sets_meet_what_they_can() {
     judging.assert_exactly([0, 2, 12, 13, 14, 17, 18], limits);
 }
 
-/// What check and machine answer on rows of the right form.
+/// What check and unchecked run answer on rows of the right form.
 fn layers(limits: Limits, sample: usize) -> [Counts; 2] {
     let mut generator = Generator::with_limits(52, limits);
     let mut rows = Vec::new();
@@ -98,7 +98,7 @@ fn layers(limits: Limits, sample: usize) -> [Counts; 2] {
         }
         let readings = generator.readings();
         counts[0].count(check(limits, &rows));
-        counts[1].count(run(limits, &rows, &readings, &mut store));
+        counts[1].count(run_unchecked(limits, &rows, &readings, &mut store));
     }
     counts
 }

@@ -20,14 +20,28 @@ pub struct Ran {
     pub cells: u32,
 }
 
-/// Judges by 74, 2, 3, 4, then 12 to 19 with the store unchanged, then runs. A
-/// fault leaves the store as it was at that moment.
-pub fn run(
+/// Judges by 74, 2, 3, 4, then 12 to 19 with the store unchanged, then runs,
+/// whatever the check would say (LANGUAGE 6.7). A fault, 60 to 63, leaves the
+/// store as it was at that moment.
+pub fn run_unchecked(
     limits: Limits,
     rows: &[u32],
     readings: &[i32],
     store: &mut [u32],
 ) -> Result<Ran, Refusal> {
+    let rows = judge_lent(limits, rows, readings, store)?;
+    run_judged(limits, rows, readings, store)
+}
+
+/// What both runs judge first: 74, 2, 3, 4, then 12 to 19. Answers the rows
+/// that are terms.
+#[inline]
+pub(crate) fn judge_lent<'a>(
+    limits: Limits,
+    rows: &'a [u32],
+    readings: &[i32],
+    store: &[u32],
+) -> Result<&'a [Row], Refusal> {
     let rows = lent_rows(limits, rows)?;
     if store.len() != limits.store_numbers() {
         return Err(Refusal::by_caller(STORE_LENGTH));
@@ -36,20 +50,30 @@ pub fn run(
         return Err(Refusal::by_caller(READINGS_LENGTH));
     }
     let judged = judge_all(limits, rows)?;
-    let rows = &rows[..judged.terms];
+    Ok(&rows[..judged.terms])
+}
+
+/// Runs rows of a right form over a store that is set to 0 first.
+#[inline]
+pub(crate) fn run_judged(
+    limits: Limits,
+    rows: &[Row],
+    readings: &[i32],
+    store: &mut [u32],
+) -> Result<Ran, Refusal> {
     let store = Store::cleared(limits.variables, store);
     // A small set has a small list of open variables.
     if limits.variables <= Limits::BASE.variables {
         let opened = &mut [0; Limits::BASE.variables as usize];
-        run_judged(rows, readings, store, opened)
+        run_terms(rows, readings, store, opened)
     } else {
         let opened = &mut [0; Limits::LARGEST.variables as usize];
-        run_judged(rows, readings, store, opened)
+        run_terms(rows, readings, store, opened)
     }
 }
 
-/// Runs rows of a right form.
-fn run_judged(
+/// Runs all terms with a list that has room for every variable.
+fn run_terms(
     rows: &[Row],
     readings: &[i32],
     store: Store,

@@ -16,24 +16,30 @@ use environment::{Environment, Place, Value};
 pub fn check(limits: Limits, rows: &[u32]) -> Result<u32, Refusal> {
     let rows = lent_rows(limits, rows)?;
     let judged = judge_all(limits, rows)?;
-    let rows = &rows[..judged.terms];
+    check_judged(limits, &rows[..judged.terms])?;
+    Ok(judged.terms as u32)
+}
+
+/// Judges rows of a right form by the ownership rules.
+#[inline]
+pub(crate) fn check_judged(limits: Limits, rows: &[Row]) -> Result<(), Refusal> {
     // A small set has a small environment, which is set up with each call.
     if limits.variables <= Limits::BASE.variables {
-        check_judged::<{ Limits::BASE.variables as usize }>(rows)
+        check_terms::<{ Limits::BASE.variables as usize }>(rows)
     } else {
-        check_judged::<{ Limits::LARGEST.variables as usize }>(rows)
+        check_terms::<{ Limits::LARGEST.variables as usize }>(rows)
     }
 }
 
-/// Checks rows of a right form with at most so many variables.
-fn check_judged<const VARIABLES: usize>(rows: &[Row]) -> Result<u32, Refusal> {
+/// Judges all terms in an environment of so many variables.
+fn check_terms<const VARIABLES: usize>(rows: &[Row]) -> Result<(), Refusal> {
     let mut judge = Judge::<VARIABLES> {
         rows,
         next: 0,
         environment: Environment::new(),
     };
     match judge.term()? {
-        Some(answer) if answer.chain.is_number() => Ok(rows.len() as u32),
+        Some(answer) if answer.chain.is_number() => Ok(()),
         _ => Err(Refusal::new(ANSWER_NO_NUMBER, 0)),
     }
 }

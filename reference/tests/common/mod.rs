@@ -4,7 +4,7 @@
 #![allow(dead_code)]
 
 use reference::form::HEADER;
-use reference::{check, read, run, Limits, Ran, Refusal};
+use reference::{check, read, run, run_unchecked, Limits, Ran, Refusal};
 
 /// The set of the program.
 pub const LIMITS: Limits = Limits::BASE;
@@ -73,8 +73,12 @@ pub fn script(terms: &[Term]) -> Vec<u8> {
 }
 
 pub fn rows_of(script: &[u8]) -> Vec<u32> {
-    let mut rows = vec![7; ROWS_LEN];
-    read(LIMITS, script, &mut rows).expect("a script that can be read");
+    rows_under(LIMITS, script)
+}
+
+pub fn rows_under(limits: Limits, script: &[u8]) -> Vec<u32> {
+    let mut rows = vec![7; limits.row_numbers()];
+    read(limits, script, &mut rows).expect("a script that can be read");
     rows
 }
 
@@ -93,15 +97,32 @@ pub fn judge(terms: &[Term]) -> Result<(), Refusal> {
 
 pub const READINGS: [i32; 8] = [185, 200, 0, -1, i32::MIN, i32::MAX, 7, 1];
 
-/// Runs unchecked over a store that held something before.
-pub fn run_terms(terms: &[Term]) -> (Result<Ran, Refusal>, Vec<u32>) {
-    let mut store = vec![9; STORE_LEN];
-    let answer = run(LIMITS, &rows_of(&script(terms)), &READINGS, &mut store);
+/// Either of the two runs.
+pub type Run = fn(Limits, &[u32], &[i32], &mut [u32]) -> Result<Ran, Refusal>;
+
+pub const RUNS: [Run; 2] = [run, run_unchecked];
+
+/// What a store may have held before: no two numbers are equal.
+pub fn junk(limits: Limits) -> Vec<u32> {
+    (1..=limits.store_numbers() as u32).collect()
+}
+
+/// Runs over a store that held something before.
+pub fn run_over_junk(run: Run, limits: Limits, terms: &[Term]) -> (Result<Ran, Refusal>, Vec<u32>) {
+    let mut store = junk(limits);
+    let rows = rows_under(limits, &script(terms));
+    let answer = run(limits, &rows, &READINGS, &mut store);
     (answer, store)
 }
 
+/// Runs unchecked over a store that held something before.
+pub fn unchecked(terms: &[Term]) -> (Result<Ran, Refusal>, Vec<u32>) {
+    run_over_junk(run_unchecked, LIMITS, terms)
+}
+
+/// What running unchecked answers.
 pub fn fault(terms: &[Term]) -> Result<Ran, Refusal> {
-    run_terms(terms).0
+    unchecked(terms).0
 }
 
 pub fn ran<E>(answer: i32, cells: u32) -> Result<Ran, E> {
@@ -120,9 +141,13 @@ pub fn cell_row(store: &[u32], cell: usize) -> [u32; 3] {
 
 /// The store after a run of an accepted script with so many cells.
 pub fn tidy(cells: u32) -> Vec<u32> {
-    let mut store = vec![0; STORE_LEN];
-    for cell in 0..cells as usize {
-        store[3 * (64 + cell)] = 2;
+    tidy_under(LIMITS, cells)
+}
+
+pub fn tidy_under(limits: Limits, cells: u32) -> Vec<u32> {
+    let mut store = vec![0; limits.store_numbers()];
+    for cell in 0..cells {
+        store[3 * (limits.variables + cell) as usize] = 2;
     }
     store
 }
