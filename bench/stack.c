@@ -37,13 +37,19 @@ static void do_judge_rows(void) { roomscript_judge_rows(limits, ROWS); }
 static void do_write(void) { roomscript_write(limits, ROWS, output, sizeof output); }
 static void do_check(void) { roomscript_check(limits, ROWS); }
 static void do_run(void) { roomscript_run(limits, ROWS, READINGS, STORE); }
+static void do_run_unchecked(void) { roomscript_run_unchecked(limits, ROWS, READINGS, STORE); }
 static void do_call(void) { roomscript_call(limits, script, length, READINGS, ROWS, STORE); }
 
 static const struct {
     const char *name;
     void (*act)(void);
-} operations[] = {{"read", do_read},   {"judge_rows", do_judge_rows}, {"write", do_write},
-                  {"check", do_check}, {"run", do_run},               {"call", do_call}};
+} operations[] = {{"read", do_read},
+                  {"judge_rows", do_judge_rows},
+                  {"write", do_write},
+                  {"check", do_check},
+                  {"run", do_run},
+                  {"run_unchecked", do_run_unchecked},
+                  {"call", do_call}};
 
 /* Volatile, so that the calls and the look at the stack stay where they are. */
 static void (*volatile chosen)(void);

@@ -1,4 +1,4 @@
-/* Calls the script of E1 (LANGUAGE 8.2) from C, and prints the line that the program prints for it (6.10). */
+/* Calls the script of E1 (LANGUAGE 8.2) from C, and prints the line that the program prints for it (6.11). */
 #include <roomscript.h>
 #include <stdio.h>
 

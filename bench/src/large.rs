@@ -1,5 +1,6 @@
 //! Scripts for the largest set of limits. Each is accepted by the ownership
-//! check, but for one that is only run, to see how much stack that takes.
+//! check, but for one that is only run unchecked, to see how much stack that
+//! takes.
 
 use crate::scripts::{script, READING};
 use roomscript::Limits;
@@ -113,7 +114,7 @@ pub fn full() -> Vec<u8> {
     script(&statements)
 }
 
-/// A script that the check refuses, for the stack of its run: all 128 cells in
+/// A script that the check refuses, for the stack of its unchecked run: all 128 cells in
 /// one chain, which a block on level 29 drops.
 pub fn chain() -> Vec<u8> {
     crate::scripts::chain_of(128, 29)
@@ -123,7 +124,7 @@ pub fn chain() -> Vec<u8> {
 mod tests {
     use super::*;
     use crate::scripts::outline::{outline, rows_of, variables};
-    use reference::{check, run, Limits};
+    use reference::{check, run_unchecked, Limits};
 
     const SET: Limits = Limits::LARGEST;
 
@@ -151,7 +152,7 @@ mod tests {
         assert_eq!(outline(SET, &chain()), (414, 128, 32));
         let rows = rows_of(SET, &chain()).1;
         assert!(check(SET, &rows).is_err());
-        let ran = run(SET, &rows, &[0; 8], &mut [0; 768]).expect("no fault");
+        let ran = run_unchecked(SET, &rows, &[0; 8], &mut [0; 768]).expect("no fault");
         assert_eq!(ran.cells, 128);
     }
 }

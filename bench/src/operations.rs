@@ -65,13 +65,18 @@ impl Stage {
     fn compare_layers(&mut self, terms: u32) {
         let (limits, given, readings) = (self.limits, &self.given, &self.readings);
         let mut store = vec![0; limits.store_numbers()];
-        let due = reference::run(self.set, given, readings, &mut store).expect("no fault");
+        let due = reference::run(self.set, given, readings, &mut store).expect("accepted");
         assert_eq!(reference::check(self.set, given), Ok(terms));
         assert_eq!(roomscript::check(limits, given), Ok(terms));
         self.store.fill(u32::from_ne_bytes([JUNK; 4]));
-        let ran = roomscript::run(limits, given, readings, &mut self.store).expect("no fault");
+        let ran = roomscript::run(limits, given, readings, &mut self.store).expect("accepted");
         assert_eq!((ran.answer, ran.cells), (due.answer, due.cells));
         assert_eq!(self.store, store);
+        let unchecked = roomscript::run_unchecked(limits, given, readings, &mut self.store);
+        assert_eq!(unchecked, Ok(ran));
+        assert_eq!(self.store, store);
+        let unchecked = reference::run_unchecked(self.set, given, readings, &mut self.store);
+        assert_eq!(unchecked, Ok(due));
         self.fill_with_junk();
         let called = roomscript::call(
             limits,
@@ -103,16 +108,16 @@ impl Stage {
     }
 }
 
-/// A whole call by the layers of the reference program.
-fn call_by_layers(
+/// A whole call by the reference program: its read, and then its run, which
+/// checks.
+fn read_and_run(
     set: reference::Limits,
     script: &[u8],
     readings: &[i32],
     rows: &mut [u32],
     store: &mut [u32],
 ) -> Result<(u32, Ran), Refusal> {
-    reference::read(set, script, rows)?;
-    let terms = reference::check(set, rows)?;
+    let terms = reference::read(set, script, rows)?;
     let ran = reference::run(set, rows, readings, store)?;
     Ok((terms, ran))
 }
@@ -142,7 +147,7 @@ macro_rules! batch {
     };
 }
 
-pub const OPERATIONS: [Operation; 6] = [
+pub const OPERATIONS: [Operation; 7] = [
     Operation {
         name: "read",
         ours: batch!(roomscript::read, limits: &script; &mut rows),
@@ -169,8 +174,13 @@ pub const OPERATIONS: [Operation; 6] = [
         reference: batch!(reference::run, set: &given, &readings; &mut store),
     },
     Operation {
+        name: "run_unchecked",
+        ours: batch!(roomscript::run_unchecked, limits: &given, &readings; &mut store),
+        reference: batch!(reference::run_unchecked, set: &given, &readings; &mut store),
+    },
+    Operation {
         name: "call",
         ours: batch!(roomscript::call, limits: &script, &readings; &mut rows, &mut store),
-        reference: batch!(call_by_layers, set: &script, &readings; &mut rows, &mut store),
+        reference: batch!(read_and_run, set: &script, &readings; &mut rows, &mut store),
     },
 ];

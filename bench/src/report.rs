@@ -17,7 +17,8 @@ pub fn conditions() -> String {
          the timed part, and are neither cleared nor refilled\nbetween the calls of a batch. \
          Reading itself clears the unused rows, and all that take rows look\nat them, and a run \
          clears the store; that is part of each call. The scripts are accepted. What is\nbeside \
-         the whole call is the reference program's read, check and run one after the other.\n",
+         the whole call is the reference program's read and run one after the other; run checks\n\
+         first, in both programs.\n",
         BATCH.as_micros()
     )
 }

@@ -1,6 +1,6 @@
 //! The scripts that are timed under the language's own set of limits. Each is
-//! accepted by the ownership check, but for one that is only run, to see how
-//! much stack that takes.
+//! accepted by the ownership check, but for one that is only run unchecked, to
+//! see how much stack that takes.
 
 #[cfg(test)]
 pub mod outline;
@@ -106,7 +106,7 @@ pub fn full() -> Vec<u8> {
     script(&statements)
 }
 
-/// A script that the check refuses, for the stack of its run: all 64 cells in
+/// A script that the check refuses, for the stack of its unchecked run: all 64 cells in
 /// one chain, which a block on level 13 drops.
 pub fn chain() -> Vec<u8> {
     chain_of(64, 13)
@@ -126,7 +126,7 @@ pub fn chain_of(cells: u8, level: usize) -> Vec<u8> {
 mod tests {
     use super::outline::{outline, rows_of};
     use super::*;
-    use reference::{check, run, Limits};
+    use reference::{check, run_unchecked, Limits};
 
     const SET: Limits = Limits::BASE;
 
@@ -150,7 +150,7 @@ mod tests {
         assert_eq!(outline(SET, &chain()), (206, 64, 16));
         let rows = rows_of(SET, &chain()).1;
         assert!(check(SET, &rows).is_err());
-        let ran = run(SET, &rows, &[0; 8], &mut [0; 384]).expect("no fault");
+        let ran = run_unchecked(SET, &rows, &[0; 8], &mut [0; 384]).expect("no fault");
         assert_eq!(ran.cells, 64);
     }
 }

@@ -56,8 +56,8 @@ fn bytes(program: &Path, operation: &str, limits: Limits, script: &[u8]) -> Resu
 }
 
 /// Every operation on each script, first under the language's own set and then
-/// under the largest. The last one for each is not accepted: its run drops the
-/// longest chain of cells that there can be.
+/// under the largest. The last one for each is not accepted: its unchecked run
+/// drops the longest chain of cells that there can be.
 pub fn table() -> Result<Table> {
     let program = build()?;
     let scripts = [

@@ -1,5 +1,5 @@
 //! Calls the script of E1 (LANGUAGE 8.2) from Rust, and prints the line that
-//! the program prints for it (6.10).
+//! the program prints for it (6.11).
 
 use roomscript::{call, Called, Limits, Refusal};
 

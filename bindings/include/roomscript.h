@@ -168,7 +168,7 @@ roomscript_answer roomscript_write(roomscript_limits limits,
  *
  * A script is accepted where its rows are of the right form and the rules
  * refuse no term of it. It then runs without a fault, whatever the readings.
- * Nothing lent is changed.
+ * Nothing lent is changed. roomscript_run checks by itself.
  *
  * Refusals:
  *   74: the set is outside the ranges, at place 0;
@@ -194,39 +194,76 @@ roomscript_answer roomscript_check(roomscript_limits limits,
                                    const uint32_t *rows, size_t rows_len);
 
 /*
- * What came of a run. Where outcome is 0, answer is the number that the script
- * gives, value the cells taken, and number 0. Where outcome is 1, the run was
- * refused: number is the refusal's number, value its place, and answer 0.
- * Where outcome is 2, it met a fault: number is the fault's number, value the
- * term that was acting, and answer 0.
+ * What came of a run. Where refused is 0, answer is the number that the script
+ * gives, cells the cells taken, number and place 0. Where refused is 1, number
+ * and place are the refusal's, and answer and cells 0.
  */
 typedef struct roomscript_ran {
-    uint32_t outcome;
+    uint32_t refused;
     uint32_t number;
     int32_t answer;
-    uint64_t value;
+    uint64_t place;
+    uint64_t cells;
 } roomscript_ran;
 
 /*
- * Runs term rows, accepted by roomscript_check or not (LANGUAGE 6.6).
+ * Checks term rows and runs them on store (LANGUAGE 6.6).
  *
  * The store is rows of state, value kind and payload, first those of the set's
  * variables and then those of its cells, as many as boxes: the row of cell c is
  * the number of variables plus c (LANGUAGE 4.1). States: 0 closed, 1 open, 2
  * given back (4.2). Value kinds: 0 empty, 1 a number, 2 the owner of a cell, 3
- * a reference to a row (4.3). The run first sets all of it to 0, whatever it
+ * a reference to a row (4.3). A run first sets all of it to 0, whatever it
  * held.
  *
- * Where roomscript_check accepts the rows the run meets no fault, takes a cell
- * for every box term and gives each back: afterwards the store is all 0 but
- * the cells taken, which are 2, 0, 0 (LANGUAGE 7.4).
+ * Only rows that roomscript_check accepts run. They meet no fault, take a cell
+ * for every box term and give each back: afterwards store is all 0 but the
+ * cells taken, which are 2, 0, 0 (LANGUAGE 7.4).
  *
- * Refusals by the caller, at place 0, with store unchanged, in this order:
+ * Every refusal leaves store unchanged. By the caller, at place 0, in this
+ * order:
  *   74: the set is outside the ranges; 2: rows is not 5 times the set's terms
  *   long; 3: store is not 3 times its variables and boxes together; 4: readings
  *   is not 8 long.
- * Refusals by the rows, with the row, store unchanged:
+ * Then by the rows, with the row:
  *   12 to 15 and 17 to 19, as from roomscript_judge_rows.
+ * Then by the author, with the term:
+ *   30 to 43, as from roomscript_check.
+ */
+roomscript_ran roomscript_run(roomscript_limits limits,
+                              const uint32_t *rows, size_t rows_len,
+                              const int32_t *readings, size_t readings_len,
+                              uint32_t *store, size_t store_len);
+
+/*
+ * What came of an unchecked run. Where outcome is 0, answer is the number that
+ * the script gives, value the cells taken, and number 0. Where outcome is 1,
+ * the run was refused: number is the refusal's number, value its place, and
+ * answer 0. Where outcome is 2, it met a fault: number is the fault's number,
+ * value the term that was acting, and answer 0.
+ */
+typedef struct roomscript_ran_unchecked {
+    uint32_t outcome;
+    uint32_t number;
+    int32_t answer;
+    uint64_t value;
+} roomscript_ran_unchecked;
+
+/*
+ * Runs term rows on store without a check (LANGUAGE 6.7).
+ *
+ * It is for lessons and tests that show what goes wrong where a script runs
+ * that roomscript_check refuses: the fault that it meets, and the store that
+ * the fault leaves. It is no faster way to run scripts that come from
+ * elsewhere. Everything else uses roomscript_run.
+ *
+ * The store is that of roomscript_run, and is first set to 0 here too. Where
+ * roomscript_check accepts the rows, answer, cells and store are those of
+ * roomscript_run.
+ *
+ * Refusals, with store unchanged, in this order:
+ *   74, 2, 3 and 4, at place 0, and 12 to 15 and 17 to 19, with the row, as
+ *   from roomscript_run.
  * Faults, met only by rows that roomscript_check does not accept, with the
  * term (for a block's drops and closings the block), leaving store as the run
  * rules had it:
@@ -235,10 +272,11 @@ typedef struct roomscript_ran {
  *   after closing);
  *   62: a let on a row already open; 63: a cell given back twice.
  */
-roomscript_ran roomscript_run(roomscript_limits limits,
-                              const uint32_t *rows, size_t rows_len,
-                              const int32_t *readings, size_t readings_len,
-                              uint32_t *store, size_t store_len);
+roomscript_ran_unchecked roomscript_run_unchecked(
+    roomscript_limits limits,
+    const uint32_t *rows, size_t rows_len,
+    const int32_t *readings, size_t readings_len,
+    uint32_t *store, size_t store_len);
 
 /*
  * What came of a whole call. Where refused is 0, answer is the number that the
@@ -255,11 +293,12 @@ typedef struct roomscript_called {
 } roomscript_called;
 
 /*
- * Reads a script into rows, checks it and runs it on store (LANGUAGE 6.7).
+ * Reads a script into rows and then runs it on store (LANGUAGE 6.8).
  *
- * It answers as roomscript_read, roomscript_check and roomscript_run do one
- * after the other. A script that is accepted runs without a fault, so there is
- * none to answer. After success rows holds the script, and store is all 0 but
+ * Where all lengths are right it answers as roomscript_read and then
+ * roomscript_run do, and leaves rows and store as they do; the lengths of store
+ * and readings are judged before the bytes. So it checks before it runs, and
+ * meets no fault. After success rows holds the script, and store is all 0 but
  * the cells taken, which are 2, 0, 0.
  *
  * Refusals by the caller, at place 0, with nothing lent changed, in this order:

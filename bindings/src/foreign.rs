@@ -17,13 +17,25 @@ pub(crate) struct Answer {
     value: u64,
 }
 
+/// Where `refused` is 0, `number` and `place` are 0; where it is 1, these two
+/// are the refusal's and the others 0.
+#[repr(C)]
+#[derive(Debug, PartialEq, Eq)]
+pub(crate) struct RunAnswer {
+    refused: u32,
+    number: u32,
+    answer: i32,
+    place: u64,
+    cells: u64,
+}
+
 /// Where `outcome` is 0, `value` is the cells taken and `number` 0; where it
 /// is 1, `number` is the refusal's number and `value` its place; where it is
 /// 2, `number` is the fault's number and `value` its term. Where `outcome` is
 /// not 0, `answer` is.
 #[repr(C)]
 #[derive(Debug, PartialEq, Eq)]
-pub(crate) struct RunAnswer {
+pub(crate) struct UncheckedAnswer {
     outcome: u32,
     number: u32,
     answer: i32,
@@ -45,7 +57,8 @@ pub(crate) struct CallAnswer {
 
 const _: () = assert!(size_of::<Limits>() == 16 && align_of::<Limits>() == 4);
 const _: () = assert!(size_of::<Answer>() == 16 && align_of::<Answer>() == 8);
-const _: () = assert!(size_of::<RunAnswer>() == 24 && align_of::<RunAnswer>() == 8);
+const _: () = assert!(size_of::<RunAnswer>() == 32 && align_of::<RunAnswer>() == 8);
+const _: () = assert!(size_of::<UncheckedAnswer>() == 24 && align_of::<UncheckedAnswer>() == 8);
 const _: () = assert!(size_of::<CallAnswer>() == 40 && align_of::<CallAnswer>() == 8);
 
 // The lengths that follow from any set are computed in a usize: 64 bits, as in
@@ -79,6 +92,15 @@ extern "C" {
         store: *mut u32,
         store_len: usize,
     ) -> RunAnswer;
+    fn roomscript_run_unchecked(
+        limits: Limits,
+        rows: *const u32,
+        rows_len: usize,
+        readings: *const i32,
+        readings_len: usize,
+        store: *mut u32,
+        store_len: usize,
+    ) -> UncheckedAnswer;
     fn roomscript_call(
         limits: Limits,
         script: *const u8,
@@ -116,6 +138,18 @@ impl Answer {
 }
 
 impl RunAnswer {
+    pub(crate) fn outcome(self) -> Result<Ran, Refusal> {
+        match self.refused {
+            0 => Ok(Ran {
+                answer: self.answer,
+                cells: small(self.cells),
+            }),
+            _ => Err(refusal(self.number, self.place)),
+        }
+    }
+}
+
+impl UncheckedAnswer {
     pub(crate) fn outcome(self) -> Result<Ran, Stop> {
         match self.outcome {
             0 => Ok(Ran {
@@ -185,6 +219,25 @@ pub(crate) fn check(limits: Limits, rows: &[u32]) -> Answer {
 pub(crate) fn run(limits: Limits, rows: &[u32], readings: &[i32], store: &mut [u32]) -> RunAnswer {
     unsafe {
         roomscript_run(
+            limits,
+            rows.as_ptr(),
+            rows.len(),
+            readings.as_ptr(),
+            readings.len(),
+            store.as_mut_ptr(),
+            store.len(),
+        )
+    }
+}
+
+pub(crate) fn run_unchecked(
+    limits: Limits,
+    rows: &[u32],
+    readings: &[i32],
+    store: &mut [u32],
+) -> UncheckedAnswer {
+    unsafe {
+        roomscript_run_unchecked(
             limits,
             rows.as_ptr(),
             rows.len(),

@@ -5,9 +5,13 @@
 //! `u32` per term: kind, then operands in byte order (a number as its 32
 //! bits), unused fields 0, unused rows 0. Terms are numbered from 0 in byte
 //! order. [`read`] goes from bytes to rows, [`judge_rows`] judges rows that
-//! come from elsewhere, and [`write()`] goes from rows to bytes. [`check`]
-//! judges rows by the ownership rules, [`run`] runs rows on a store, and
-//! [`call`] reads, checks and runs a script.
+//! come from elsewhere, and [`write()`] goes from rows to bytes.
+//!
+//! [`run`] checks rows and runs them on a store, and [`call`] reads a script
+//! and runs it so. They are the ways to run scripts: neither runs what the
+//! check refuses, and so neither meets a fault. [`check`] judges rows by the
+//! ownership rules alone. [`run_unchecked`] runs rows whatever the check says
+//! of them, for lessons and tests that show which faults come of that.
 //!
 //! Each of them takes a set of limits first, and the lengths of rows and store
 //! follow from it: [`Limits`]. [`Limits::BASE`] is the language's own set.
@@ -28,10 +32,10 @@ mod whole;
 
 pub use form::{judge_rows, read, write};
 pub use limits::Limits;
-pub use machine::{run, Fault, Ran, Stop};
+pub use machine::{run_unchecked, Fault, Ran, Stop};
 pub use ownership::check;
 pub use refusal::Refusal;
-pub use whole::{call, Called};
+pub use whole::{call, run, Called};
 
 /// The most bytes of a script, under every set of limits.
 pub const MAX_BYTES: usize = 32_768;

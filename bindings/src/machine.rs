@@ -1,4 +1,4 @@
-//! The store machine (LANGUAGE 4): term rows run on a store.
+//! The store machine (LANGUAGE 4): term rows run on a store, unchecked.
 
 use crate::foreign;
 use crate::{Limits, Refusal};
@@ -29,7 +29,7 @@ pub struct Fault {
     pub term: u32,
 }
 
-/// Why a run gives no answer.
+/// Why an unchecked run gives no answer.
 #[derive(Clone, Copy, Debug, PartialEq, Eq)]
 pub enum Stop {
     /// Nothing ran, and the store is unchanged.
@@ -49,32 +49,30 @@ impl Display for Stop {
 
 impl Error for Stop {}
 
-/// Runs term rows, accepted by [`check`](crate::check) or not, and answers
-/// the number that they give and how many cells they took (LANGUAGE 6.6).
+/// Runs term rows on `store` without a check (LANGUAGE 6.7).
 ///
-/// The store is rows of state, value kind and payload, first those of the
-/// set's variables and then those of its cells, as many as boxes: the row of
-/// cell c is the number of variables plus c (LANGUAGE 4.1). States: 0 closed,
-/// 1 open, 2 given back (4.2). Value kinds: 0 empty, 1 a number, 2 the owner
-/// of a cell, 3 a reference to a row (4.3). The run first sets all of it to 0,
-/// whatever it held.
+/// It is for lessons and tests that show what goes wrong where a script runs
+/// that [`check`](crate::check) refuses: the fault that it meets, and the store
+/// that the fault leaves. It is no faster way to run scripts that come from
+/// elsewhere. Everything else uses [`run`](crate::run).
 ///
-/// Where the check accepts the rows the run meets no fault, takes a cell for
-/// every box term and gives each back: afterwards the store is all 0 but the
-/// cells taken, which are 2, 0, 0 (LANGUAGE 7.4).
+/// The store is that of [`run`](crate::run), and is first set to 0 here too.
+/// Where the check accepts the rows, answer, cells and store are those of
+/// [`run`](crate::run).
 ///
 /// # Stops
 ///
-/// Refusals leave `store` unchanged. By the caller, at place 0, in this order:
-/// - 74: the set is outside the ranges; 2: `rows` is not
-///   [`Limits::row_numbers`] long; 3: `store` is not [`Limits::store_numbers`]
-///   long; 4: `readings` is not 8 long.
-///
-/// By the rows, with the row:
-/// - 12 to 15 and 17 to 19, as from [`judge_rows`](crate::judge_rows).
+/// Refusals leave `store` unchanged. In this order:
+/// - 74, 2, 3 and 4, at place 0, and 12 to 15 and 17 to 19, with the row, as
+///   from [`run`](crate::run).
 ///
 /// Faults 60 to 63 are met only by rows that the check does not accept; they
 /// leave `store` as the run rules had it.
-pub fn run(limits: Limits, rows: &[u32], readings: &[i32], store: &mut [u32]) -> Result<Ran, Stop> {
-    foreign::run(limits, rows, readings, store).outcome()
+pub fn run_unchecked(
+    limits: Limits,
+    rows: &[u32],
+    readings: &[i32],
+    store: &mut [u32],
+) -> Result<Ran, Stop> {
+    foreign::run_unchecked(limits, rows, readings, store).outcome()
 }

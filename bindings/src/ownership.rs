@@ -7,8 +7,8 @@ use crate::{Limits, Refusal};
 /// (LANGUAGE 6.5).
 ///
 /// A script is accepted where its rows are of the right form and the rules
-/// refuse no term of it. It then runs without a fault, whatever the readings
-/// ([`run`](crate::run)). Nothing lent is changed.
+/// refuse no term of it. It then runs without a fault, whatever the readings.
+/// Nothing lent is changed. [`run`](crate::run) checks by itself.
 ///
 /// # Refusals
 ///

@@ -5,12 +5,13 @@
 //! cases of each kind under the language's own set, and as many again under
 //! other sets together: the least, a small and an uneven one, the largest, any
 //! in the ranges and any outside them. It compares answers, places and whole
-//! buffers: scripts read, rows judged and written; rows checked and run that
-//! were steered to be accepted, near misses of those, wild ones and any ones;
-//! scripts of each kind called; full scripts of the largest set; and all small
-//! scripts over a small alphabet. It also compares the library under one set
-//! with the library under a larger one. A longer run, or one with other cases,
-//! takes its seed and its number of cases from the environment:
+//! buffers: scripts read, rows judged and written; rows checked, run and run
+//! unchecked that were steered to be accepted, near misses of those, wild ones
+//! and any ones; scripts of each kind called; full scripts of the largest set;
+//! and all small scripts over a small alphabet. It also compares the library
+//! with itself: a run with the check and the unchecked run, a call with read
+//! and then run, and one set with a larger one. A longer run, or one with other
+//! cases, takes its seed and its number of cases from the environment:
 //!
 //! ```text
 //! ROOMSCRIPT_SEED=7 ROOMSCRIPT_CASES=5000000 \
@@ -52,3 +53,5 @@ mod scripts;
 #[macro_use]
 #[path = "comparison/sets.rs"]
 mod sets;
+#[path = "comparison/written.rs"]
+mod written;

@@ -9,7 +9,7 @@ mod common;
 /// What the modules below ask. `oracle` puts the same questions to the
 /// reference program.
 mod asked {
-    pub use roomscript::{call, check, judge_rows, read, run, write};
+    pub use roomscript::{call, check, judge_rows, read, run, run_unchecked, write};
 }
 
 #[path = "edges/assigns.rs"]
@@ -20,6 +20,8 @@ mod borrows;
 mod calling;
 #[path = "edges/cells.rs"]
 mod cells;
+#[path = "edges/checked.rs"]
+mod checked;
 #[path = "edges/examples.rs"]
 mod examples;
 #[path = "edges/faults.rs"]

@@ -21,6 +21,12 @@ static const uint8_t E3[23] = {0x52, 0x43, 0x53, 0x00, 0x01, 0x0B, 0x03, 0x08,
                                0x00, 0x07, 0x01, 0x00, 0x00, 0x00, 0x07, 0x08,
                                0x01, 0x04, 0x00, 0x00, 0x03, 0x00, 0x01};
 
+/* let v0=box 7; let v1=move *v0; *v0=8; copy *v0 */
+static const uint8_t E4[31] = {0x52, 0x43, 0x53, 0x00, 0x01, 0x0B, 0x04, 0x08,
+                               0x00, 0x07, 0x01, 0x00, 0x00, 0x00, 0x07, 0x08,
+                               0x01, 0x04, 0x00, 0x01, 0x09, 0x00, 0x01, 0x01,
+                               0x00, 0x00, 0x00, 0x08, 0x03, 0x00, 0x01};
+
 static const int32_t GIVEN[READINGS] = {185, 200, 0, 0, 0, 0, 0, 0};
 
 static uint32_t rows[ROWS];
@@ -43,8 +49,26 @@ static void expect(const char *what, roomscript_answer answer, uint32_t refused,
     }
 }
 
-static void expect_ran(const char *what, roomscript_ran ran, uint32_t outcome, uint32_t number,
-                       int32_t answer, uint64_t value) {
+static void expect_ran(const char *what, roomscript_ran ran, int32_t answer, uint64_t cells) {
+    if (ran.refused != 0 || ran.answer != answer || ran.cells != cells) {
+        printf("%s: refused %u, answer %d, cells %llu\n", what, (unsigned)ran.refused,
+               (int)ran.answer, (unsigned long long)ran.cells);
+        failed = 1;
+    }
+    note(what, ran.number == 0 && ran.place == 0);
+}
+
+static void expect_not_run(const char *what, roomscript_ran ran, uint32_t number, uint64_t place) {
+    if (ran.refused != 1 || ran.number != number || ran.place != place) {
+        printf("%s: refused %u, number %u, place %llu\n", what, (unsigned)ran.refused,
+               (unsigned)ran.number, (unsigned long long)ran.place);
+        failed = 1;
+    }
+    note(what, ran.answer == 0 && ran.cells == 0);
+}
+
+static void expect_unchecked(const char *what, roomscript_ran_unchecked ran, uint32_t outcome,
+                             uint32_t number, int32_t answer, uint64_t value) {
     if (ran.outcome != outcome || ran.number != number || ran.answer != answer ||
         ran.value != value) {
         printf("%s: outcome %u, number %u, answer %d, value %llu\n", what,
@@ -94,27 +118,59 @@ static void form(void) {
     expect("rows of 0", roomscript_judge_rows(BASE, rows, ROWS), 1, 12, 0);
 }
 
+/* The structs that the two runs answer. */
+static void layout(void) {
+    note("roomscript_ran",
+         sizeof(roomscript_ran) == 32 && offsetof(roomscript_ran, refused) == 0 &&
+             offsetof(roomscript_ran, number) == 4 && offsetof(roomscript_ran, answer) == 8 &&
+             offsetof(roomscript_ran, place) == 16 && offsetof(roomscript_ran, cells) == 24);
+    note("roomscript_ran_unchecked",
+         sizeof(roomscript_ran_unchecked) == 24 &&
+             offsetof(roomscript_ran_unchecked, outcome) == 0 &&
+             offsetof(roomscript_ran_unchecked, number) == 4 &&
+             offsetof(roomscript_ran_unchecked, answer) == 8 &&
+             offsetof(roomscript_ran_unchecked, value) == 16);
+}
+
 static void check_and_run(void) {
-    static const uint32_t fault[6] = {1, 0, 0, 1, 2, 0};
     junk();
     expect("read E1", roomscript_read(BASE, E1, sizeof E1, rows, ROWS), 0, 0, 8);
     expect("check E1", roomscript_check(BASE, rows, ROWS), 0, 0, 8);
-    expect_ran("no store",
-               roomscript_run(BASE, rows, ROWS, GIVEN, READINGS, store, 0), 1, 3, 0, 0);
-    expect_ran("no readings",
-               roomscript_run(BASE, rows, ROWS, GIVEN, 7, store, STORE), 1, 4, 0, 0);
-    note("store before a run", all(store, 0, STORE, 9));
-    expect_ran("run E1",
-               roomscript_run(BASE, rows, ROWS, GIVEN, READINGS, store, STORE), 0, 0, 1, 0);
-    note("store after E1", all(store, 0, STORE, 0));
+    expect("check no rows", roomscript_check(BASE, rows, 0), 1, 2, 0);
+    expect_not_run("no store", roomscript_run(BASE, rows, ROWS, GIVEN, READINGS, store, 0), 3, 0);
+    expect_not_run("no readings", roomscript_run(BASE, rows, ROWS, GIVEN, 7, store, STORE), 4, 0);
     expect("read E3", roomscript_read(BASE, E3, sizeof E3, rows, ROWS), 0, 0, 7);
     expect("check E3", roomscript_check(BASE, rows, ROWS), 1, 33, 6);
-    expect_ran("run E3",
-               roomscript_run(BASE, rows, ROWS, GIVEN, READINGS, store, STORE), 2, 60, 0, 6);
+    expect_not_run("run E3", roomscript_run(BASE, rows, ROWS, GIVEN, READINGS, store, STORE), 33,
+                   6);
+    note("store after refusals", all(store, 0, STORE, 9));
+    expect("read E4", roomscript_read(BASE, E4, sizeof E4, rows, ROWS), 0, 0, 9);
+    expect_ran("run E4", roomscript_run(BASE, rows, ROWS, GIVEN, READINGS, store, STORE), 8, 1);
+    note("store after E4", all(store, 0, 192, 0) && store[192] == 2 && all(store, 193, STORE, 0));
+}
+
+static void run_unchecked(void) {
+    static const uint32_t fault[6] = {1, 0, 0, 1, 2, 0};
+    junk();
+    expect("read E1", roomscript_read(BASE, E1, sizeof E1, rows, ROWS), 0, 0, 8);
+    expect_unchecked("no store, unchecked",
+                     roomscript_run_unchecked(BASE, rows, ROWS, GIVEN, READINGS, store, 0), 1, 3,
+                     0, 0);
+    expect_unchecked("no readings, unchecked",
+                     roomscript_run_unchecked(BASE, rows, ROWS, GIVEN, 7, store, STORE), 1, 4, 0,
+                     0);
+    note("store before an unchecked run", all(store, 0, STORE, 9));
+    expect_unchecked("E1 unchecked",
+                     roomscript_run_unchecked(BASE, rows, ROWS, GIVEN, READINGS, store, STORE), 0,
+                     0, 1, 0);
+    note("store after E1", all(store, 0, STORE, 0));
+    expect("read E3", roomscript_read(BASE, E3, sizeof E3, rows, ROWS), 0, 0, 7);
+    expect_unchecked("E3 unchecked",
+                     roomscript_run_unchecked(BASE, rows, ROWS, GIVEN, READINGS, store, STORE), 2,
+                     60, 0, 6);
     note("variables after E3", memcmp(store, fault, sizeof fault) == 0);
     note("cell after E3", store[192] == 1 && store[193] == 1 && store[194] == 7);
     note("the rest after E3", all(store, 6, 192, 0) && all(store, 195, STORE, 0));
-    expect("check no rows", roomscript_check(BASE, rows, 0), 1, 2, 0);
 }
 
 static void call(void) {
@@ -151,10 +207,17 @@ static void empty(void) {
     expect("check no rows", roomscript_check(BASE, numbers, 0), 1, 2, 0);
     expect("read E1", roomscript_read(BASE, E1, 25, rows, ROWS), 0, 0, 8);
     expect("write to no output", roomscript_write(BASE, rows, ROWS, bytes, 0), 1, 5, 0);
-    expect_ran("run on no store",
-               roomscript_run(BASE, rows, ROWS, GIVEN, READINGS, numbers, 0), 1, 3, 0, 0);
-    expect_ran("run with no readings",
-               roomscript_run(BASE, rows, ROWS, none, 0, store, STORE), 1, 4, 0, 0);
+    expect_not_run("run no rows", roomscript_run(BASE, numbers, 0, none, 0, numbers, 0), 2, 0);
+    expect_not_run("run on no store",
+                   roomscript_run(BASE, rows, ROWS, GIVEN, READINGS, numbers, 0), 3, 0);
+    expect_not_run("run with no readings",
+                   roomscript_run(BASE, rows, ROWS, none, 0, store, STORE), 4, 0);
+    expect_unchecked("unchecked on no store",
+                     roomscript_run_unchecked(BASE, rows, ROWS, GIVEN, READINGS, numbers, 0), 1, 3,
+                     0, 0);
+    expect_unchecked("unchecked with no readings",
+                     roomscript_run_unchecked(BASE, rows, ROWS, none, 0, store, STORE), 1, 4, 0,
+                     0);
     expect_not_called("call of no bytes",
                       roomscript_call(BASE, bytes, 0, GIVEN, READINGS, rows, ROWS, store, STORE),
                       12, 0);
@@ -184,12 +247,16 @@ static void sets(void) {
                                 all(rows, fitting, ROWS, 9));
     expect("judge E3", roomscript_judge_rows(fits, rows, fitting), 0, 0, 7);
     expect("check E3", roomscript_check(fits, rows, fitting), 1, 33, 6);
-    expect_ran("run E3 as it fits",
-               roomscript_run(fits, rows, fitting, GIVEN, READINGS, store, small), 2, 60, 0, 6);
+    expect_not_run("run E3 as it fits",
+                   roomscript_run(fits, rows, fitting, GIVEN, READINGS, store, small), 33, 6);
+    note("store after that", all(store, 0, STORE, 9));
+    expect_unchecked("E3 as it fits, unchecked",
+                     roomscript_run_unchecked(fits, rows, fitting, GIVEN, READINGS, store, small),
+                     2, 60, 0, 6);
     note("the cell after E3", store[6] == 1 && store[7] == 1 && store[8] == 7 && store[9] == 9);
     expect("the base's rows", roomscript_check(fits, rows, ROWS), 1, 2, 0);
-    expect_ran("the base's store",
-               roomscript_run(fits, rows, fitting, GIVEN, READINGS, store, STORE), 1, 3, 0, 0);
+    expect_not_run("the base's store",
+                   roomscript_run(fits, rows, fitting, GIVEN, READINGS, store, STORE), 3, 0);
 }
 
 static void largest(void) {
@@ -202,6 +269,9 @@ static void largest(void) {
     note("call of E1 under the largest set",
          called.refused == 0 && called.answer == 1 && called.terms == 8 && called.cells == 0);
     expect("check E1 under the largest set", roomscript_check(most, many, length), 0, 0, 8);
+    expect_ran("run E1 under the largest set",
+               roomscript_run(most, many, length, GIVEN, READINGS, big, size), 1, 0);
+    note("store of the largest set", all(big, 0, size, 0));
     expect("rows of the largest set", roomscript_check(BASE, many, length), 1, 2, 0);
 }
 
@@ -218,7 +288,10 @@ static void outside(void) {
         expect("judge_rows", roomscript_judge_rows(sets[at], rows, 0), 1, 74, 0);
         expect("write", roomscript_write(sets[at], rows, ROWS, output, 1), 1, 74, 0);
         expect("check", roomscript_check(sets[at], rows, ROWS), 1, 74, 0);
-        expect_ran("run", roomscript_run(sets[at], rows, 0, GIVEN, 7, store, 0), 1, 74, 0, 0);
+        expect_not_run("run", roomscript_run(sets[at], rows, 0, GIVEN, 7, store, 0), 74, 0);
+        expect_unchecked("run_unchecked",
+                         roomscript_run_unchecked(sets[at], rows, 0, GIVEN, 7, store, 0), 1, 74, 0,
+                         0);
         expect_not_called("call", roomscript_call(sets[at], E1, 25, GIVEN, 7, rows, 0, store, 0),
                           74, 0);
     }
@@ -228,7 +301,9 @@ static void outside(void) {
 
 int main(void) {
     form();
+    layout();
     check_and_run();
+    run_unchecked();
     call();
     empty();
     sets();

@@ -2,6 +2,7 @@
 
 use super::*;
 use crate::READINGS_LEN;
+use std::mem::offset_of;
 
 const BASE: Limits = Limits::BASE;
 const ROWS: usize = BASE.row_numbers();
@@ -36,8 +37,18 @@ fn refused(number: u32, value: u64) -> Answer {
     }
 }
 
-fn stopped(outcome: u32, number: u32, value: u64) -> RunAnswer {
+fn not_run(number: u32, place: u64) -> RunAnswer {
     RunAnswer {
+        refused: 1,
+        number,
+        answer: 0,
+        place,
+        cells: 0,
+    }
+}
+
+fn stopped(outcome: u32, number: u32, value: u64) -> UncheckedAnswer {
+    UncheckedAnswer {
         outcome,
         number,
         answer: 0,
@@ -60,6 +71,27 @@ fn rows_of(script: &[u8]) -> [u32; ROWS] {
     let mut rows = [9; ROWS];
     assert_eq!(read(BASE, script, &mut rows).refused, 0);
     rows
+}
+
+/// The fields are where the header has them: three of 4 bytes, and those of 8
+/// after a gap of 4.
+#[test]
+fn offsets() {
+    let ran = [
+        offset_of!(RunAnswer, refused),
+        offset_of!(RunAnswer, number),
+        offset_of!(RunAnswer, answer),
+        offset_of!(RunAnswer, place),
+        offset_of!(RunAnswer, cells),
+    ];
+    assert_eq!(ran, [0, 4, 8, 16, 24]);
+    let unchecked = [
+        offset_of!(UncheckedAnswer, outcome),
+        offset_of!(UncheckedAnswer, number),
+        offset_of!(UncheckedAnswer, answer),
+        offset_of!(UncheckedAnswer, value),
+    ];
+    assert_eq!(unchecked, [0, 4, 8, 16]);
 }
 
 #[test]
@@ -95,6 +127,8 @@ fn every_field_of_a_refused_set() {
     assert_eq!(write(FLAT, &rows, &mut [9; 16]), refused(74, 0));
     assert_eq!(check(FLAT, &rows), refused(74, 0));
     let ran = run(FLAT, &rows, &READINGS, &mut store);
+    assert_eq!(ran, not_run(74, 0));
+    let ran = run_unchecked(FLAT, &rows, &READINGS, &mut store);
     assert_eq!(ran, stopped(1, 74, 0));
     let called = call(FLAT, &SHORT, &READINGS, &mut rows, &mut store);
     assert_eq!(called, not_called(74, 0));
@@ -122,31 +156,54 @@ fn every_field_of_a_set() {
     assert_eq!(reads(limits(2, 5, 0, 2), &NOWHERE), refused(14, 8));
 }
 
+/// Rows of the script with a box, and the same with a field that is not 0 after
+/// them, which is 19 at 4.
+fn boxed_and_left_over() -> ([u32; ROWS], [u32; ROWS]) {
+    let boxed = rows_of(&BOXED);
+    let mut left = boxed;
+    left[5 * 4 + 4] = 1;
+    (boxed, left)
+}
+
 #[test]
 fn every_field_of_a_run() {
     let mut store = [9; STORE];
+    let (boxed, left) = boxed_and_left_over();
+    let mut runs = |rows: &[u32], readings: &[i32]| run(BASE, rows, readings, &mut store);
+    assert_eq!(runs(&rows_of(&NOWHERE), &READINGS), not_run(31, 1));
+    assert_eq!(runs(&boxed[5..], &READINGS), not_run(2, 0));
+    assert_eq!(runs(&boxed, &[]), not_run(4, 0));
+    assert_eq!(runs(&left, &READINGS), not_run(19, 4));
+    assert_eq!(run(BASE, &boxed, &READINGS, &mut []), not_run(3, 0));
+    assert_eq!(store, [9; STORE]);
     let ran = RunAnswer {
+        refused: 0,
+        number: 0,
+        answer: -40,
+        place: 0,
+        cells: 1,
+    };
+    assert_eq!(run(BASE, &boxed, &READINGS, &mut store), ran);
+}
+
+#[test]
+fn every_field_of_an_unchecked_run() {
+    let mut store = [9; STORE];
+    let (boxed, left) = boxed_and_left_over();
+    let mut runs = |rows: &[u32], readings: &[i32]| run_unchecked(BASE, rows, readings, &mut store);
+    let ran = UncheckedAnswer {
         outcome: 0,
         number: 0,
         answer: -40,
         value: 1,
     };
-    let boxed = rows_of(&BOXED);
-    assert_eq!(run(BASE, &boxed, &READINGS, &mut store), ran);
-    let nowhere = rows_of(&NOWHERE);
-    assert_eq!(
-        run(BASE, &nowhere, &READINGS, &mut store),
-        stopped(2, 60, 1)
-    );
-    assert_eq!(
-        run(BASE, &boxed[5..], &READINGS, &mut store),
-        stopped(1, 2, 0)
-    );
-    assert_eq!(run(BASE, &boxed, &READINGS, &mut []), stopped(1, 3, 0));
-    assert_eq!(run(BASE, &boxed, &[], &mut store), stopped(1, 4, 0));
-    let mut left = boxed;
-    left[5 * 4 + 4] = 1;
-    assert_eq!(run(BASE, &left, &READINGS, &mut store), stopped(1, 19, 4));
+    assert_eq!(runs(&boxed, &READINGS), ran);
+    assert_eq!(runs(&rows_of(&NOWHERE), &READINGS), stopped(2, 60, 1));
+    assert_eq!(runs(&boxed[5..], &READINGS), stopped(1, 2, 0));
+    assert_eq!(runs(&boxed, &[]), stopped(1, 4, 0));
+    assert_eq!(runs(&left, &READINGS), stopped(1, 19, 4));
+    let no_store = run_unchecked(BASE, &boxed, &READINGS, &mut []);
+    assert_eq!(no_store, stopped(1, 3, 0));
 }
 
 #[test]

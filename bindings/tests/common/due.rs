@@ -1,6 +1,6 @@
 //! What is due by the reference program, in this package's types.
 
-use super::Answer;
+use super::{Answer, RunAnswer, UncheckedAnswer};
 use roomscript::{Called, Fault, Limits, Ran, Refusal, Stop};
 use roomscript::{MAX_BYTES, READINGS_LEN};
 
@@ -47,20 +47,37 @@ pub fn check(limits: Limits, rows: &[u32]) -> Answer {
     reference::check(set(limits), rows).map_err(refusal)
 }
 
-/// The reference program keeps faults and refusals in one type; they differ by
-/// their numbers.
-pub fn run(limits: Limits, rows: &[u32], readings: &[i32], store: &mut [u32]) -> Result<Ran, Stop> {
-    match reference::run(set(limits), rows, readings, store) {
-        Ok(reference::Ran { answer, cells }) => Ok(Ran { answer, cells }),
-        Err(stop) if (60..=63).contains(&stop.number) => Err(Stop::Fault(Fault {
-            number: stop.number,
-            term: stop.place,
-        })),
-        Err(stop) => Err(Stop::Refused(refusal(stop))),
+fn ran(ran: reference::Ran) -> Ran {
+    Ran {
+        answer: ran.answer,
+        cells: ran.cells,
     }
 }
 
-/// A whole call from the layers of the reference program. It judges the set
+pub fn run(limits: Limits, rows: &[u32], readings: &[i32], store: &mut [u32]) -> RunAnswer {
+    let answer = reference::run(set(limits), rows, readings, store);
+    answer.map(ran).map_err(refusal)
+}
+
+/// The reference program keeps faults and refusals in one type; they differ by
+/// their numbers.
+pub fn run_unchecked(
+    limits: Limits,
+    rows: &[u32],
+    readings: &[i32],
+    store: &mut [u32],
+) -> UncheckedAnswer {
+    let answer = reference::run_unchecked(set(limits), rows, readings, store);
+    answer.map(ran).map_err(|stop| match stop.number {
+        60..=63 => Stop::Fault(Fault {
+            number: stop.number,
+            term: stop.place,
+        }),
+        _ => Stop::Refused(refusal(stop)),
+    })
+}
+
+/// A whole call from the reference program's read and run. It judges the set
 /// and the lengths itself, since reading alone knows nothing of store and
 /// readings.
 pub fn call(
@@ -86,14 +103,11 @@ pub fn call(
     if readings.len() != READINGS_LEN {
         return by_caller(4);
     }
-    read(limits, script, rows)?;
-    let terms = check(limits, rows)?;
-    match run(limits, rows, readings, store) {
-        Ok(Ran { answer, cells }) => Ok(Called {
-            answer,
-            terms,
-            cells,
-        }),
-        Err(stop) => panic!("the reference program accepts the script, but then: {stop}"),
-    }
+    let terms = read(limits, script, rows)?;
+    let Ran { answer, cells } = run(limits, rows, readings, store)?;
+    Ok(Called {
+        answer,
+        terms,
+        cells,
+    })
 }

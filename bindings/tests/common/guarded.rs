@@ -52,14 +52,28 @@ impl<T: Cell> Guarded<T> {
     pub fn fill(&mut self, length: usize, seed: u32) {
         self.seed = seed;
         self.cells.clear();
-        self.cells
-            .extend((0..length + 2 * GUARD).map(|index| T::junk(seed, index)));
+        self.add_junk(length + 2 * GUARD);
+    }
+
+    /// Puts the junk back.
+    pub fn fill_again(&mut self) {
+        let length = self.lent().len();
+        self.fill(length, self.seed);
     }
 
     /// Makes this a buffer with a given content.
     pub fn hold(&mut self, content: &[T], seed: u32) {
-        self.fill(content.len(), seed);
-        self.lent_mut().copy_from_slice(content);
+        self.seed = seed;
+        self.cells.clear();
+        self.add_junk(GUARD);
+        self.cells.extend_from_slice(content);
+        self.add_junk(GUARD);
+    }
+
+    fn add_junk(&mut self, count: usize) {
+        let (seed, end) = (self.seed, self.cells.len());
+        let junk = (end..end + count).map(|index| T::junk(seed, index));
+        self.cells.extend(junk);
     }
 
     /// The buffer without its guards.
@@ -83,7 +97,12 @@ impl<T: Cell> Guarded<T> {
         self.all_junk(GUARD + place, self.cells.len() - GUARD)
     }
 
+    /// Looks at each cell, since a loop that ends early compares them one by
+    /// one, which is slow.
     fn all_junk(&self, from: usize, to: usize) -> bool {
-        (from..to).all(|index| self.cells[index] == T::junk(self.seed, index))
+        let cells = self.cells[from..to].iter().zip(from..);
+        cells.fold(true, |all, (cell, index)| {
+            all & (*cell == T::junk(self.seed, index))
+        })
     }
 }

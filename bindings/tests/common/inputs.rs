@@ -25,7 +25,7 @@ fn example(name: impl Into<String>, script: &[u8], line: &'static str) -> Exampl
     }
 }
 
-/// E1 to E11, with the lines that their outcomes give (LANGUAGE 6.10, 8.4).
+/// E1 to E11, with the lines that their outcomes give (LANGUAGE 6.11, 8.4).
 pub fn listed() -> Vec<Example> {
     let scripts = [
         (e1(), "accepted 8 call 1 cells 0"),

@@ -13,23 +13,24 @@ pub mod store;
 pub mod tally;
 pub mod terms;
 
-use roomscript::{Fault, Ran, Refusal, Stop};
+use roomscript::{Fault, Limits, Ran, Refusal, Stop};
 
 pub type Answer = Result<u32, Refusal>;
-pub type RunAnswer = Result<Ran, Stop>;
+pub type RunAnswer = Result<Ran, Refusal>;
+pub type UncheckedAnswer = Result<Ran, Stop>;
+
+/// A function that runs rows, checked or not, of either program.
+pub type Run<E> = fn(Limits, &[u32], &[i32], &mut [u32]) -> Result<Ran, E>;
 
 pub fn refused<T>(number: u32, place: u32) -> Result<T, Refusal> {
     Err(Refusal { number, place })
 }
 
-pub fn not_run(number: u32, place: u32) -> RunAnswer {
-    Err(Stop::Refused(Refusal { number, place }))
-}
-
-pub fn ran(answer: i32, cells: u32) -> RunAnswer {
+/// An answer of either run.
+pub fn ran<E>(answer: i32, cells: u32) -> Result<Ran, E> {
     Ok(Ran { answer, cells })
 }
 
-pub fn fault(number: u32, term: u32) -> RunAnswer {
+pub fn fault(number: u32, term: u32) -> UncheckedAnswer {
     Err(Stop::Fault(Fault { number, term }))
 }

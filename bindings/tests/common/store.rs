@@ -1,6 +1,7 @@
 //! Stores as a run must leave them.
 
-use roomscript::{Limits, STORE_FIELDS};
+use super::guarded::Guarded;
+use roomscript::{Limits, Refusal, STORE_FIELDS};
 
 pub type StoreRow = [u32; STORE_FIELDS];
 
@@ -39,6 +40,19 @@ pub fn is_tidy(limits: Limits, store: &[u32], cells: u32) -> bool {
     rest.len() == limits.boxes as usize * STORE_FIELDS
         && variables.iter().chain(others).all(|field| *field == 0)
         && taken.chunks(STORE_FIELDS).all(|row| row == [2, 0, 0])
+}
+
+/// Whether a store that was lent full of junk is as a run that checks first
+/// leaves it, given the cells that it took: tidy, or after a refusal still junk.
+pub fn tidy_or_unchanged(
+    limits: Limits,
+    cells: Result<u32, Refusal>,
+    store: &Guarded<u32>,
+) -> bool {
+    match cells {
+        Ok(cells) => is_tidy(limits, store.lent(), cells),
+        Err(_) => store.junk_from(0),
+    }
 }
 
 /// A store as the same run leaves it under another set: the rows of the cells

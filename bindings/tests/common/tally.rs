@@ -1,8 +1,8 @@
 //! How often each refusal number was answered.
 
 use super::settings::Settings;
-use super::{Answer, RunAnswer};
-use roomscript::Stop;
+use super::UncheckedAnswer;
+use roomscript::{Refusal, Stop};
 use std::collections::BTreeMap;
 use std::io::{self, Write};
 
@@ -20,11 +20,11 @@ impl Tally {
         }
     }
 
-    pub fn count(&mut self, answer: Answer) {
+    pub fn count<T>(&mut self, answer: Result<T, Refusal>) {
         self.count_number(answer.map_or_else(|refusal| refusal.number, |_| 0));
     }
 
-    pub fn count_run(&mut self, answer: RunAnswer) {
+    pub fn count_unchecked(&mut self, answer: UncheckedAnswer) {
         self.count_number(match answer {
             Ok(_) => 0,
             Err(Stop::Refused(refusal)) => refusal.number,

@@ -108,6 +108,7 @@ fn all_scripts_of_up_to_five_terms_under_small_sets() {
     beyond.read.report_all(&[0, 14, 15, 16, 17]);
     let checked = [0, 12, 14, 15, 17, 30, 31, 32, 33, 37, 39, 40, 41, 43];
     beyond.layers.checked.report_all(&checked);
-    let ran = [0, 12, 14, 15, 17, 60, 61, 62];
-    beyond.layers.ran.report_all(&ran);
+    beyond.layers.ran.report_all(&checked);
+    let unchecked = [0, 12, 14, 15, 17, 60, 61, 62];
+    beyond.layers.ran_unchecked.report_all(&unchecked);
 }

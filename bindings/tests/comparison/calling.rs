@@ -1,41 +1,17 @@
-//! Scripts read, checked and run by whole calls, and by the layers of the
-//! reference program one after the other.
+//! Scripts read and run by whole calls, by the reference program's read and run
+//! one after the other, and by the library's.
 
 use crate::common::case::{Case, Input};
 use crate::common::due;
 use crate::common::guarded::Guarded;
-use crate::common::store::is_tidy;
+use crate::common::store::tidy_or_unchanged;
 use crate::common::tally::Tally;
 use crate::layers::AUTHOR;
 use crate::sets::{length, near_misses_under, Sets};
+use crate::written::Written;
 use reference::random::Random;
 use reference::Generator;
-use roomscript::{Called, Limits, Refusal, MAX_BYTES};
-
-/// Buffers that both programs write, one each.
-struct Written {
-    ours: Guarded<u32>,
-    other: Guarded<u32>,
-}
-
-impl Written {
-    fn new() -> Self {
-        Written {
-            ours: Guarded::new(),
-            other: Guarded::new(),
-        }
-    }
-
-    fn fill(&mut self, length: usize, junk: u32) {
-        self.ours.fill(length, junk);
-        self.other.fill(length, junk);
-    }
-
-    fn compare(&self, case: &Case, what: &str) {
-        case.same(self.ours.lent(), self.other.lent(), what);
-        case.guarded(&self.ours, what);
-    }
-}
+use roomscript::{Called, Limits, Ran, Refusal, MAX_BYTES};
 
 /// The buffers of a case, reused from one to the next.
 struct Buffers {
@@ -102,19 +78,45 @@ fn call_by_both(case: &Case, script: &[u8], buffers: &mut Buffers) -> Result<Cal
     );
     rows.compare(case, "rows after call");
     store.compare(case, "store after call");
-    buffers.only_read(case, script, &given);
-    match answer {
-        Ok(called) => {
-            let tidy = is_tidy(case.limits, buffers.store.ours.lent(), called.cells);
-            case.expect(tidy, "the store after a call is not tidy");
-        }
-        Err(refusal) => {
-            let Buffers { rows, store, .. } = buffers;
-            case.unchanged_by_caller(refusal.number, &rows.ours, "rows after call");
-            case.expect(store.ours.junk_from(0), "store after a refusal");
-        }
+    let cells = answer.map(|called| called.cells);
+    let left = tidy_or_unchanged(case.limits, cells, &store.ours);
+    case.expect(left, "the store after call is neither tidy nor unchanged");
+    if let Err(refusal) = answer {
+        case.unchanged_by_caller(refusal.number, &rows.ours, "rows after call");
     }
+    buffers.only_read(case, script, &given);
     answer
+}
+
+/// A call is read and then run, with the same rows and store left. Only the
+/// lengths of store and readings are judged before the bytes.
+fn read_then_run(case: &Case, answer: Result<Called, Refusal>, buffers: &mut Buffers) {
+    if let Err(Refusal { number: 3 | 4, .. }) = answer {
+        return;
+    }
+    let Buffers { rows, store, .. } = buffers;
+    rows.other.fill_again();
+    store.other.fill_again();
+    let (script, given) = (buffers.script.lent(), buffers.readings.lent());
+    let read = roomscript::read(case.limits, script, rows.other.lent_mut());
+    let run = |terms| {
+        let on = store.other.lent_mut();
+        let ran = roomscript::run(case.limits, rows.other.lent(), given, on);
+        ran.map(|Ran { answer, cells }| Called {
+            answer,
+            terms,
+            cells,
+        })
+    };
+    case.equal(
+        answer,
+        read.and_then(run),
+        "answer of call, read and then run",
+    );
+    rows.compare(case, "rows after call, read and then run");
+    store.compare(case, "store after call, read and then run");
+    case.guarded(&rows.other, "rows after read and then run");
+    case.guarded(&store.other, "store after read and then run");
 }
 
 type Make = fn(&mut Generator, &mut Random, &mut Vec<u8>);
@@ -138,7 +140,8 @@ fn compare(make: Make, name: &str, sets: Sets, expected: &[u32], rare: &[u32]) {
         };
         buffers.lend(&case, due::ours(generator.limits()), &mut random);
         let answer = call_by_both(&case, &script, &mut buffers);
-        tally.count(answer.map(|called| called.terms));
+        read_then_run(&case, answer, &mut buffers);
+        tally.count(answer);
     }
     tally.report_with(&settings, expected, rare);
 }

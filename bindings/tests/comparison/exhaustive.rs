@@ -62,7 +62,8 @@ fn all_scripts_of_up_to_five_terms() {
     assert_eq!(scripts, 348_786);
     let checked = [0, 30, 31, 32, 33, 37, 39, 40, 41, 43];
     layers.checked.report_all(&checked);
-    layers.ran.report_all(&[0, 60, 61, 62]);
+    layers.ran.report_all(&checked);
+    layers.ran_unchecked.report_all(&[0, 60, 61, 62]);
 }
 
 // Most of those have nothing in scope, and five terms are too few for what a
@@ -78,7 +79,8 @@ fn all_scripts_with_one_variable_and_up_to_four_terms_more() {
     assert_eq!(scripts, 623_520);
     let checked = [0, 30, 31, 32, 33, 34, 35, 36, 37, 38, 39, 40, 41, 43];
     layers.checked.report_all(&checked);
-    layers.ran.report_all(&FAULTS);
+    layers.ran.report_all(&checked);
+    layers.ran_unchecked.report_all(&FAULTS);
 }
 
 /// Two variables, one of which mostly borrows the other.
@@ -110,5 +112,6 @@ fn all_scripts_with_two_variables_and_up_to_three_terms_more() {
     assert_eq!(scripts, 401_544);
     let checked = [0, 30, 32, 33, 34, 35, 36, 37, 38, 39, 40, 41, 43];
     layers.checked.report_all(&checked);
-    layers.ran.report_all(&FAULTS);
+    layers.ran.report_all(&checked);
+    layers.ran_unchecked.report_all(&FAULTS);
 }

@@ -1,7 +1,8 @@
-//! Generated rows, checked and run by both programs.
+//! Generated rows, checked, run and run unchecked by both programs.
 
 use crate::common::case::{Case, Input};
 use crate::common::settings::Settings;
+use crate::common::tally::Tally;
 use crate::layers::{Layers, Room, FAULTS};
 use crate::sets::{author_under, length, near_misses_under, Sets};
 use reference::random::Random;
@@ -83,8 +84,9 @@ fn steered(sets: Sets) {
     // All of them are accepted, and no fault is met.
     let expected = sets.expected(&[0], &[12]);
     let rare = without_room(sets);
-    layers.checked.report_with(&settings, &expected, rare);
-    layers.ran.report_with(&settings, &expected, rare);
+    for tally in [&layers.checked, &layers.ran, &layers.ran_unchecked] {
+        tally.report_with(&settings, &expected, rare);
+    }
     if sets.have_room() {
         layers.reached.report(&settings);
     }
@@ -99,8 +101,8 @@ fn without_room(sets: Sets) -> &'static [u32] {
     }
 }
 
-/// Rows of the right form, checked and then run unchecked, with the numbers of
-/// the check that must occur and those that may.
+/// Rows of the right form, with the numbers of check and run that must occur
+/// and those that may.
 fn formed(
     name: &'static str,
     rows: fn(&mut Generator, u64, &mut Vec<u32>),
@@ -117,9 +119,10 @@ fn formed(
     let author = sets.expected(&author, &[12]);
     let rare = [rare, without_room(sets)].concat();
     layers.checked.report_with(&settings, &author, &rare);
+    layers.ran.report_with(&settings, &author, &rare);
     let faults = sets.expected(&FAULTS, &[12]);
     layers
-        .ran
+        .ran_unchecked
         .report_with(&settings, &faults, without_room(sets));
 }
 
@@ -170,11 +173,15 @@ fn any_rows(sets: Sets) {
     let (settings, layers) = compare(&kind, sets);
     let in_least = [2, 12, 13, 14, 18];
     let checked = [&author_under(sets)[..], &FORM].concat();
-    let checked = sets.expected(&checked, &in_least);
-    layers.checked.report(&settings, &checked);
-    let ran = [&FAULTS[..], &FORM, &[3, 4]].concat();
-    let ran = sets.expected(&ran, &[&in_least[..], &[3, 4]].concat());
-    layers.ran.report(&settings, &ran);
+    let report = |tally: &Tally, with_room: &[u32], more: &[u32]| {
+        let with_room = [with_room, more].concat();
+        let in_least = [&in_least[..], more].concat();
+        tally.report(&settings, &sets.expected(&with_room, &in_least));
+    };
+    report(&layers.checked, &checked, &[]);
+    report(&layers.ran, &checked, &[3, 4]);
+    let unchecked = [&FAULTS[..], &FORM].concat();
+    report(&layers.ran_unchecked, &unchecked, &[3, 4]);
 }
 
 mod accepted_scripts_are_checked_and_run_alike {

@@ -5,9 +5,10 @@ use crate::common::case::{Case, Input};
 use crate::common::due;
 use crate::common::guarded::Guarded;
 use crate::common::settings::Settings;
-use crate::common::store::laid_out_again;
+use crate::common::store::{laid_out_again, tidy_or_unchanged};
 use crate::common::tally::Tally;
-use crate::common::{Answer, RunAnswer};
+use crate::common::{Answer, RunAnswer, UncheckedAnswer};
+use crate::layers::FAULTS;
 use reference::random::Random;
 use reference::Generator;
 use roomscript::{Called, Limits, Refusal, MAX_BYTES};
@@ -18,6 +19,8 @@ struct Answers {
     judged: Answer,
     checked: Answer,
     ran: RunAnswer,
+    ran_unchecked: UncheckedAnswer,
+    /// As the unchecked run leaves it.
     store: Vec<u32>,
     script: Vec<u8>,
     called: Result<Called, Refusal>,
@@ -30,6 +33,11 @@ fn ask(case: &Case, rows: &[u32], given: &[i32], junk: u32) -> Answers {
     let mut store = Guarded::junk(limits.store_numbers(), junk);
     let ran = roomscript::run(limits, rows, given, store.lent_mut());
     case.guarded(&store, "store after run");
+    let left = tidy_or_unchanged(limits, ran.map(|ran| ran.cells), &store);
+    case.expect(left, "the store after run is neither tidy nor unchanged");
+    store.fill_again();
+    let ran_unchecked = roomscript::run_unchecked(limits, rows, given, store.lent_mut());
+    case.guarded(&store, "store after run_unchecked");
     let mut script = vec![0; MAX_BYTES];
     let length = roomscript::write(limits, rows, &mut script).expect("rows of a script");
     script.truncate(length as usize);
@@ -52,6 +60,7 @@ fn ask(case: &Case, rows: &[u32], given: &[i32], junk: u32) -> Answers {
         judged,
         checked: roomscript::check(limits, rows),
         ran,
+        ran_unchecked,
         store: store.lent().to_vec(),
         script,
         called,
@@ -84,7 +93,8 @@ fn what_a_set_takes_is_answered_alike_under_larger_ones() {
     let settings = Settings::from_environment();
     let mut generator = Generator::new(settings.seed);
     let mut random = Random::new(!settings.seed);
-    let mut tally = Tally::new("check and run, two sets");
+    let mut ran = Tally::new("run, two sets");
+    let mut ran_unchecked = Tally::new("run_unchecked, two sets");
     let mut rows = Vec::new();
     for number in 0..settings.cases {
         let limits = smaller(&mut generator, &mut random);
@@ -103,16 +113,11 @@ fn what_a_set_takes_is_answered_alike_under_larger_ones() {
         laid_out.resize(larger.row_numbers(), 0);
         let under_larger = ask(&case(larger), &laid_out, &given, junk);
         answers.store = laid_out_again(&answers.store, limits, larger);
+        ran.count(answers.ran);
+        ran_unchecked.count_unchecked(answers.ran_unchecked);
         case(limits).equal(under_larger, answers, format_args!("under {larger:?}"));
-        tally.count(roomscript::check(limits, &rows));
-        tally.count_run(roomscript::run(
-            limits,
-            &rows,
-            &given,
-            &mut vec![0; limits.store_numbers()],
-        ));
     }
-    let author: Vec<u32> = (30..=41).chain([43]).collect();
-    let expected = [&[0, 60, 61, 62, 63], &author[..]].concat();
-    tally.report_with(&settings, &expected, &[42]);
+    let author: Vec<u32> = [0].into_iter().chain(30..=41).chain([43]).collect();
+    ran.report_with(&settings, &author, &[42]);
+    ran_unchecked.report(&settings, &FAULTS);
 }

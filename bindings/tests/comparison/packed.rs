@@ -129,9 +129,9 @@ fn full_scripts_are_checked_and_run_alike() {
         call(&case, &rows, &given, room.junk);
     }
     let often: Vec<u32> = [0].into_iter().chain(30..=35).chain([37, 39, 40]).collect();
-    layers
-        .checked
-        .report_with(&settings, &often, &[36, 38, 41, 42, 43]);
-    layers.ran.report(&settings, &FAULTS);
+    for tally in [&layers.checked, &layers.ran] {
+        tally.report_with(&settings, &often, &[36, 38, 41, 42, 43]);
+    }
+    layers.ran_unchecked.report(&settings, &FAULTS);
     layers.reached.report(&settings);
 }

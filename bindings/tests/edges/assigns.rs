@@ -35,7 +35,7 @@ fn the_right_side_goes_first() {
         copy((0, 1)),
     ];
     assert_eq!(checks(&filled), Ok(12));
-    assert_eq!(gives(&filled), ran(4, 2));
+    assert_eq!(runs(&filled), ran(4, 2));
     // Its refusal comes before the place's.
     assert_eq!(with_two(&[assign((9, 0), copy((0, 1)))]), refused(32, 6));
 }

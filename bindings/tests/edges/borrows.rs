@@ -149,5 +149,5 @@ fn boxes_and_exclusive_borrows_can_be_passed() {
         copy((2, 1)),
     ];
     assert_eq!(checks(&terms), Ok(11));
-    assert_eq!(gives(&terms), crate::common::ran(5, 1));
+    assert_eq!(runs(&terms), crate::common::ran(5, 1));
 }

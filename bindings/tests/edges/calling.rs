@@ -1,4 +1,4 @@
-//! Whole calls (LANGUAGE 6.7): refusals by the caller in their order, and by
+//! Whole calls (LANGUAGE 6.8): refusals by the caller in their order, and by
 //! the bytes, with all lent memory. The author's refusals and success are
 //! looked at wherever a script is checked by hand.
 

@@ -5,19 +5,23 @@ use crate::common::examples::{e3, e9};
 use crate::common::sets::{fitting, set, SMALL, UNEVEN};
 use crate::common::store::{cell_under, is_tidy, store_under, StoreRow};
 use crate::common::terms::*;
-use crate::common::{fault, ran, RunAnswer};
-use crate::hand::{checks_under, runs_under};
+use crate::common::{fault, ran, UncheckedAnswer};
+use crate::hand::{checks_under, runs_unchecked_under};
 use roomscript::Limits;
 
 /// A run leaves this answer and only these rows other than 0, whose numbers
 /// may depend on the set.
 #[track_caller]
-fn leaves(terms: &[Term], answer: RunAnswer, left: fn(Limits) -> Vec<(usize, StoreRow)>) {
+fn leaves(terms: &[Term], answer: UncheckedAnswer, left: fn(Limits) -> Vec<(usize, StoreRow)>) {
     let tall = set(40, 100, 128, 9);
     let wide = set(40, 128, 3, 9);
     for limits in [fitting(terms), SMALL, UNEVEN, tall, wide, Limits::LARGEST] {
         let store = store_under(limits, &left(limits));
-        assert_eq!(runs_under(limits, terms), (answer, store), "{limits:?}");
+        assert_eq!(
+            runs_unchecked_under(limits, terms),
+            (answer, store),
+            "{limits:?}"
+        );
     }
 }
 
@@ -101,7 +105,7 @@ fn the_last_variable_and_the_first_cell() {
             below((1, 1), (2, 1)),
         ];
         assert_eq!(checks_under(limits, &terms), Ok(11));
-        let (answer, store) = runs_under(limits, &terms);
+        let (answer, store) = runs_unchecked_under(limits, &terms);
         assert_eq!(answer, ran(1, 1));
         assert!(is_tidy(limits, &store, 1));
         let mut faulty = terms.to_vec();
@@ -114,7 +118,7 @@ fn the_last_variable_and_the_first_cell() {
             (last as usize + 1, [1, 1, 7]),
         ];
         let due = (fault(61, 11), store_under(limits, &left));
-        assert_eq!(runs_under(limits, &faulty), due);
+        assert_eq!(runs_unchecked_under(limits, &faulty), due);
     }
 }
 
@@ -135,11 +139,11 @@ fn full_stores() {
             })
             .collect();
         let due = (fault(61, term), store_under(limits, &left));
-        assert_eq!(runs_under(limits, &terms), due, "{limits:?}");
+        assert_eq!(runs_unchecked_under(limits, &terms), due, "{limits:?}");
         // The row before the fault is fine, and all is given back.
         terms[count as usize] = copy((count - 1, 1));
         assert_eq!(checks_under(limits, &terms), Ok(3 * count + 2));
-        let (answer, store) = runs_under(limits, &terms);
+        let (answer, store) = runs_unchecked_under(limits, &terms);
         assert_eq!(answer, ran(count as i32 - 1, count));
         assert!(is_tidy(limits, &store, count), "{limits:?}");
     }
@@ -154,7 +158,7 @@ fn the_longest_chain_of_cells() {
         let more = limits.boxes.min((limits.terms - 2) / 3) - 1;
         terms.extend(vec![assign((0, 0), boxed(mov((0, 0)))); more as usize]);
         terms.push(number(8));
-        let (answer, store) = runs_under(limits, &terms);
+        let (answer, store) = runs_unchecked_under(limits, &terms);
         assert_eq!(answer, ran(8, more + 1), "{limits:?}");
         assert!(is_tidy(limits, &store, more + 1), "{limits:?}");
     }
@@ -165,8 +169,11 @@ fn a_store_without_cells() {
     let limits = set(9, 2, 0, 3);
     let terms = [let_(1, number(4)), let_(0, shared((1, 0))), copy((0, 1))];
     assert_eq!(checks_under(limits, &terms), Ok(6));
-    assert_eq!(runs_under(limits, &terms), (ran(4, 0), vec![0; 6]));
+    assert_eq!(
+        runs_unchecked_under(limits, &terms),
+        (ran(4, 0), vec![0; 6])
+    );
     let terms = [let_(1, number(4)), let_(0, shared((1, 0))), copy((0, 2))];
     let left = vec![1, 3, 1, 1, 1, 4];
-    assert_eq!(runs_under(limits, &terms), (fault(61, 5), left));
+    assert_eq!(runs_unchecked_under(limits, &terms), (fault(61, 5), left));
 }

@@ -10,15 +10,15 @@ use crate::asked;
 use crate::common::case::hex_rows;
 use crate::common::guarded::Guarded;
 use crate::common::sets::fitting;
-use crate::common::store::{is_tidy, laid_out_again};
+use crate::common::store::{is_tidy, laid_out_again, tidy_or_unchanged};
 use crate::common::terms::{rows_under, script_of, Term};
-use crate::common::{Answer, RunAnswer};
-use roomscript::{Called, Limits, READINGS_LEN};
+use crate::common::{Answer, Run, RunAnswer, UncheckedAnswer};
+use roomscript::{Called, Limits, Ran, Refusal, Stop, READINGS_LEN};
 
 pub const READINGS: [i32; READINGS_LEN] = [185, 200, 0, -1, i32::MIN, i32::MAX, 7, 1];
 
 /// Checks a script with these terms in its outermost block. The rows stay as
-/// they are, and a whole call answers alike.
+/// they are, and a run and a whole call answer alike.
 #[track_caller]
 pub fn checks_under(limits: Limits, terms: &[Term]) -> Answer {
     let rows = rows_under(limits, terms);
@@ -28,7 +28,7 @@ pub fn checks_under(limits: Limits, terms: &[Term]) -> Answer {
     let answer = asked::check(limits, lent.lent());
     assert_eq!(lent.lent(), rows, "{shown}");
     assert!(lent.guards_hold(), "{shown}");
-    calls_alike(limits, terms, answer);
+    calls_alike(limits, terms, runs_alike(limits, terms, answer));
     answer
 }
 
@@ -44,15 +44,32 @@ pub fn checks(terms: &[Term]) -> Answer {
 
 /// Whether the check accepts, without the number of terms.
 #[track_caller]
-pub fn accepts(terms: &[Term]) -> Result<(), roomscript::Refusal> {
+pub fn accepts(terms: &[Term]) -> Result<(), Refusal> {
     checks(terms).map(|_| ())
 }
 
-/// A whole call on the bytes of a script that the check answered. What is
-/// refused leaves the store as it was, what is accepted runs and leaves it
-/// tidy; the rows hold the script in both cases.
+/// A run of a script that the check answered: what is refused does not run, and
+/// what is accepted gives the answer and leaves the store that it does
+/// unchecked. Answers what a whole call must.
 #[track_caller]
-fn calls_alike(limits: Limits, terms: &[Term], checked: Answer) {
+fn runs_alike(limits: Limits, terms: &[Term], checked: Answer) -> Result<Called, Refusal> {
+    let ran = runs_under(limits, terms);
+    assert_eq!(ran.map(|_| ()), checked.map(|_| ()), "{limits:?}");
+    let Ran { answer, cells } = ran?;
+    let (unchecked, store) = runs_unchecked_under(limits, terms);
+    assert_eq!(unchecked, Ok(Ran { answer, cells }), "{limits:?}");
+    assert!(is_tidy(limits, &store, cells), "{limits:?}");
+    checked.map(|terms| Called {
+        answer,
+        terms,
+        cells,
+    })
+}
+
+/// A whole call on the bytes of a script gives what is due. The rows hold the
+/// script also where it is refused.
+#[track_caller]
+fn calls_alike(limits: Limits, terms: &[Term], due: Result<Called, Refusal>) {
     let script = script_of(terms);
     let mut rows = Guarded::junk(limits.row_numbers(), 12);
     let mut store = Guarded::junk(limits.store_numbers(), 13);
@@ -66,29 +83,15 @@ fn calls_alike(limits: Limits, terms: &[Term], checked: Answer) {
     let shown = format!("{limits:?}, {}", hex_rows(rows.lent()));
     assert!(rows.guards_hold() && store.guards_hold(), "{shown}");
     assert_eq!(rows.lent(), rows_under(limits, terms));
-    match checked {
-        Err(refusal) => {
-            assert_eq!(called, Err(refusal), "{shown}");
-            assert!(store.junk_from(0), "{shown}");
-        }
-        Ok(count) => {
-            let ran = runs_under(limits, terms).0;
-            let ran = ran.expect("an accepted script runs");
-            let whole = Called {
-                answer: ran.answer,
-                terms: count,
-                cells: ran.cells,
-            };
-            assert_eq!(called, Ok(whole), "{shown}");
-            assert!(is_tidy(limits, store.lent(), ran.cells), "{shown}");
-        }
-    }
+    assert_eq!(called, due, "{shown}");
+    let cells = called.map(|called| called.cells);
+    assert!(tidy_or_unchanged(limits, cells, &store), "{shown}");
 }
 
-/// Runs a script with these terms in its outermost block, unchecked and over
-/// junk, and shows the store that it leaves.
+/// Runs a script with these terms in its outermost block over junk, by one of
+/// the two functions, and shows the store that it leaves.
 #[track_caller]
-pub fn runs_under(limits: Limits, terms: &[Term]) -> (RunAnswer, Vec<u32>) {
+fn runs_by<E>(run: Run<E>, limits: Limits, terms: &[Term]) -> (Result<Ran, E>, Guarded<u32>) {
     let rows = rows_under(limits, terms);
     let shown = format!("{limits:?}, {}", hex_rows(&rows));
     let mut lent = Guarded::new();
@@ -96,27 +99,67 @@ pub fn runs_under(limits: Limits, terms: &[Term]) -> (RunAnswer, Vec<u32>) {
     let mut readings = Guarded::new();
     readings.hold(&READINGS, 15);
     let mut store = Guarded::junk(limits.store_numbers(), 16);
-    let answer = asked::run(limits, lent.lent(), readings.lent(), store.lent_mut());
+    let answer = run(limits, lent.lent(), readings.lent(), store.lent_mut());
     assert_eq!(lent.lent(), rows, "{shown}");
     assert_eq!(readings.lent(), READINGS, "{shown}");
     let guards = lent.guards_hold() && readings.guards_hold() && store.guards_hold();
     assert!(guards, "{shown}");
+    (answer, store)
+}
+
+/// Runs a script. The store is tidy afterwards, or unchanged where the script
+/// is refused.
+#[track_caller]
+pub fn runs_under(limits: Limits, terms: &[Term]) -> RunAnswer {
+    let (answer, store) = runs_by(asked::run, limits, terms);
+    let cells = answer.map(|ran| ran.cells);
+    assert!(tidy_or_unchanged(limits, cells, &store), "{limits:?}");
+    answer
+}
+
+/// The answer under the three sets.
+#[track_caller]
+pub fn runs(terms: &[Term]) -> RunAnswer {
+    let answer = runs_under(Limits::BASE, terms);
+    for limits in [fitting(terms), Limits::LARGEST] {
+        assert_eq!(runs_under(limits, terms), answer, "{limits:?}");
+    }
+    answer
+}
+
+/// Runs a script unchecked, and shows the store that it leaves.
+#[track_caller]
+pub fn runs_unchecked_under(limits: Limits, terms: &[Term]) -> (UncheckedAnswer, Vec<u32>) {
+    let (answer, store) = runs_by(asked::run_unchecked, limits, terms);
     (answer, store.lent().to_vec())
 }
 
 /// The answer under the three sets, and the store under the language's own.
 #[track_caller]
-pub fn runs(terms: &[Term]) -> (RunAnswer, Vec<u32>) {
-    let (answer, store) = runs_under(Limits::BASE, terms);
+pub fn runs_unchecked(terms: &[Term]) -> (UncheckedAnswer, Vec<u32>) {
+    let (answer, store) = runs_unchecked_under(Limits::BASE, terms);
     for limits in [fitting(terms), Limits::LARGEST] {
         let again = laid_out_again(&store, Limits::BASE, limits);
-        assert_eq!(runs_under(limits, terms), (answer, again), "{limits:?}");
+        let due = (answer, again);
+        assert_eq!(runs_unchecked_under(limits, terms), due, "{limits:?}");
     }
     (answer, store)
 }
 
 /// An unchecked run's answer alone.
 #[track_caller]
-pub fn gives(terms: &[Term]) -> RunAnswer {
-    runs(terms).0
+pub fn gives_unchecked(terms: &[Term]) -> UncheckedAnswer {
+    runs_unchecked(terms).0
+}
+
+/// What both runs answer where neither begins, on a store of so many numbers,
+/// which stay as they were.
+#[track_caller]
+pub fn both_refuse(limits: Limits, rows: &[u32], readings: &[i32], length: usize) -> RunAnswer {
+    let mut store = Guarded::junk(length, 17);
+    let answer = asked::run(limits, rows, readings, store.lent_mut());
+    let unchecked = asked::run_unchecked(limits, rows, readings, store.lent_mut());
+    assert_eq!(unchecked, answer.map_err(Stop::Refused), "{limits:?}");
+    assert!(store.junk_from(0) && store.guards_hold(), "{limits:?}");
+    answer
 }

@@ -3,10 +3,10 @@
 
 use crate::asked;
 use crate::common::guarded::Guarded;
+use crate::common::refused;
 use crate::common::sets::{set, LEAST, NAMED, SMALL, UNEVEN};
-use crate::common::{not_run, refused};
 use crate::given::E1;
-use crate::hand::READINGS;
+use crate::hand::{both_refuse, READINGS};
 use roomscript::Limits;
 
 /// Sets with the lengths that they ask for.
@@ -49,10 +49,8 @@ fn rows_of_the_right_length() {
         assert_eq!(asked::judge_rows(limits, &ended), refused(12, 0));
         assert_eq!(asked::write(limits, &ended, &mut []), refused(12, 0));
         assert_eq!(asked::check(limits, &ended), refused(12, 0));
-        let mut store = Guarded::junk(store, 41);
-        let answer = asked::run(limits, &ended, &READINGS, store.lent_mut());
-        assert_eq!(answer, not_run(12, 0));
-        assert!(store.junk_from(0) && store.guards_hold());
+        let answer = both_refuse(limits, &ended, &READINGS, store);
+        assert_eq!(answer, refused(12, 0));
         let mut lent = Guarded::junk(rows, 42);
         assert_eq!(asked::read(limits, b"RCS", lent.lent_mut()), refused(12, 3));
         assert_eq!(lent.lent(), ended);
@@ -72,9 +70,9 @@ fn rows_of_other_lengths_2() {
             // Also where 3 and 4 would come.
             for store in [store, 0, store + 1] {
                 for readings in [&READINGS[..], &[]] {
+                    let answer = both_refuse(limits, &rows, readings, store);
+                    assert_eq!(answer, refused(2, 0), "{limits:?} {length}");
                     let mut store = Guarded::junk(store, 44);
-                    let answer = asked::run(limits, &rows, readings, store.lent_mut());
-                    assert_eq!(answer, not_run(2, 0), "{limits:?} {length}");
                     let (rows, on) = (lent.lent_mut(), store.lent_mut());
                     let answer = asked::call(limits, &E1, readings, rows, on);
                     assert_eq!(answer, refused(2, 0), "{limits:?} {length}");
@@ -94,10 +92,10 @@ fn stores_of_other_lengths_3() {
         for length in others(right, Limits::store_numbers) {
             // Also where 4 would come, and before the rows and bytes.
             for readings in [&READINGS[..], &READINGS[..7], &[]] {
+                let answer = both_refuse(limits, &ended, readings, length);
+                assert_eq!(answer, refused(3, 0), "{limits:?} {length}");
                 let mut lent = Guarded::junk(rows, 45);
                 let mut store = Guarded::junk(length, 46);
-                let answer = asked::run(limits, &ended, readings, store.lent_mut());
-                assert_eq!(answer, not_run(3, 0), "{limits:?} {length}");
                 for script in [&E1[..], b"X"] {
                     let (rows, on) = (lent.lent_mut(), store.lent_mut());
                     let answer = asked::call(limits, script, readings, rows, on);
@@ -116,10 +114,10 @@ fn readings_of_other_lengths_4() {
         let ended = vec![0; rows];
         for length in [0, 1, 7, 9, 16] {
             let readings = vec![1; length];
+            let answer = both_refuse(limits, &ended, &readings, store);
+            assert_eq!(answer, refused(4, 0), "{limits:?}");
             let mut lent = Guarded::junk(rows, 47);
             let mut store = Guarded::junk(store, 48);
-            let answer = asked::run(limits, &ended, &readings, store.lent_mut());
-            assert_eq!(answer, not_run(4, 0), "{limits:?}");
             let (rows, on) = (lent.lent_mut(), store.lent_mut());
             let answer = asked::call(limits, b"X", &readings, rows, on);
             assert_eq!(answer, refused(4, 0), "{limits:?}");

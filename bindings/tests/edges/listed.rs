@@ -6,7 +6,7 @@ use crate::common::sets::set;
 use crate::common::store::store_under;
 use crate::common::terms::*;
 use crate::common::{fault, refused};
-use crate::hand::{runs_under, READINGS};
+use crate::hand::{runs_unchecked_under, READINGS};
 use roomscript::{Called, Limits, Refusal};
 
 /// A whole call of a script with these bytes after mark and version.
@@ -48,7 +48,7 @@ fn run_under_other_sets() {
     for (limits, row) in [(Limits::BASE, 64), (set(24, 5, 3, 5), 5)] {
         let left = [(0, [1, 2, 0]), (1, [1, 3, row]), (row as usize, [1, 1, 7])];
         let due = (fault(60, 6), store_under(limits, &left));
-        assert_eq!(runs_under(limits, &terms), due);
+        assert_eq!(runs_unchecked_under(limits, &terms), due);
     }
 }
 

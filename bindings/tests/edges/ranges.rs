@@ -4,10 +4,10 @@
 use crate::asked;
 use crate::common::examples::e1;
 use crate::common::guarded::Guarded;
+use crate::common::refused;
 use crate::common::sets::{fields, LEAST, NAMED};
 use crate::common::terms::{rows_of, script_of};
-use crate::common::{not_run, refused};
-use crate::hand::READINGS;
+use crate::hand::{both_refuse, READINGS};
 use roomscript::Limits;
 
 /// Least and most of terms, variables, boxes and levels.
@@ -95,10 +95,8 @@ fn check_and_run_74() {
                 assert_eq!(asked::check(limits, &rows), refused(74, 0), "{limits:?}");
                 for store in lengths(limits.store_numbers(), 384) {
                     for readings in [&READINGS[..], &READINGS[1..], &[]] {
-                        let mut store = Guarded::junk(store, 33);
-                        let answer = asked::run(limits, &rows, readings, store.lent_mut());
-                        assert_eq!(answer, not_run(74, 0), "{limits:?}");
-                        assert!(store.junk_from(0) && store.guards_hold());
+                        let answer = both_refuse(limits, &rows, readings, store);
+                        assert_eq!(answer, refused(74, 0), "{limits:?}");
                     }
                 }
             }

@@ -1,11 +1,9 @@
-//! Runs (LANGUAGE 4): what comes before them, answers, and what a block does at
-//! its end.
+//! Runs (LANGUAGE 4): what both refuse before they begin, and unchecked ones:
+//! answers, and what a block does at its end.
 
-use crate::asked;
-use crate::common::guarded::Guarded;
 use crate::common::store::{cell, is_tidy, store_of};
 use crate::common::terms::*;
-use crate::common::{fault, not_run, ran};
+use crate::common::{fault, ran, refused, RunAnswer};
 use crate::hand::*;
 use roomscript::Limits;
 
@@ -13,13 +11,10 @@ const BASE: Limits = Limits::BASE;
 const ROWS: usize = BASE.row_numbers();
 const STORE: usize = BASE.store_numbers();
 
-/// Runs with a store of junk, which a refusal must leave as it was.
+/// What both runs answer under the language's own set.
 #[track_caller]
-fn refuses(rows: &[u32], readings: &[i32], length: usize) -> crate::common::RunAnswer {
-    let mut store = Guarded::junk(length, 17);
-    let answer = asked::run(BASE, rows, readings, store.lent_mut());
-    assert!(store.junk_from(0) && store.guards_hold());
-    answer
+fn refuses(rows: &[u32], readings: &[i32], length: usize) -> RunAnswer {
+    both_refuse(BASE, rows, readings, length)
 }
 
 #[test]
@@ -29,24 +24,24 @@ fn refusals_by_the_caller() {
     for length in [0, 1, 2559, 2561, 5120] {
         // The lowest number first, and all before the rows.
         let other = vec![0; length];
-        assert_eq!(refuses(&other, &READINGS, STORE), not_run(2, 0));
-        assert_eq!(refuses(&other, &READINGS, 0), not_run(2, 0));
-        assert_eq!(refuses(&other, &[], STORE), not_run(2, 0));
-        assert_eq!(refuses(&other, &[], 0), not_run(2, 0));
+        assert_eq!(refuses(&other, &READINGS, STORE), refused(2, 0));
+        assert_eq!(refuses(&other, &READINGS, 0), refused(2, 0));
+        assert_eq!(refuses(&other, &[], STORE), refused(2, 0));
+        assert_eq!(refuses(&other, &[], 0), refused(2, 0));
     }
     for length in [0, 1, 3, 383, 385, 768] {
         for rows in [&rows, &ended] {
-            assert_eq!(refuses(rows, &READINGS, length), not_run(3, 0));
-            assert_eq!(refuses(rows, &[], length), not_run(3, 0));
+            assert_eq!(refuses(rows, &READINGS, length), refused(3, 0));
+            assert_eq!(refuses(rows, &[], length), refused(3, 0));
         }
     }
     for length in [0, 1, 7, 9, 16] {
         for rows in [&rows, &ended] {
             let readings = vec![1; length];
-            assert_eq!(refuses(rows, &readings, STORE), not_run(4, 0));
+            assert_eq!(refuses(rows, &readings, STORE), refused(4, 0));
         }
     }
-    assert_eq!(refuses(&ended, &READINGS, STORE), not_run(12, 0));
+    assert_eq!(refuses(&ended, &READINGS, STORE), refused(12, 0));
 }
 
 #[test]
@@ -56,35 +51,35 @@ fn refusals_by_the_rows() {
         rows[field] = value;
         refuses(&rows, &READINGS, STORE)
     };
-    assert_eq!(with(15, 0), not_run(12, 3));
-    assert_eq!(with(15, 12), not_run(13, 3));
-    assert_eq!(with(16, 64), not_run(14, 3));
-    assert_eq!(with(19, 1), not_run(14, 3));
-    assert_eq!(with(1, 0), not_run(14, 0));
-    assert_eq!(with(0, 7), not_run(18, 0));
-    assert_eq!(with(20, 1), not_run(19, 4));
+    assert_eq!(with(15, 0), refused(12, 3));
+    assert_eq!(with(15, 12), refused(13, 3));
+    assert_eq!(with(16, 64), refused(14, 3));
+    assert_eq!(with(19, 1), refused(14, 3));
+    assert_eq!(with(1, 0), refused(14, 0));
+    assert_eq!(with(0, 7), refused(18, 0));
+    assert_eq!(with(20, 1), refused(19, 4));
     let deep = (0..15).fold(number(1), |inner, _| block(&[inner]));
-    assert_eq!(gives(&[deep.clone()[1..].to_vec()]), ran(1, 0));
+    assert_eq!(gives_unchecked(&[deep.clone()[1..].to_vec()]), ran(1, 0));
     assert_eq!(
         refuses(&rows_of(&[deep]), &READINGS, STORE),
-        not_run(15, 16)
+        refused(15, 16)
     );
     let many = vec![boxed(number(1)); 65];
-    assert_eq!(refuses(&rows_of(&many), &READINGS, STORE), not_run(17, 129));
+    assert_eq!(refuses(&rows_of(&many), &READINGS, STORE), refused(17, 129));
 }
 
 #[test]
 fn readings_and_numbers() {
     for (index, value) in READINGS.iter().enumerate() {
-        assert_eq!(gives(&[reading(index as u32)]), ran(*value, 0));
-        assert_eq!(gives(&[number(*value)]), ran(*value, 0));
+        assert_eq!(gives_unchecked(&[reading(index as u32)]), ran(*value, 0));
+        assert_eq!(gives_unchecked(&[number(*value)]), ran(*value, 0));
     }
 }
 
 #[test]
 fn below_is_signed() {
     let compared = |first, second| {
-        gives(&[
+        gives_unchecked(&[
             let_(0, number(first)),
             let_(63, number(second)),
             below((0, 0), (63, 0)),
@@ -108,27 +103,27 @@ fn cells_are_taken_as_boxes_finish() {
         (cell(2), [1, 2, 1]),
     ];
     let terms = [let_(0, boxes(3, number(5))), copy((9, 0))];
-    assert_eq!(runs(&terms), (fault(60, 6), store_of(&left)));
+    assert_eq!(runs_unchecked(&terms), (fault(60, 6), store_of(&left)));
 }
 
 #[test]
 fn all_cells_can_be_taken() {
     let mut terms = vec![boxed(number(1)); 64];
     terms.push(number(6));
-    let (answer, store) = runs(&terms);
+    let (answer, store) = runs_unchecked(&terms);
     assert_eq!(answer, ran(6, 64));
     assert!(is_tidy(BASE, &store, 64));
     // Kept by variables up to the end.
     let mut terms: Vec<Term> = (0..64).map(|v| let_(v, boxed(number(7)))).collect();
     terms.push(copy((63, 1)));
-    let (answer, store) = runs(&terms);
+    let (answer, store) = runs_unchecked(&terms);
     assert_eq!(answer, ran(7, 64));
     assert!(is_tidy(BASE, &store, 64));
     // All in one chain, which is dropped as a whole.
     let mut terms = vec![let_(0, boxed(number(7)))];
     terms.extend(vec![assign((0, 0), boxed(mov((0, 0)))); 63]);
     terms.push(number(8));
-    let (answer, store) = runs(&terms);
+    let (answer, store) = runs_unchecked(&terms);
     assert_eq!(answer, ran(8, 64));
     assert!(is_tidy(BASE, &store, 64));
 }
@@ -140,7 +135,7 @@ fn a_row_that_was_closed_can_be_opened_again() {
         let_(0, number(3)),
         copy((0, 0)),
     ];
-    assert_eq!(gives(&terms), ran(3, 0));
+    assert_eq!(gives_unchecked(&terms), ran(3, 0));
 }
 
 #[test]
@@ -152,14 +147,14 @@ fn an_empty_row_can_be_borrowed_and_filled() {
         assign((1, 1), number(4)),
         copy((0, 0)),
     ];
-    assert_eq!(gives(&terms), ran(4, 0));
+    assert_eq!(gives_unchecked(&terms), ran(4, 0));
 }
 
 #[test]
 fn a_variable_belongs_to_the_block_around_its_let() {
     // v1 is opened before v0, within the right side of its let.
     let terms = [let_(0, let_(1, number(4))), copy((1, 0))];
-    let (answer, store) = runs(&terms);
+    let (answer, store) = runs_unchecked(&terms);
     assert_eq!(answer, ran(4, 0));
     assert!(is_tidy(BASE, &store, 0));
     // The inner block closes its own variables only.
@@ -169,14 +164,14 @@ fn a_variable_belongs_to_the_block_around_its_let() {
         block(&[let_(1, number(2)), number(3)]),
         copy((1, 0)),
     ];
-    assert_eq!(runs(&terms), (fault(60, 7), store_of(&left)));
+    assert_eq!(runs_unchecked(&terms), (fault(60, 7), store_of(&left)));
 }
 
 #[test]
 fn a_block_drops_every_value_but_the_last() {
     let left = [(cell(0), [2, 0, 0]), (cell(1), [1, 1, 2])];
     let terms = [block(&[boxed(number(1)), boxed(number(2))])];
-    assert_eq!(runs(&terms), (fault(61, 0), store_of(&left)));
+    assert_eq!(runs_unchecked(&terms), (fault(61, 0), store_of(&left)));
     // Dropped after its term: the next term finds the cell given back.
     let left = [
         (0, [1, 0, 0]),
@@ -189,7 +184,7 @@ fn a_block_drops_every_value_but_the_last() {
         mov((0, 0)),
         copy((1, 1)),
     ];
-    assert_eq!(runs(&terms), (fault(60, 7), store_of(&left)));
+    assert_eq!(runs_unchecked(&terms), (fault(60, 7), store_of(&left)));
 }
 
 #[test]
@@ -205,5 +200,5 @@ fn an_assign_drops_the_old_value() {
         assign((0, 0), boxed(number(3))),
         copy((9, 0)),
     ];
-    assert_eq!(runs(&terms), (fault(60, 8), store_of(&left)));
+    assert_eq!(runs_unchecked(&terms), (fault(60, 8), store_of(&left)));
 }

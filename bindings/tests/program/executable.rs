@@ -52,7 +52,7 @@ pub fn printed_in_pieces(input: &[u8], size: usize, pause: Duration) -> String {
     drop(to);
     let output = child.wait_with_output().expect("the program ends");
     let shown = shown(input);
-    // The exit status says nothing (LANGUAGE 6.11), so only a crash counts.
+    // The exit status says nothing (LANGUAGE 6.12), so only a crash counts.
     assert!(output.status.code().is_some(), "{}\n{shown}", output.status);
     assert_eq!(
         output.stderr, b"",

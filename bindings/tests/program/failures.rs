@@ -1,4 +1,4 @@
-//! Errors in reading standard input and in writing the line (LANGUAGE 6.11): a
+//! Errors in reading standard input and in writing the line (LANGUAGE 6.12): a
 //! message on standard error says which of the two failed. What is written to
 //! here takes the line whole or not at all, so there is no line.
 
@@ -18,7 +18,7 @@ const O_NONBLOCK: i32 = 0o4000;
 
 fn run(command: &mut Command) -> Output {
     let output = command.output().expect("the program ends");
-    // The exit status says nothing (LANGUAGE 6.11), so only a crash counts.
+    // The exit status says nothing (LANGUAGE 6.12), so only a crash counts.
     assert!(output.status.code().is_some(), "{}", output.status);
     output
 }
