@@ -27,11 +27,11 @@ use Rattle.machine.specs.Store.{Store, State, Ran}
 use Rattle.machine.specs.Locate.{numberIn}
 use Rattle.machine.specs.Run.{Outcome, run, runScript}
 use Rattle.machine.specs.Encode.{encode}
-use Rattle.machine.specs.Answers.{answered, refused, faulted, AnswerAndStore, toldRun, runFits, runnable, bitsOf, ranInto, runInto, uncheckedOf}
+use Rattle.machine.specs.Answers.{answered, refused, faulted, AnswerAndStore, toldUnchecked, runFits, runnable, bitsOf, ranInto, runInto, uncheckedOf}
 use Rattle.machine.specs.Words.{valueOf, storeOf}
 use Rattle.machine.specs.Parts.{stateAt, since, Stop, seen, Stood, atRow, outcome, stood, ranOn, EndReady, BlockClosed, endOf, boxesBy, stoodOn, runAt, TermReady, TermRan, BlockReady, BlockRan, ScriptReady, scriptOn, scriptRan, RunReady}
 use Rattle.machine.specs.declared.around.Standing.{Standing}
-use Rattle.machine.specs.declared.RunOutcome.the-variants as out
+use Rattle.machine.specs.declared.UncheckedOutcome.the-variants as out
 use Rattle.machine.proofs.WordLaws.{cleared-store, cleared-tidy}
 use Rattle.machine.proofs.LocateLaws.{value-number}
 use Rattle.machine.proofs.LeafLaws.{no-number}
@@ -104,8 +104,8 @@ module _ (set : Limits) where
   refused-rows readings w (err e) n p q = let z : _≡_ {A = Refusal} (n, p) e = cc in ap (λ (x : Refusal). (refused (x .0) (x .1), w)) z
 
   module _ (rows : List ℕ) (readings : List ℤ) (w : List ℕ) where
-    pub unfit-refused : (n : ℕ) → runFits set rows readings w ≡ err (n, 0) → _≡_ {A = AnswerAndStore} (toldRun (out.Refused n 0), w) (uncheckedOf set rows readings w)
-    unfolding toldRun uncheckedOf runInto runnable _>>=_
+    pub unfit-refused : (n : ℕ) → runFits set rows readings w ≡ err (n, 0) → _≡_ {A = AnswerAndStore} (toldUnchecked (out.Refused n 0), w) (uncheckedOf set rows readings w)
+    unfolding toldUnchecked uncheckedOf runInto runnable _>>=_
     unfit-refused n e = rw e
 
     module _ (i : inRanges set ≡ true) (a : length rows ≡ rowNumbers set) (b : length w ≡ storeNumbers set) (c : length readings ≡ 8) where
@@ -118,8 +118,8 @@ module _ (set : Limits) where
       judged-decoded = rw (i, eq-eqb (length rows) (rowNumbers set) a)
 
       -- The rows are refused.
-      pub rows-refused : (n p : ℕ) → told (judgement.Refused n p) ≡ judgedOf set rows → _≡_ {A = AnswerAndStore} (toldRun (out.Refused n p), w) (uncheckedOf set rows readings w)
-      unfolding toldRun uncheckedOf told
+      pub rows-refused : (n p : ℕ) → told (judgement.Refused n p) ≡ judgedOf set rows → _≡_ {A = AnswerAndStore} (toldUnchecked (out.Refused n p), w) (uncheckedOf set rows readings w)
+      unfolding toldUnchecked uncheckedOf told
       rows-refused n p q = go (decode set rows) (q ∙ judged-decoded) ∙ ap (runInto set readings w) (sym runs-decoded)
         where
           go : (m : Result Refusal Term) → _≡_ {A = Result Refusal ℕ} (err (n, p)) (m >>= λ t. ok (size t)) → _≡_ {A = AnswerAndStore} (refused n p, w) (runInto set readings w m)
@@ -214,17 +214,17 @@ module _ (set : Limits) where
           ran = term-ran .is 0 (omega arith) ∙ ap (λ (S : Store). runAt readings (treeAt (set .variables) (set .levels) rows 0) (record { store = S; taken = 0; opened = [] })) closed-now
 
           -- A fault of a term.
-          pub script-faults : (r .fault ≡ 0 → ⊥) → _≡_ {A = AnswerAndStore} (toldRun (out.Faulted (r .fault) (r .term)), w₃) (uncheckedOf set rows readings w)
-          unfolding scriptRan toldRun
+          pub script-faults : (r .fault ≡ 0 → ⊥) → _≡_ {A = AnswerAndStore} (toldUnchecked (out.Faulted (r .fault) (r .term)), w₃) (uncheckedOf set rows readings w)
+          unfolding scriptRan toldUnchecked
           script-faults n = tree-faults readings w₃ (b .tidy .words) (treeAt (set .variables) (set .levels) rows 0) (g .is) (r .fault) (r .term) (sym (stood-stops set w₃ opened₂ 0 r n) ∙ ran) ∙ run-is rows readings w ready words
 
           module _ (n : r .fault ≡ 0) where
             -- The answer is no number.
-            pub script-wrong : (r .kind ≡ 1 → ⊥) → _≡_ {A = AnswerAndStore} (toldRun (out.Faulted 61 0), w₃) (uncheckedOf set rows readings w)
-            unfolding scriptRan toldRun
+            pub script-wrong : (r .kind ≡ 1 → ⊥) → _≡_ {A = AnswerAndStore} (toldUnchecked (out.Faulted 61 0), w₃) (uncheckedOf set rows readings w)
+            unfolding scriptRan toldUnchecked
             script-wrong k = tree-wrong readings w₃ (b .tidy .words) opened₂ r (treeAt (set .variables) (set .levels) rows 0) (g .is) (sym (stood-goes set w₃ opened₂ 0 r n) ∙ ran) k ∙ run-is rows readings w ready words
 
             -- The answer.
-            pub script-answers : r .kind ≡ 1 → (a : ℤ) → a ≡ toZ w32 (r .payload) → _≡_ {A = AnswerAndStore} (toldRun (out.Answered a (r .taken)), w₃) (uncheckedOf set rows readings w)
-            unfolding scriptRan toldRun
+            pub script-answers : r .kind ≡ 1 → (a : ℤ) → a ≡ toZ w32 (r .payload) → _≡_ {A = AnswerAndStore} (toldUnchecked (out.Answered a (r .taken)), w₃) (uncheckedOf set rows readings w)
+            unfolding scriptRan toldUnchecked
             script-answers k a ea = rw ea ((tree-answers readings w₃ (b .tidy .words) opened₂ r (treeAt (set .variables) (set .levels) rows 0) (g .is) (sym (stood-goes set w₃ opened₂ 0 r n) ∙ ran) k) ∙ run-is rows readings w ready words)

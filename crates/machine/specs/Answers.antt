@@ -15,8 +15,8 @@ use Rattle.machine.specs.Values.{closed}
 use Rattle.machine.specs.Store.{State, Ran}
 use Rattle.machine.specs.Run.{runScript}
 use Rattle.machine.specs.Encode.{encode}
-use Rattle.machine.specs.declared.RunOutcome.{RunOutcome}
-use Rattle.machine.specs.declared.RunOutcome.the-variants.{Answered, Refused, Faulted}
+use Rattle.machine.specs.declared.UncheckedOutcome.{UncheckedOutcome}
+use Rattle.machine.specs.declared.UncheckedOutcome.the-variants.{Answered, Refused, Faulted}
 
 -- The answer (LANGUAGE 4.20) and the cells taken (4.22); a refusal and its place; a fault and its term (5.1, 5.2).
 pub data Answer : Type 0 where
@@ -24,10 +24,10 @@ pub data Answer : Type 0 where
   refused faulted : ℕ → ℕ → Answer
 
 -- Each case of the code's answer, with its number and values (LANGUAGE 6.7).
-unfoldable pub toldRun : RunOutcome → Answer
-toldRun (Answered a c) = answered a c
-toldRun (Refused n p) = refused n p
-toldRun (Faulted n i) = faulted n i
+unfoldable pub toldUnchecked : UncheckedOutcome → Answer
+toldUnchecked (Answered a c) = answered a c
+toldUnchecked (Refused n p) = refused n p
+toldUnchecked (Faulted n i) = faulted n i
 
 -- The answer, and the store afterwards.
 abbrev pub AnswerAndStore : Type 0

@@ -7,7 +7,7 @@ pub mod Drop
 pub mod Run
 pub mod Boxes
 pub mod Faults
--- What `run` answers; and what only the contracts of the code's parts are said with.
+-- What `run_unchecked` answers; and what only the contracts of the code's parts are said with.
 pub mod Answers
 pub mod Words
 pub mod Parts

@@ -2,7 +2,7 @@
 ghost use mathlib.Core.Path.{_≡_};
 ghost use Prim.Native.Nat.{_≤_};
 ghost use lib.ListN.{length};
-ghost use Rattle.machine.specs.Answers.{toldRun, uncheckedOf};
+ghost use Rattle.machine.specs.Answers.{toldUnchecked, uncheckedOf};
 ghost use Rattle.machine.specs.Parts.{fitNumber, RunReady};
 
 mod numbers; // numbers.rt: the numbers in the store's rows, and the faults
@@ -28,7 +28,7 @@ const SHORT: usize = 512;
 const LONG: usize = limits::MOST_TERMS as usize;
 
 // The answer (LANGUAGE 4.20) and the cells taken (4.22); or a refusal and its place; or a fault and its term (5.2).
-pub enum RunOutcome {
+pub enum UncheckedOutcome {
     Answered(i32, usize),
     Refused(u32, usize),
     Faulted(u32, usize),
@@ -42,9 +42,9 @@ fn run_script(
     readings: &[i32],
     store: &mut [u32],
     opened: &mut [u8],
-) -> RunOutcome
+) -> UncheckedOutcome
     requires { ⌜ RunReady set (now rows) (now readings) (now store) × (set .terms ≤ length (now opened)) ⌝ }
-    ensures { λ r. ⌜ (toldRun r, now (store .exit)) ≡ uncheckedOf set (now (rows .entry)) (now (readings .entry)) (now (store .entry)) ⌝ }
+    ensures { λ r. ⌜ (toldUnchecked r, now (store .exit)) ≡ uncheckedOf set (now (rows .entry)) (now (readings .entry)) (now (store .entry)) ⌝ }
 {
     clear(store);
     let sizes = limits::packed(set);
@@ -52,19 +52,24 @@ fn run_script(
     let inner = run_block(sizes, rows, 0, deeper, readings, store, opened, 0, 0);
     let ran = close_block(sizes, store, opened, 0, 0, inner);
     if ran.fault != numbers::NO_FAULT {
-        return RunOutcome::Faulted(ran.fault, ran.term);
+        return UncheckedOutcome::Faulted(ran.fault, ran.term);
     }
     if ran.kind != numbers::NUMBER {
-        return RunOutcome::Faulted(numbers::WRONG_KIND, 0);
+        return UncheckedOutcome::Faulted(numbers::WRONG_KIND, 0);
     }
-    RunOutcome::Answered(number_of(ran.payload), ran.taken)
+    UncheckedOutcome::Answered(number_of(ran.payload), ran.taken)
 }
 
 // The same, for callers that have the reader's word for the rows. A set of few terms has a short list of the variables
 // opened, so that its runs do not clear a long one.
-pub fn run_judged(set: Limits, rows: &[u32], readings: &[i32], store: &mut [u32]) -> RunOutcome
+pub fn run_judged(
+    set: Limits,
+    rows: &[u32],
+    readings: &[i32],
+    store: &mut [u32],
+) -> UncheckedOutcome
     requires { ⌜ RunReady set (now rows) (now readings) (now store) ⌝ }
-    ensures { λ r. ⌜ (toldRun r, now (store .exit)) ≡ uncheckedOf set (now (rows .entry)) (now (readings .entry)) (now (store .entry)) ⌝ }
+    ensures { λ r. ⌜ (toldUnchecked r, now (store .exit)) ≡ uncheckedOf set (now (rows .entry)) (now (readings .entry)) (now (store .entry)) ⌝ }
 {
     if set.terms as usize <= SHORT {
         let mut short: [u8; SHORT] = [0; SHORT];
@@ -97,16 +102,21 @@ pub fn fit_number(set: Limits, rows: usize, store: usize, readings: usize) -> u3
 // Run unchecked (LANGUAGE 6.7): the script of the term rows, accepted by the check or not, with the readings, under the
 // set (2.8). A refusal leaves the store unchanged; a fault leaves it as the run rules had it (4.21). It is for lessons
 // and tests that show what a script does that the check refuses; the run that checks first is `room::run`.
-pub fn run_unchecked(set: Limits, rows: &[u32], readings: &[i32], store: &mut [u32]) -> RunOutcome
-    ensures { λ r. ⌜ (toldRun r, now (store .exit)) ≡ uncheckedOf set (now (rows .entry)) (now (readings .entry)) (now (store .entry)) ⌝ }
+pub fn run_unchecked(
+    set: Limits,
+    rows: &[u32],
+    readings: &[i32],
+    store: &mut [u32],
+) -> UncheckedOutcome
+    ensures { λ r. ⌜ (toldUnchecked r, now (store .exit)) ≡ uncheckedOf set (now (rows .entry)) (now (readings .entry)) (now (store .entry)) ⌝ }
 {
     let number = fit_number(set, rows.len(), store.len(), readings.len());
     if number != 0 {
-        return RunOutcome::Refused(number, 0);
+        return UncheckedOutcome::Refused(number, 0);
     }
     let judged = reader::judge_rows(set, rows);
     match judged {
-        reader::Outcome::Refused(number, row) => RunOutcome::Refused(number, row),
+        reader::Outcome::Refused(number, row) => UncheckedOutcome::Refused(number, row),
         reader::Outcome::Count(terms) => run_judged(set, rows, readings, store),
     }
 }

@@ -14,12 +14,12 @@ use Rattle.reader.specs.Answers.{told, Answered, lengthsFit, readOf}
 use Rattle.reader.specs.declared.Outcome.{Outcome}
 use Rattle.reader.specs.declared.Outcome.the-variants as read
 use Rattle.machine.specs.Answers.{runFits}
-use Rattle.machine.specs.Parts as run
+use Rattle.machine.specs.Parts as machine
 use Rattle.machine.proofs.FitLaws.{Fit, unfit, all-fit}
-use Rattle.room.specs.Running.{RunMade, toldRan, runOf}
+use Rattle.room.specs.Running.{RunMade, toldRun, runOf}
 use Rattle.room.specs.Calling.{CallAnswer, CallMade, refused, toldCall, callFits, withTerms, runCalled, readCalled, fitCalled, callOf}
 use Rattle.room.specs.Parts.{fitNumber}
-use Rattle.room.specs.declared.Ran.{Ran}
+use Rattle.room.specs.declared.RunOutcome.{RunOutcome}
 use Rattle.room.specs.declared.Called.{Called}
 use Rattle.room.specs.declared.Called.the-variants as room
 
@@ -28,7 +28,7 @@ module _ (l : Limits) (script : List ℕ) (readings : List ℤ) (rows store : Li
   number = fitNumber l (length script) (length rows) (length store) (length readings)
 
   abbrev rest : ℕ
-  rest = run.fitNumber l (length rows) (length store) (length readings)
+  rest = machine.fitNumber l (length rows) (length store) (length readings)
 
   -- What the caller's number says of the set and the lengths.
   Says : ℕ → Type 0
@@ -42,7 +42,7 @@ module _ (l : Limits) (script : List ℕ) (readings : List ℤ) (rows store : Li
   as-run (suc n) e q = q ∙ unfit l rows readings store (suc n) e (λ z. absurd (omega arith))
 
   says : Says number
-  unfolding Says fitNumber run.fitNumber callFits lengthsFit need _>>=_
+  unfolding Says fitNumber machine.fitNumber callFits lengthsFit need _>>=_
   says = go (inRanges l) (ltb maxBytes (length script)) refl refl
     where
       go : (r a : Bool) → inRanges l ≡ r → ltb maxBytes (length script) ≡ a → Says (pick r (pick a 1 rest) 74)
@@ -88,8 +88,8 @@ module _ (l : Limits) (script : List ℕ) (readings : List ℤ) (rows store : Li
       unfolding told toldCall readCalled
       call-unread m p r = ap (λ (x : Outcome). readCalled l readings store (told x) rows₁) (sym r) ∙ call-is
 
-      pub call-read : (terms : ℕ) → o ≡ read.Count terms → (r : Ran) (store₁ : List ℕ) → (toldRan r, store₁) ≡ runOf l rows₁ readings store
-          → (a : Called) → toldCall a ≡ withTerms terms (toldRan r) → (toldCall a, (rows₁, store₁)) ≡ callOf l script readings rows store
+      pub call-read : (terms : ℕ) → o ≡ read.Count terms → (r : RunOutcome) (store₁ : List ℕ) → (toldRun r, store₁) ≡ runOf l rows₁ readings store
+          → (a : Called) → toldCall a ≡ withTerms terms (toldRun r) → (toldCall a, (rows₁, store₁)) ≡ callOf l script readings rows store
       unfolding told readCalled
       call-read terms c r store₁ v a w =
           ap (λ (x : CallAnswer). (x, (rows₁, store₁))) w

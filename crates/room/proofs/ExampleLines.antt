@@ -30,7 +30,7 @@ unfolding
     ExampleLines.lineIn ExampleLines.printed ExampleLines.e1Readings ExampleLines.on ExampleLines.examples
     Line.digitsBy Line.decimal Line.signed Line.lineOf Line.shortLine Line.readingsOf Line.inFront Line.reported Line.reportCall Line.reportOf
     Calling.callFits Calling.withTerms Calling.readCalled Calling.fitCalled Calling.callOf Calling.readingAt
-    Running.judgedFirst Running.unfaulted Running.ranJudged Running.runOf
+    Running.checkedFirst Running.endedInto Running.checkedInto Running.runOf
     Result._>>=_ Result.need
     Limits.base Limits.inRanges Limits.maxBytes Limits.rowNumbers Limits.storeNumbers
     Kinds.byteOf Kinds.kinds Kinds.among Kinds.kindOf Kinds.fields
@@ -48,6 +48,6 @@ unfolding
     Locate.followed Locate.locateFrom Locate.locate Locate.filled Locate.numberIn
     Drop.giveBack Drop.dropStep Drop.isGivenBack Drop.cellsGivenBack Drop.cellsLeft Drop.dropAlong Drop.dropValue Drop.closeAll
     Run.runCopy Run.runMove Run.runBorrow Run.runNumber Run.less Run.runBelow Run.runBox Run.runLet Run.runAssign Run.runBlockEnd Run.run Run.runScript
-    Answers.runFits Answers.runnable Answers.bitsOf Answers.ranInto Answers.runInto Answers.uncheckedOf
+    Answers.runFits Answers.runnable Answers.bitsOf
     Examples.boxed Examples.e1Bytes Examples.e2 Examples.e3 Examples.e4 Examples.e5 Examples.e6 Examples.e7 Examples.e9 Examples.nine Examples.eight Examples.e11
 lines-hold = refl

@@ -17,21 +17,31 @@ use Rattle.rules.specs.Judge.{judgeScript}
 use Rattle.ownership.specs.Answers.{toldChecked, checkOf}
 use Rattle.ownership.specs.declared.Checked.{Checked}
 use Rattle.ownership.specs.declared.Checked.the-variants as checked
-use Rattle.machine.specs.Answers.{AnswerAndStore, toldRun, runFits, runnable, uncheckedOf}
+use Rattle.machine.specs.Values.{closed}
+use Rattle.machine.specs.Store.{State, Ran}
+use Rattle.machine.specs.Run.{runScript}
+use Rattle.machine.specs.Answers.{AnswerAndStore, toldUnchecked, runFits, runnable, bitsOf, ranInto, runInto, uncheckedOf}
 use Rattle.machine.specs.Parts.{RunReady}
-use Rattle.machine.specs.declared.RunOutcome.{RunOutcome}
-use Rattle.machine.specs.declared.RunOutcome.the-variants as machine
-use Rattle.room.specs.Running.{RunMade, refused, toldRan, judgedFirst, unfaulted, ranJudged, runOf}
-use Rattle.room.specs.declared.Ran.the-variants as room
+use Rattle.machine.specs.declared.UncheckedOutcome.{UncheckedOutcome}
+use Rattle.machine.specs.declared.UncheckedOutcome.the-variants as machine
+use Rattle.room.specs.Running.{RunMade, refused, toldRun, checkedFirst, endedInto, checkedInto, runOf}
+use Rattle.room.specs.Parts.{ofUnchecked}
+use Rattle.room.specs.declared.RunOutcome.the-variants as room
+
+-- A run's end, told with the machine's answer and without.
+end-is : (l : Limits) (x : Ran (State × ℕ)) → endedInto l x ≡ (ofUnchecked (ranInto l x .0), ranInto l x .1)
+unfolding endedInto ranInto ofUnchecked
+end-is l (ok e) = refl
+end-is l (err f) = refl
 
 module _ (l : Limits) (rows : List ℕ) (readings : List ℤ) (store : List ℕ) where
-  first-refused : (e : Refusal) → judgedFirst l rows readings store ≡ err e → runOf l rows readings store ≡ (refused (e .0) (e .1), store)
-  unfolding runOf ranJudged
+  first-refused : (e : Refusal) → checkedFirst l rows readings store ≡ err e → runOf l rows readings store ≡ (refused (e .0) (e .1), store)
+  unfolding runOf checkedInto
   first-refused e h = rw h
 
-  pub run-unfit : (n : ℕ) → runFits l rows readings store ≡ err (n, 0) → (toldRan (room.Refused n 0), store) ≡ runOf l rows readings store
-  unfolding toldRan judgedFirst runnable _>>=_
-  run-unfit n h = let j : judgedFirst l rows readings store ≡ err (n, 0) = rw h in sym (first-refused (n, 0) j)
+  pub run-unfit : (n : ℕ) → runFits l rows readings store ≡ err (n, 0) → (toldRun (room.Refused n 0), store) ≡ runOf l rows readings store
+  unfolding toldRun checkedFirst runnable _>>=_
+  run-unfit n h = let j : checkedFirst l rows readings store ≡ err (n, 0) = rw h in sym (first-refused (n, 0) j)
 
   module _ (eight : length readings ≡ 8) (long : length store ≡ storeNumbers l) where
     -- With these lengths what is left to judge is what the check judges.
@@ -44,21 +54,17 @@ module _ (l : Limits) (rows : List ℕ) (readings : List ℤ) (store : List ℕ)
         go true false q e = rw (q, e)
         go true true q e = rw (q, e, eq-eqb (length store) (storeNumbers l) long, eq-eqb (length readings) 8 eight)
 
-    first-is : judgedFirst l rows readings store ≡ (rowsTree l rows >>= judgeScript (l .variables))
-    unfolding judgedFirst
-    first-is = ap (λ (m : Result Refusal Term). m >>= judgeScript (l .variables)) runnable-is
-
     pub check-refuses : (e : Refusal) → checkOf l rows ≡ err e → runOf l rows readings store ≡ (refused (e .0) (e .1), store)
-    unfolding checkOf _>>=_
-    check-refuses e h = first-refused e (first-is ∙ go (rowsTree l rows) h)
+    unfolding checkOf checkedFirst _>>=_
+    check-refuses e h = first-refused e (ap (λ (m : Result Refusal Term). m >>= λ t. judgeScript (l .variables) t >>= λ _. ok t) runnable-is ∙ go (rowsTree l rows) h)
       where
-        judged : (t : Term) (j : Result Refusal (Unit {0})) → (j >>= λ _. ok (size t)) ≡ err e → j ≡ err e
+        judged : (t : Term) (j : Result Refusal (Unit {0})) → (j >>= λ _. ok (size t)) ≡ err e → _≡_ {A = Result Refusal Term} (j >>= λ _. ok t) (err e)
         judged t (ok u) q = err-ok (sym q)
-        judged t (err f) q = cc
+        judged t (err f) q = let z : f ≡ e = cc in ap err z
 
-        go : (m : Result Refusal Term) → (m >>= λ t. judgeScript (l .variables) t >>= λ _. ok (size t)) ≡ err e → (m >>= judgeScript (l .variables)) ≡ err e
+        go : (m : Result Refusal Term) → (m >>= λ t. judgeScript (l .variables) t >>= λ _. ok (size t)) ≡ err e → (m >>= λ t. judgeScript (l .variables) t >>= λ _. ok t) ≡ err e
         go (ok t) q = judged t (judgeScript (l .variables) t) q
-        go (err f) q = cc
+        go (err f) q = let z : f ≡ e = cc in ap err z
 
     module _ (n : ℕ) (h : checkOf l rows ≡ ok n) where
       tree : (t : Term) × (rowsTree l rows ≡ ok t) × ((judgeScript (l .variables) t >>= λ _. ok (size t)) ≡ ok n)
@@ -72,15 +78,13 @@ module _ (l : Limits) (rows : List ℕ) (readings : List ℤ) (store : List ℕ)
       unfolding judgedOf _>>=_
       ready = record { terms = n; judged = rw (tree .1) (counted .2); eight = eight; size = long }
 
-      check-accepts : runOf l rows readings store ≡ (unfaulted (uncheckedOf l rows readings store .0), uncheckedOf l rows readings store .1)
-      unfolding runOf ranJudged _>>=_
-      check-accepts =
-          let j : judgedFirst l rows readings store ≡ ok tt = first-is ∙ rw (tree .1, counted .1) in
-          rw j
+      check-accepts : runOf l rows readings store ≡ (ofUnchecked (uncheckedOf l rows readings store .0), uncheckedOf l rows readings store .1)
+      unfolding runOf checkedFirst checkedInto uncheckedOf runInto _>>=_
+      check-accepts = rw (runnable-is ∙ tree .1, counted .1) (end-is l (runScript (bitsOf readings) (tree .0) (λ x. closed)))
 
     module _ (k : Checked) (h : toldChecked k ≡ checkOf l rows) where
-      pub run-unaccepted : (n p : ℕ) → k ≡ checked.Refused n p → (toldRan (room.Refused n p), store) ≡ runOf l rows readings store
-      unfolding toldChecked toldRan
+      pub run-unaccepted : (n p : ℕ) → k ≡ checked.Refused n p → (toldRun (room.Refused n p), store) ≡ runOf l rows readings store
+      unfolding toldChecked toldRun
       run-unaccepted n p e = sym (check-refuses (n, p) (sym h ∙ ap toldChecked e))
 
       module _ (n : ℕ) (e : k ≡ checked.Accepted n) where
@@ -91,21 +95,21 @@ module _ (l : Limits) (rows : List ℕ) (readings : List ℤ) (store : List ℕ)
         pub run-ready : RunReady l rows readings store
         run-ready = ready n is-accepted
 
-        module _ (o : RunOutcome) (store₁ : List ℕ) (q : (toldRun o, store₁) ≡ uncheckedOf l rows readings store) where
-          ran : (a : RunOutcome) → o ≡ a → _≡_ {A = RunMade} (unfaulted (toldRun a), store₁) (runOf l rows readings store)
+        module _ (o : UncheckedOutcome) (store₁ : List ℕ) (q : (toldUnchecked o, store₁) ≡ uncheckedOf l rows readings store) where
+          ran : (a : UncheckedOutcome) → o ≡ a → _≡_ {A = RunMade} (ofUnchecked (toldUnchecked a), store₁) (runOf l rows readings store)
           ran a w =
-              ap (λ (x : RunOutcome). (unfaulted (toldRun x), store₁)) (sym w)
-              ∙ ap (λ (x : AnswerAndStore). (unfaulted (x .0), x .1)) q
+              ap (λ (x : UncheckedOutcome). (ofUnchecked (toldUnchecked x), store₁)) (sym w)
+              ∙ ap (λ (x : AnswerAndStore). (ofUnchecked (x .0), x .1)) q
               ∙ sym (check-accepts n is-accepted)
 
-          pub run-answered : (a : ℤ) (c : ℕ) → o ≡ machine.Answered a c → (toldRan (room.Answered a c), store₁) ≡ runOf l rows readings store
-          unfolding toldRan toldRun unfaulted
+          pub run-answered : (a : ℤ) (c : ℕ) → o ≡ machine.Answered a c → (toldRun (room.Answered a c), store₁) ≡ runOf l rows readings store
+          unfolding toldRun toldUnchecked ofUnchecked
           run-answered a c w = ran (machine.Answered a c) w
 
-          pub run-refused : (m p : ℕ) → o ≡ machine.Refused m p → (toldRan (room.Refused m p), store₁) ≡ runOf l rows readings store
-          unfolding toldRan toldRun unfaulted
+          pub run-refused : (m p : ℕ) → o ≡ machine.Refused m p → (toldRun (room.Refused m p), store₁) ≡ runOf l rows readings store
+          unfolding toldRun toldUnchecked ofUnchecked
           run-refused m p w = ran (machine.Refused m p) w
 
-          pub run-faulted : (m i : ℕ) → o ≡ machine.Faulted m i → (toldRan (room.Refused m i), store₁) ≡ runOf l rows readings store
-          unfolding toldRan toldRun unfaulted
+          pub run-faulted : (m i : ℕ) → o ≡ machine.Faulted m i → (toldRun (room.Refused m i), store₁) ≡ runOf l rows readings store
+          unfolding toldRun toldUnchecked ofUnchecked
           run-faulted m i w = ran (machine.Faulted m i) w

@@ -21,9 +21,9 @@ use Rattle.ownership.specs.Answers.{checkOf}
 use Rattle.machine.specs.Values.{closed}
 use Rattle.machine.specs.Run.{runScript}
 use Rattle.machine.specs.Answers as unchecked
-use Rattle.machine.specs.Answers.{AnswerAndStore, runFits, runnable, bitsOf, ranInto, runInto, uncheckedOf}
+use Rattle.machine.specs.Answers.{runFits, runnable, bitsOf, ranInto, runInto, uncheckedOf}
 use Rattle.safety.specs.Safety.{Safe, tidyStore}
-use Rattle.room.specs.Running.{answered, judgedFirst, unfaulted, ranJudged, runOf}
+use Rattle.room.specs.Running.{answered, checkedFirst, endedInto, checkedInto, runOf}
 
 module _ (l : Limits) (t : Term) (r : inRanges l ≡ true) (within : Within l t) where
   pub checks-tree : checkOf l (rowsOf l t) ≡ (judgeScript (l .variables) t >>= λ _. ok (size t))
@@ -47,5 +47,7 @@ module _ (l : Limits) (t : Term) (r : inRanges l ≡ true) (within : Within l t)
 
       -- and with one that accepts it.
       pub run-safe : judgeScript (l .variables) t ≡ ok tt → runOf l (rowsOf l t) readings store ≡ (answered (toZ w32 (s .answer)) (s .final .taken), tidyStore l (s .final .taken))
-      unfolding runOf judgedFirst ranJudged unfaulted _>>=_
-      run-safe j = rw (runs-tree, j) (ap (λ (x : AnswerAndStore). (unfaulted (x .0), x .1)) unchecked-safe)
+      unfolding runOf checkedFirst checkedInto endedInto _>>=_
+      run-safe j =
+          rw (runs-tree, j)
+          (ap (endedInto l) (s .ends) ∙ ap (λ (x : List ℕ). (answered (toZ w32 (s .answer)) (s .final .taken), x)) (s .numbers))

@@ -41,7 +41,7 @@ AcceptedRuns l =
     → (readings : List ℤ) (store : List ℕ) → length readings ≡ 8 → length store ≡ storeNumbers l
     → AcceptedRun l rows n readings store
 
--- Where the check refuses, `run` gives the same number and place, and the store is as it was.
+-- Where the check refuses, `run` with readings and store of their lengths gives the same number and place, and the store is as it was.
 abbrev pub RefusedRuns : Limits → Type 0
 RefusedRuns l =
     (rows : List ℕ) (e : Refusal) → checkOf l rows ≡ err e

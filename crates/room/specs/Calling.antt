@@ -1,6 +1,7 @@
 -- What `call` answers and leaves in lent memory on every input (LANGUAGE 6.8), and what safety (7.4) says of it.
-use Prim.Native.Nat.{ℕ, _+_, _*_}
+use Prim.Native.Nat.{ℕ, _+_, _*_, _≤_}
 use mathlib.Core.Path.{_≡_}
+use mathlib.Core.Logic.{_⊎_}
 use mathlib.Core.List.{List}
 use lib.Dec.{leb}
 use lib.IntN.{ℤ, pos}
@@ -52,8 +53,8 @@ withTerms n (running.refused m p) = refused m p
 abbrev pub runCalled : ℕ → List ℕ → RunMade → CallMade
 runCalled n rows made = (withTerms n (made .0), (rows, made .1))
 
--- What reading answered and left in the rows (LANGUAGE 6.2), and then `run` on these (6.6). A script that is not read does not run, and the store
--- is as it was.
+-- What reading answered and left in the rows (LANGUAGE 6.2), and then `run` on these (6.6), which leaves them as they are, also where it refuses
+-- them. A script that is not read does not run, and the store is as it was.
 unfoldable pub readCalled : Limits → List ℤ → List ℕ → Result Refusal ℕ → List ℕ → CallMade
 readCalled l readings store (ok n) rows = runCalled n rows (runOf l rows readings store)
 readCalled l readings store (err e) rows = (refused (e .0) (e .1), (rows, store))
@@ -69,14 +70,26 @@ callOf l script readings rows store =
     fitCalled (callFits l script readings rows store) rows store
     (readCalled l readings store (readOf l script rows .0) (readOf l script rows .1))
 
--- The safety of accepted scripts, from the bytes on: the run of a script that is read and accepted is safe, whatever the store was before.
--- Where the call answers, it tells that script's terms and what its run comes to, and the store is tidy. Where it refuses, the store is as it
--- was.
-pub record SafeCall (l : Limits) (script : List ℕ) (readings : List ℤ) (r : CallAnswer) (before after : List ℕ) : Type 0 where
+-- What is judged before the run of a call (LANGUAGE 5.7), with the script that is to run: 74 and 1 to 4, then 10 to 19, then 30 to 43.
+unfoldable pub readFirst : Limits → List ℕ → List ℤ → List ℕ → List ℕ → Result Refusal Term
+readFirst l script readings rows store =
+    callFits l script readings rows store >>= λ _.
+    parse l script >>= λ t.
+    judgeScript (l .variables) t >>= λ _.
+    ok t
+
+-- The numbers of a call's refusals (LANGUAGE 6.1): none is one of 60 to 63.
+abbrev pub CallNumber : ℕ → Type 0
+CallNumber n = (n ≡ 74) ⊎ ((1 ≤ n) × (n ≤ 4)) ⊎ ((10 ≤ n) × (n ≤ 19)) ⊎ ((30 ≤ n) × (n ≤ 43))
+
+-- The safety of accepted scripts (LANGUAGE 7.4), from the bytes on, on every input: as for a run, with the terms of the script that was read.
+pub record SafeCall (l : Limits) (script : List ℕ) (readings : List ℤ) (rows : List ℕ) (r : CallAnswer) (before after : List ℕ) : Type 0 where
   pub safe : (t : Term) → parse l script ≡ ok t → judgeScript (l .variables) t ≡ ok tt → (earlier : Store) → Safe l t (bitsOf readings) earlier
   pub answers : (n : ℕ) (a : ℤ) (c : ℕ) → r ≡ called n a c
-      → (t : Term) × (parse l script ≡ ok t) × (n ≡ size t) × (s : Safe l t (bitsOf readings) (λ x. closed)) × (a ≡ toZ w32 (s .answer)) × (c ≡ s .final .taken)
+      → (t : Term) × (readFirst l script readings rows before ≡ ok t) × (n ≡ size t) × (s : Safe l t (bitsOf readings) (λ x. closed)) × (a ≡ toZ w32 (s .answer)) × (c ≡ s .final .taken)
   pub tidy : (n : ℕ) (a : ℤ) (c : ℕ) → r ≡ called n a c → after ≡ tidyStore l c
+  pub refuses : (n p : ℕ) → r ≡ refused n p → readFirst l script readings rows before ≡ err (n, p)
+  pub numbers : (n p : ℕ) → r ≡ refused n p → CallNumber n
   pub untouched : (n p : ℕ) → r ≡ refused n p → after ≡ before
 
 -- A reading of the program's input (LANGUAGE 6.10): four bytes from `at` on, high byte first; 0 where there are not four.

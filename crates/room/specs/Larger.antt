@@ -1,6 +1,6 @@
 -- Larger sets of limits (LANGUAGE 2.8, 7.7): a script that is accepted under one set is accepted under every set that is nowhere smaller, with
--- the same number of terms and, for the same readings, the same answer and cells; one that the check refuses is refused alike. Said of what
--- `read`, `check`, `run` and `call` answer.
+-- the same number of terms and, for the same readings, the same answer and cells. Said of what `read`, `check`, `run` and `call` answer. Where
+-- the form is right and the check refuses, it refuses alike.
 use Prim.Native.Nat.{ℕ, _-_}
 use mathlib.Core.Path.{_≡_}
 use mathlib.Core.Bool.{true}

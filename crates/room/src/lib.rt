@@ -7,11 +7,11 @@ ghost use Prim.Native.Nat.{_≤_};
 ghost use lib.ListN.{length};
 ghost use Rattle.reader.specs.Limits.{storeNumbers};
 ghost use Rattle.ownership.specs.Answers.{toldChecked, checkOf};
-ghost use Rattle.room.specs.Running.{toldRan, runOf, SafeRun};
+ghost use Rattle.room.specs.Running.{toldRun, runOf, SafeRun};
 ghost use Rattle.room.specs.Calling.{toldCall, withTerms, callOf, SafeCall, readingAt};
 ghost use Rattle.room.specs.Line.{readingsOf, reportOf, baseReportOf};
 ghost use Rattle.room.specs.Parts.{fitNumber};
-use machine::RunOutcome;
+use machine::UncheckedOutcome;
 use machine::signed::number_of;
 use ownership::Checked;
 use reader::Outcome;
@@ -31,7 +31,7 @@ const ROWS: usize = 5 * limits::BASE.terms as usize;
 const STORE: usize = 3 * (limits::BASE.variables as usize + limits::BASE.boxes as usize);
 
 // The answer and the cells taken; or the refusal's number and place (LANGUAGE 6.6).
-pub enum Ran {
+pub enum RunOutcome {
     Answered(i32, usize),
     Refused(u32, usize),
 }
@@ -44,24 +44,24 @@ pub enum Called {
 
 // The run of rows that were checked, where the check accepts them. It does not judge the rows again, and comes to
 // neither a refusal nor a fault.
-fn run_accepted(
+fn run_checked(
     set: Limits,
     checked: Checked,
     rows: &[u32],
     readings: &[i32],
     store: &mut [u32],
-) -> Ran
+) -> RunOutcome
     requires { ⌜ (toldChecked checked ≡ checkOf set (now rows)) × (length (now readings) ≡ 8) × (length (now store) ≡ storeNumbers set) ⌝ }
-    ensures { λ r. ⌜ (toldRan r, now (store .exit)) ≡ runOf set (now (rows .entry)) (now (readings .entry)) (now (store .entry)) ⌝ }
+    ensures { λ r. ⌜ (toldRun r, now (store .exit)) ≡ runOf set (now (rows .entry)) (now (readings .entry)) (now (store .entry)) ⌝ }
 {
     match checked {
-        Checked::Refused(number, place) => Ran::Refused(number, place),
+        Checked::Refused(number, place) => RunOutcome::Refused(number, place),
         Checked::Accepted(terms) => {
             let ran = machine::run_judged(set, rows, readings, store);
             match ran {
-                RunOutcome::Answered(answer, cells) => Ran::Answered(answer, cells),
-                RunOutcome::Refused(number, place) => Ran::Refused(number, place),
-                RunOutcome::Faulted(number, term) => Ran::Refused(number, term),
+                UncheckedOutcome::Answered(answer, cells) => RunOutcome::Answered(answer, cells),
+                UncheckedOutcome::Refused(number, place) => RunOutcome::Refused(number, place),
+                UncheckedOutcome::Faulted(number, term) => RunOutcome::Refused(number, term),
             }
         }
     }
@@ -69,16 +69,16 @@ fn run_accepted(
 
 // Run (LANGUAGE 6.6): the script of the term rows with the readings, under the set (2.8), if the check accepts it.
 // Every refusal (74, 2 to 4, 12 to 19, 30 to 43) leaves the store unchanged, and no fault is met.
-pub fn run(set: Limits, rows: &[u32], readings: &[i32], store: &mut [u32]) -> Ran
-    ensures answered { λ r. ⌜ (toldRan r, now (store .exit)) ≡ runOf set (now (rows .entry)) (now (readings .entry)) (now (store .entry)) ⌝ }
-    ensures safe { λ r. ⌜ SafeRun set (now (rows .entry)) (now (readings .entry)) (toldRan r) (now (store .entry)) (now (store .exit)) ⌝ }
+pub fn run(set: Limits, rows: &[u32], readings: &[i32], store: &mut [u32]) -> RunOutcome
+    ensures answered { λ r. ⌜ (toldRun r, now (store .exit)) ≡ runOf set (now (rows .entry)) (now (readings .entry)) (now (store .entry)) ⌝ }
+    ensures safe { λ r. ⌜ SafeRun set (now (rows .entry)) (now (readings .entry)) (toldRun r) (now (store .entry)) (now (store .exit)) ⌝ }
 {
     let number = machine::fit_number(set, rows.len(), store.len(), readings.len());
     if number != 0 {
-        return Ran::Refused(number, 0);
+        return RunOutcome::Refused(number, 0);
     }
     let checked = ownership::check(set, rows);
-    run_accepted(set, checked, rows, readings, store)
+    run_checked(set, checked, rows, readings, store)
 }
 
 // The number of the caller's refusal of a call: 74 for the set, then the lowest (LANGUAGE 5.8); 0 for none.
@@ -95,12 +95,12 @@ fn fit_number(set: Limits, script: usize, rows: usize, store: usize, readings: u
 }
 
 // A run's answer as a call's, with the terms that were read.
-fn with_terms(terms: usize, ran: Ran) -> Called
-    ensures { λ r. ⌜ toldCall r ≡ withTerms terms (toldRan ran) ⌝ }
+fn with_terms(terms: usize, ran: RunOutcome) -> Called
+    ensures { λ r. ⌜ toldCall r ≡ withTerms terms (toldRun ran) ⌝ }
 {
     match ran {
-        Ran::Answered(answer, cells) => Called::Answered(terms, answer, cells),
-        Ran::Refused(number, place) => Called::Refused(number, place),
+        RunOutcome::Answered(answer, cells) => Called::Answered(terms, answer, cells),
+        RunOutcome::Refused(number, place) => Called::Refused(number, place),
     }
 }
 
@@ -115,7 +115,7 @@ pub fn call(
     store: &mut [u32],
 ) -> Called
     ensures answered { λ r. ⌜ (toldCall r, (now (rows .exit), now (store .exit))) ≡ callOf set (now (script .entry)) (now (readings .entry)) (now (rows .entry)) (now (store .entry)) ⌝ }
-    ensures safe { λ r. ⌜ SafeCall set (now (script .entry)) (now (readings .entry)) (toldCall r) (now (store .entry)) (now (store .exit)) ⌝ }
+    ensures safe { λ r. ⌜ SafeCall set (now (script .entry)) (now (readings .entry)) (now (rows .entry)) (toldCall r) (now (store .entry)) (now (store .exit)) ⌝ }
 {
     let number = fit_number(set, script.len(), rows.len(), store.len(), readings.len());
     if number != 0 {
@@ -126,7 +126,7 @@ pub fn call(
         Outcome::Refused(number, place) => Called::Refused(number, place),
         Outcome::Count(terms) => {
             let checked = ownership::check_judged(set, rows, terms);
-            with_terms(terms, run_accepted(set, checked, rows, readings, store))
+            with_terms(terms, run_checked(set, checked, rows, readings, store))
         }
     }
 }

@@ -38,5 +38,5 @@ inC form r = (form (r .0), r .1)
 abbrev pub SafeRunInC : Limits → List ℕ → List ℤ → Run → List ℕ → List ℕ → Type 0
 SafeRunInC l rows readings r before after = (m : run.RunAnswer) × (r ≡ ranIn m) × run.SafeRun l rows readings m before after
 
-abbrev pub SafeCallInC : Limits → List ℕ → List ℤ → Call → List ℕ → List ℕ → Type 0
-SafeCallInC l script readings r before after = (m : call.CallAnswer) × (r ≡ calledIn m) × call.SafeCall l script readings m before after
+abbrev pub SafeCallInC : Limits → List ℕ → List ℤ → List ℕ → Call → List ℕ → List ℕ → Type 0
+SafeCallInC l script readings rows r before after = (m : call.CallAnswer) × (r ≡ calledIn m) × call.SafeCall l script readings rows m before after

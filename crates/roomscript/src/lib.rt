@@ -3,16 +3,16 @@
 ghost use mathlib.Core.Path.{_≡_};
 ghost use Rattle.reader.specs.Answers.{told, readOf, judgedOf, writtenOf};
 ghost use Rattle.ownership.specs.Answers.{toldChecked, checkOf};
-ghost use Rattle.machine.specs.Answers.{toldRun, uncheckedOf};
-ghost use Rattle.room.specs.Running.{toldRan, runOf};
+ghost use Rattle.machine.specs.Answers.{toldUnchecked, uncheckedOf};
+ghost use Rattle.room.specs.Running.{toldRun, runOf};
 ghost use Rattle.room.specs.Calling.{toldCall, callOf};
 ghost use Rattle.roomscript.specs.Answers.{answerIn, ranIn, uncheckedIn, calledIn, inC, SafeRunInC, SafeCallInC};
-use machine::RunOutcome;
+use machine::UncheckedOutcome;
 use ownership::Checked;
 use reader::Outcome;
 use reader::limits::Limits;
 use room::Called;
-use room::Ran;
+use room::RunOutcome;
 
 // refused is 0 or 1. Where it is 0, value is the count (terms, or bytes written) and number is 0;
 // else number is the refusal's number (LANGUAGE 5.3 to 5.5) and value its place (5.2).
@@ -85,7 +85,8 @@ fn c_checked(checked: Checked) -> Answer
     }
 }
 
-// refused is 0 or 1; where it is 1, number and place say why, and the others are 0. There is no fault (LANGUAGE 7.4).
+// refused is 0 or 1. Where it is 1, number and place say why, and the others are 0; else number and place are 0. There is
+// no fault (LANGUAGE 7.4).
 #[repr(C)]
 pub struct Run {
     pub refused: u32,
@@ -95,18 +96,18 @@ pub struct Run {
     pub cells: u64,
 }
 
-fn c_ran(ran: Ran) -> Run
-    ensures { λ r. ⌜ r ≡ ranIn (toldRan ran) ⌝ }
+fn c_ran(ran: RunOutcome) -> Run
+    ensures { λ r. ⌜ r ≡ ranIn (toldRun ran) ⌝ }
 {
     match ran {
-        Ran::Answered(answer, taken) => Run {
+        RunOutcome::Answered(answer, taken) => Run {
             refused: 0,
             number: 0,
             answer: answer,
             place: 0,
             cells: taken as u64,
         },
-        Ran::Refused(number, row_or_term) => Run {
+        RunOutcome::Refused(number, row_or_term) => Run {
             refused: 1,
             number: number,
             answer: 0,
@@ -139,23 +140,23 @@ pub struct RunUnchecked {
     pub value: u64,
 }
 
-fn c_unchecked(ran: RunOutcome) -> RunUnchecked
-    ensures { λ r. ⌜ r ≡ uncheckedIn (toldRun ran) ⌝ }
+fn c_unchecked(ran: UncheckedOutcome) -> RunUnchecked
+    ensures { λ r. ⌜ r ≡ uncheckedIn (toldUnchecked ran) ⌝ }
 {
     match ran {
-        RunOutcome::Answered(answer, cells) => RunUnchecked {
+        UncheckedOutcome::Answered(answer, cells) => RunUnchecked {
             outcome: 0,
             number: 0,
             answer: answer,
             value: cells as u64,
         },
-        RunOutcome::Refused(number, place) => RunUnchecked {
+        UncheckedOutcome::Refused(number, place) => RunUnchecked {
             outcome: 1,
             number: number,
             answer: 0,
             value: place as u64,
         },
-        RunOutcome::Faulted(number, term) => RunUnchecked {
+        UncheckedOutcome::Faulted(number, term) => RunUnchecked {
             outcome: 2,
             number: number,
             answer: 0,
@@ -177,7 +178,7 @@ pub extern "C" fn roomscript_run_unchecked(
     c_unchecked(machine::run_unchecked(limits, rows, readings, store))
 }
 
-// refused is 0 or 1; where it is 1, number and place say why, and the others are 0.
+// refused is 0 or 1. Where it is 1, number and place say why, and the others are 0; else number and place are 0.
 #[repr(C)]
 pub struct Call {
     pub refused: u32,
@@ -220,7 +221,7 @@ pub extern "C" fn roomscript_call(
     store: &mut [u32],
 ) -> Call
     ensures answered { λ r. ⌜ (r, (now (rows .exit), now (store .exit))) ≡ inC calledIn (callOf limits (now (script .entry)) (now (readings .entry)) (now (rows .entry)) (now (store .entry))) ⌝ }
-    ensures safe { λ r. ⌜ SafeCallInC limits (now (script .entry)) (now (readings .entry)) r (now (store .entry)) (now (store .exit)) ⌝ }
+    ensures safe { λ r. ⌜ SafeCallInC limits (now (script .entry)) (now (readings .entry)) (now (rows .entry)) r (now (store .entry)) (now (store .exit)) ⌝ }
 {
     c_called(room::call(limits, script, readings, rows, store))
 }

@@ -1,4 +1,4 @@
--- The numbers of refusals: judging rows refuses with 12 to 19 only (LANGUAGE 5.4), the ownership rules with 30 to 43 only (5.5).
+-- The numbers of refusals: reading refuses with 10 to 19 only, judging rows with 12 to 19 (LANGUAGE 5.4), the ownership rules with 30 to 43 (5.5).
 use Prim.Native.Nat.{ℕ, zero, suc, _≤_}
 use native.Mathlib.Omega.{arith}
 use mathlib.Core.Path.{_≡_}
@@ -10,8 +10,8 @@ use Rattle.reader.specs.Result.{Result, ok, err, Refusal, need, _>>=_}
 use Rattle.reader.specs.Limits.{Limits}
 use Rattle.reader.specs.Script.{Place, Term, number, reading, copy, move, borrowShared, borrowExclusive, box, declare, assign, below, block, Terms, last, more}
 use Rattle.reader.specs.Kinds.{Kind, kNumber, kReading, kCopy, kMove, kShared, kExclusive, kBox, kLet, kAssign, kBelow, kBlock, Field, word, until}
-use Rattle.reader.specs.Layout.{inRows}
-use Rattle.reader.specs.Reader.{Cursor, Reads, _>>=_ as _&_, done, expect, first, peek, skip, next, ranged, field, operands, zeroFields, restOfRow, known, kind, opening, counted, several, built, term, nothingLeft, over, script, answer, decode}
+use Rattle.reader.specs.Layout.{Form, inBytes, inRows}
+use Rattle.reader.specs.Reader.{Cursor, Reads, _>>=_ as _&_, done, expect, first, peek, skip, next, ranged, field, operands, zeroFields, restOfRow, known, kind, opening, counted, several, built, term, nothingLeft, over, script, mark, version, leading, answer, parse, decode}
 use Rattle.rules.specs.Environment.{Slot, free, used, live, Environment, Ty}
 use Rattle.rules.specs.Rules.{inScope, reached, valued, judgePlace, judgeReadable, judgeCopy, judgeMove, judgeShared, judgeExclusive, judgeBox, judgeLet, judgeAssign, judgeNumber, judgeBelow, judgeBlockEnd}
 use Rattle.rules.specs.Judge.{judge, judges, judgeScript}
@@ -28,6 +28,10 @@ module _ {a b : ℕ} where
   -- The two tests compute where the numbers are written out, so that `search` closes them.
   refused : {A : Type 0} (n i : ℕ) → T (leb a n) → T (leb n b) → Only {A = A} a b (err (n, i))
   refused n i h k = record { number-in = λ e q. let z : _≡_ {A = ℕ} n (e .0) = cc in (omega (arith, leb→le a n h), omega (arith, leb→le n b k)) }
+
+  -- What is in a range is in a wider one.
+  wider : {A : Type 0} {m : Result Refusal A} {c d : ℕ} → Only c d m → T (leb a c) → T (leb d b) → Only a b m
+  wider {c = c} {d = d} o h k = record { number-in = λ e q. let z = o .number-in e q in (omega (arith, leb→le a c h), omega (arith, leb→le d b k)) }
 
   -- A chain refuses where its first step does or where the rest does.
   pub onward : {A B : Type 0} {m : Result Refusal A} {f : A → Result Refusal B} → Only a b m → ((x : A) → Only a b (f x)) → Only a b (m >>= f)
@@ -49,71 +53,97 @@ module _ {a b : ℕ} where
 -- With these `search` goes through a definition step by step and looks at each number.
 ruleset steps = (onward, reads, tested, fine, refused)
 
--- ---- judging rows
+-- ---- reading: from bytes, and from rows
 
-first-only : (xs : List ℕ) (i : ℕ) → Only 12 19 (first xs (12, i))
+first-only : {a b : ℕ} (xs : List ℕ) (n i : ℕ) → T (leb a n) → T (leb n b) → Only a b (first xs (n, i))
 unfolding first
-first-only [] i = search steps
-first-only (x ∷ xs) i = search steps
+first-only [] n i h k = refused n i h k
+first-only (x ∷ xs) n i h k = fine x
 
 known-only : (o : Option Kind) (i : ℕ) → Only 12 19 (known o (13, i))
 unfolding known
 known-only none i = search steps
 known-only (some k) i = search steps
 
-ruleset of-rows = (steps, first-only, known-only)
+ruleset of-reading = (steps, first-only, known-only)
 
 -- The steps of the reader that ask for no law of their own are unfolded where they stand.
-operands-only : (fs : List Field) (s : Cursor) → Only 12 19 (operands inRows fs s)
-unfolding operands field next ranged peek expect skip done
-operands-only [] = search of-rows
-operands-only (word ∷ fs) = search (of-rows, operands-only fs)
-operands-only (until x y ∷ fs) = search (of-rows, operands-only fs) depth 8
+field-only : (w : Form) (f : Field) (s : Cursor) → Only 12 19 (field w f s)
+unfolding field next ranged peek expect skip done
+field-only inBytes word = search of-reading depth 8
+field-only inRows word = search of-reading
+field-only inBytes (until x y) = search of-reading
+field-only inRows (until x y) = search of-reading
+
+operands-only : (w : Form) (fs : List Field) (s : Cursor) → Only 12 19 (operands w fs s)
+unfolding operands done
+operands-only w [] = search of-reading
+operands-only w (f ∷ fs) = search (of-reading, field-only, operands-only w fs)
 
 zero-fields : (n : ℕ) (s : Cursor) → Only 12 19 (zeroFields n s)
 unfolding zeroFields ranged peek expect skip done
-zero-fields zero = search of-rows
-zero-fields (suc n) = search (of-rows, zero-fields n) depth 8
+zero-fields zero = search of-reading
+zero-fields (suc n) = search (of-reading, zero-fields n) depth 8
+
+rest-only : (w : Form) (n : ℕ) (s : Cursor) → Only 12 19 (restOfRow w n s)
+unfolding restOfRow done
+rest-only inBytes n = search of-reading
+rest-only inRows n = zero-fields _
 
 module _ (t : Reads Term) (h : (s : Cursor) → Only 12 19 (t s)) where
   several-only : (n : ℕ) (s : Cursor) → Only 12 19 (several t n s)
   unfolding several done
-  several-only zero = search of-rows
-  several-only (suc n) = search (of-rows, several-only n)
+  several-only zero = search of-reading
+  several-only (suc n) = search (of-reading, several-only n)
 
 module _ (inner : Bool → Reads Term) (h : (o : Bool) (s : Cursor) → Only 12 19 (inner o s)) where
   built-only : (k : Kind) (i : ℕ) (vs : List ℕ) (s : Cursor) → Only 12 19 (built k i vs inner s)
   unfolding built done
-  built-only kNumber i vs = search of-rows
-  built-only kReading i vs = search of-rows
-  built-only kCopy i vs = search of-rows
-  built-only kMove i vs = search of-rows
-  built-only kShared i vs = search of-rows
-  built-only kExclusive i vs = search of-rows
-  built-only kBox i vs = search of-rows
-  built-only kLet i vs = search of-rows
-  built-only kAssign i vs = search of-rows
-  built-only kBelow i vs = search of-rows
-  built-only kBlock i vs = search (of-rows, several-only)
+  built-only kNumber i vs = search of-reading
+  built-only kReading i vs = search of-reading
+  built-only kCopy i vs = search of-reading
+  built-only kMove i vs = search of-reading
+  built-only kShared i vs = search of-reading
+  built-only kExclusive i vs = search of-reading
+  built-only kBox i vs = search of-reading
+  built-only kLet i vs = search of-reading
+  built-only kAssign i vs = search of-reading
+  built-only kBelow i vs = search of-reading
+  built-only kBlock i vs = search (of-reading, several-only)
 
-opening-only : (l : Limits) (v : ℕ) (outer : Bool) (s : Cursor) → Only 12 19 (opening l v inRows outer s)
+opening-only : (l : Limits) (v : ℕ) (w : Form) (outer : Bool) (s : Cursor) → Only 12 19 (opening l v w outer s)
 unfolding opening kind peek expect done
-opening-only l v outer = search of-rows depth 8
+opening-only l v w outer = search of-reading depth 8
 
 -- By the levels: the terms inside have one fewer.
-term-only : (l : Limits) (v d : ℕ) (outer : Bool) (s : Cursor) → Only 12 19 (term l v inRows d outer s)
-unfolding term expect counted skip restOfRow
-term-only l v zero outer = search (of-rows, opening-only)
-term-only l v (suc d) outer = search (of-rows, opening-only, operands-only, zero-fields, built-only, term-only l v d) depth 8
+term-only : (l : Limits) (v : ℕ) (w : Form) (d : ℕ) (outer : Bool) (s : Cursor) → Only 12 19 (term l v w d outer s)
+unfolding term expect counted skip
+term-only l v w zero outer = search (of-reading, opening-only)
+term-only l v w (suc d) outer = search (of-reading, opening-only, operands-only, rest-only, built-only, term-only l v w d) depth 8
 
-nothing-left : (k : ℕ) (xs : List ℕ) → Only 12 19 (nothingLeft inRows k xs)
+nothing-left : (w : Form) (k : ℕ) (xs : List ℕ) → Only 12 19 (nothingLeft w k xs)
 unfolding nothingLeft
-nothing-left k [] = search steps
-nothing-left k (x ∷ xs) = onward (search steps) (λ u. nothing-left (suc k) xs)
+nothing-left inBytes k [] = search steps
+nothing-left inBytes k (x ∷ xs) = search steps
+nothing-left inRows k [] = search steps
+nothing-left inRows k (x ∷ xs) = onward (search steps) (λ u. nothing-left inRows (suc k) xs)
+
+tree-only : (l : Limits) (w : Form) (s : Cursor) → Only 12 19 (script l 1 w s)
+unfolding script over done
+tree-only l w = search (steps, nothing-left, term-only)
 
 decode-only : (l : Limits) (rows : List ℕ) → Only 12 19 (decode l rows)
-unfolding decode answer script over done
-decode-only l rows = search (steps, nothing-left, term-only)
+unfolding decode answer
+decode-only l rows = search (steps, tree-only)
+
+-- Bytes have the mark (10) and the version (11) before the term.
+parse-only : (l : Limits) (bs : List ℕ) → Only 10 19 (parse l bs)
+unfolding parse answer leading mark version next peek expect skip done
+parse-only l bs = onward (reads (search (steps, first-only) depth 8) (λ u s. wider (tree-only l inBytes s) tt tt) _) (search steps)
+
+-- The numbers that reading can answer (LANGUAGE 5.4): 10 to 19.
+pub read-numbers : (l : Limits) (bs : List ℕ) (e : Refusal) → parse l bs ≡ err e → (10 ≤ e .0) × (e .0 ≤ 19)
+read-numbers l bs = parse-only l bs .number-in
 
 -- The numbers that judging rows can answer (LANGUAGE 5.4): 12 to 19.
 pub form-numbers : (l : Limits) (rows : List ℕ) (e : Refusal) → decode l rows ≡ err e → (12 ≤ e .0) × (e .0 ≤ 19)

@@ -27,8 +27,8 @@ enum-known-read-2 c = search needs
 check-judged-requires : tie.Need-check-judged-requires
 check-judged-requires c κs = read-judged _ _ (under-bytes (c .before .before .before .before .before .before .before .before .before .before .before .before .before .args .script .now) (c .before .before .before .before .before .before .before .before .before .before .before .before .shared-slice-known .given)) _ _ _ _ (c .before .before .before .before .before .before .read .ensures) (c .before .before .read3 .given .1)
 
-run-accepted-requires : tie.Need-run-accepted-requires
-run-accepted-requires c κs =
+run-checked-requires : tie.Need-run-checked-requires
+run-checked-requires c κs =
     let fit = fit-run _ (c .before .before .before .before .before .before .before .before .before .before .before .before .before .before .before .before .args .script .now) (c .before .before .before .before .before .before .before .before .before .before .before .before .before .before .before .before .args .readings .now) (c .before .before .before .before .before .before .before .before .before .before .before .before .before .before .before .before .args .rows .now) (c .before .before .before .before .before .before .before .before .before .before .before .before .before .before .before .before .args .store .now) _ (c .before .before .before .before .before .before .before .before .before .before .before .before .fit-number .ensures) (c .before .before .before .before .before .before .before .before .before .before .before .if1 .left) in
     (c .before .before .check-judged .ensures, fit .eight, fit .size)
 
@@ -51,7 +51,7 @@ same-length-3 c = search needs
 
 returns-3 : tie.Need-returns-3
 returns-3 c =
-    let e = call-read _ _ (c .before .before .before .before .before .before .before .before .before .before .before .before .before .before .before .before .before .before .before .before .args .readings .now) _ _ _ (c .before .before .before .before .before .before .before .before .before .before .before .before .before .before .before .before .fit-number .ensures) (c .before .before .before .before .before .before .before .before .before .before .before .before .before .before .before .if1 .left) _ _ (c .before .before .before .before .before .before .before .before .before .before .before .before .before .read .ensures) _ (c .before .before .before .before .before .before .before .before .before .read3 .given .1) _ _ (c .before .before .before .run-accepted .ensures) _ (c .with-terms .ensures) in
+    let e = call-read _ _ (c .before .before .before .before .before .before .before .before .before .before .before .before .before .before .before .before .before .before .before .before .args .readings .now) _ _ _ (c .before .before .before .before .before .before .before .before .before .before .before .before .before .before .before .before .fit-number .ensures) (c .before .before .before .before .before .before .before .before .before .before .before .before .before .before .before .if1 .left) _ _ (c .before .before .before .before .before .before .before .before .before .before .before .before .before .read .ensures) _ (c .before .before .before .before .before .before .before .before .before .read3 .given .1) _ _ (c .before .before .before .run-checked .ensures) _ (c .with-terms .ensures) in
     (e, safe-call _ _ _ _ _ (under-bytes (c .before .before .before .before .before .before .before .before .before .before .before .before .before .before .before .before .before .before .before .before .args .script .now) (c .before .before .before .before .before .before .before .before .before .before .before .before .before .before .before .before .before .before .before .shared-slice-known .given)) _ _ _ e)
 
 pub call-spec : {M : Type 1} → statement M
@@ -64,7 +64,7 @@ call-spec =
     enum-known-read
     enum-known-read-2
     check-judged-requires
-    run-accepted-requires
+    run-checked-requires
     with-terms-requires
     same-length
     returns-2

@@ -18,8 +18,8 @@ returns c =
 check-requires : tie.Need-check-requires
 check-requires c κs = search needs
 
-run-accepted-requires : tie.Need-run-accepted-requires
-run-accepted-requires c κs =
+run-checked-requires : tie.Need-run-checked-requires
+run-checked-requires c κs =
     let fit = all-fit _ (c .before .before .before .before .before .before .args .rows .now) (c .before .before .before .before .before .before .args .readings .now) (c .before .before .before .before .before .before .args .store .now) _ (c .before .before .before .fit-number .ensures) (c .before .before .if1 .left) in
     (c .before .check .ensures, fit .eight, fit .size)
 
@@ -27,7 +27,7 @@ same-length : tie.Need-same-length
 same-length c = search needs
 
 returns-2 : tie.Need-returns-2
-returns-2 c = (c .before .before .run-accepted .ensures, safe-run _ _ _ _ (under-words (c .before .before .before .before .before .before .before .before .before .args .rows .now) (c .before .before .before .before .before .before .before .before .shared-slice-known .given)) _ _ (c .before .before .run-accepted .ensures))
+returns-2 c = (c .before .before .run-checked .ensures, safe-run _ _ _ _ (under-words (c .before .before .before .before .before .before .before .before .before .args .rows .now) (c .before .before .before .before .before .before .before .before .shared-slice-known .given)) _ _ (c .before .before .run-checked .ensures))
 
 pub run-spec : {M : Type 1} → statement M
-run-spec = tie.close (tie.spec fit-number-requires returns check-requires run-accepted-requires same-length returns-2)
+run-spec = tie.close (tie.spec fit-number-requires returns check-requires run-checked-requires same-length returns-2)

@@ -3,7 +3,7 @@ use mathlib.Core.Path.{refl}
 use mir.Facts.{toZ-ofZ}
 use mir.Syntax.{w32}
 use mir.Val.{SFits}
-use Rattle.room.specs.Running.{toldRan}
+use Rattle.room.specs.Running.{toldRun}
 use Rattle.roomscript.specs.Answers.{ranIn}
 use borrow.Author.Needs.{needs}
 use Rattle.roomscript.proofs.c_ran.Statement.{statement}
@@ -16,13 +16,13 @@ enum-known-ran-2 : tie.Need-enum-known-ran-2
 enum-known-ran-2 c = search needs
 
 returns : tie.Need-returns
-unfolding ranIn toldRan
+unfolding ranIn toldRun
 returns c =
     let h : SFits w32 (c .before .ran .given .0 .0) = search needs in
     rw (c .before .ran .given .1, toZ-ofZ h) refl
 
 returns-2 : tie.Need-returns-2
-unfolding ranIn toldRan
+unfolding ranIn toldRun
 returns-2 c = rw (c .before .ran2 .given .1) refl
 
 pub c-ran-spec : {M : Type 1} → statement M

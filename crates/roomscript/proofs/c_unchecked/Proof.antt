@@ -3,7 +3,7 @@ use mathlib.Core.Path.{refl}
 use mir.Facts.{toZ-ofZ}
 use mir.Syntax.{w32}
 use mir.Val.{SFits}
-use Rattle.machine.specs.Answers.{toldRun}
+use Rattle.machine.specs.Answers.{toldUnchecked}
 use Rattle.roomscript.specs.Answers.{uncheckedIn}
 use borrow.Author.Needs.{needs}
 use Rattle.roomscript.proofs.c_unchecked.Statement.{statement}
@@ -19,17 +19,17 @@ enum-known-ran-3 : tie.Need-enum-known-ran-3
 enum-known-ran-3 c = search needs
 
 returns : tie.Need-returns
-unfolding uncheckedIn toldRun
+unfolding uncheckedIn toldUnchecked
 returns c =
     let h : SFits w32 (c .before .ran .given .0 .0) = search needs in
     rw (c .before .ran .given .1, toZ-ofZ h) refl
 
 returns-2 : tie.Need-returns-2
-unfolding uncheckedIn toldRun
+unfolding uncheckedIn toldUnchecked
 returns-2 c = rw (c .before .ran2 .given .1) refl
 
 returns-3 : tie.Need-returns-3
-unfolding uncheckedIn toldRun
+unfolding uncheckedIn toldUnchecked
 returns-3 c = rw (c .before .ran3 .given .1) refl
 
 pub c-unchecked-spec : {M : Type 1} → statement M

@@ -1,11 +1,11 @@
--- `room::run_accepted` meets its contract. Assumes nothing.
+-- `room::run_checked` meets its contract. Assumes nothing.
 use mir.Facts.{toZ-ofZ}
 use mir.Syntax.{w32}
 use mir.Val.{SFits}
 use Rattle.room.proofs.RunLaws.{run-unaccepted, run-ready, run-answered, run-refused, run-faulted}
 use borrow.Author.Needs.{needs}
-use Rattle.room.proofs.run_accepted.Statement.{statement}
-use Rattle.room.proofs.run_accepted.Tie as tie
+use Rattle.room.proofs.run_checked.Statement.{statement}
+use Rattle.room.proofs.run_checked.Tie as tie
 
 enum-known-checked : tie.Need-enum-known-checked
 enum-known-checked c = search needs
@@ -48,8 +48,8 @@ same-length-3 c = search needs
 returns-4 : tie.Need-returns-4
 returns-4 c = run-faulted _ _ _ _ (c .before .before .before .before .before .before .before .before .before .before .before .before .pre .1) (c .before .before .before .before .before .before .before .before .before .before .before .before .pre .2) _ (c .before .before .before .before .before .before .before .before .before .before .before .before .pre .0) _ (c .before .before .before .before .before .before .before .before .checked2 .given .1) _ _ (c .before .before .before .before .before .run-judged .ensures) _ _ (c .before .ran3 .given .1)
 
-pub run-accepted-spec : {M : Type 1} → statement M
-run-accepted-spec =
+pub run-checked-spec : {M : Type 1} → statement M
+run-checked-spec =
     tie.close
     (tie.spec
     enum-known-checked
