@@ -42,8 +42,8 @@ pub enum Called {
     Refused(u32, usize),
 }
 
-// The run of rows that were checked, where the check accepts them. It does not judge the rows again, and comes to
-// neither a refusal nor a fault.
+// The check's refusal, or the run of what it accepts. The rows are not judged again, and the run comes to neither a
+// refusal nor a fault.
 fn run_checked(
     set: Limits,
     checked: Checked,
