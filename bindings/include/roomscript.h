@@ -217,7 +217,7 @@ typedef struct roomscript_ran {
  * held.
  *
  * Only rows that roomscript_check accepts run. They meet no fault, take a cell
- * for every box term and give each back: afterwards store is all 0 but the
+ * for every box term that runs and give each back: afterwards store is all 0 but the
  * cells taken, which are 2, 0, 0 (LANGUAGE 7.4).
  *
  * Every refusal leaves store unchanged. By the caller, at place 0, in this
@@ -254,8 +254,9 @@ typedef struct roomscript_ran_unchecked {
  *
  * It is for lessons and tests that show what goes wrong where a script runs
  * that roomscript_check refuses: the fault that it meets, and the store that
- * the fault leaves. It is no faster way to run scripts that come from
- * elsewhere. Everything else uses roomscript_run.
+ * the fault leaves. It takes less time, since it checks nothing, and it may
+ * meet a fault, so it is not for scripts that come from elsewhere. For every
+ * other use there is roomscript_run.
  *
  * The store is that of roomscript_run, and is first set to 0 here too. Where
  * roomscript_check accepts the rows, answer, cells and store are those of

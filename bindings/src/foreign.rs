@@ -32,7 +32,7 @@ pub(crate) struct RunAnswer {
 /// Where `outcome` is 0, `value` is the cells taken and `number` 0; where it
 /// is 1, `number` is the refusal's number and `value` its place; where it is
 /// 2, `number` is the fault's number and `value` its term. Where `outcome` is
-/// not 0, `answer` is.
+/// not 0, `answer` is 0.
 #[repr(C)]
 #[derive(Debug, PartialEq, Eq)]
 pub(crate) struct UncheckedAnswer {

@@ -9,9 +9,10 @@
 //!
 //! [`run`] checks rows and runs them on a store, and [`call`] reads a script
 //! and runs it so. They are the ways to run scripts: neither runs what the
-//! check refuses, and so neither meets a fault. [`check`] judges rows by the
-//! ownership rules alone. [`run_unchecked`] runs rows whatever the check says
-//! of them, for lessons and tests that show which faults come of that.
+//! check refuses, and so neither meets a fault. [`check`] judges rows as
+//! [`run`] does, and runs nothing. [`run_unchecked`] runs rows whatever the
+//! check says of them, for lessons and tests that show which faults come of
+//! that.
 //!
 //! Each of them takes a set of limits first, and the lengths of rows and store
 //! follow from it: [`Limits`]. [`Limits::BASE`] is the language's own set.

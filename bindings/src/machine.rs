@@ -53,12 +53,31 @@ impl Error for Stop {}
 ///
 /// It is for lessons and tests that show what goes wrong where a script runs
 /// that [`check`](crate::check) refuses: the fault that it meets, and the store
-/// that the fault leaves. It is no faster way to run scripts that come from
-/// elsewhere. Everything else uses [`run`](crate::run).
+/// that the fault leaves. It takes less time, since it checks nothing, and it
+/// may meet a fault, so it is not for scripts that come from elsewhere. For
+/// every other use there is [`run`](crate::run).
 ///
 /// The store is that of [`run`](crate::run), and is first set to 0 here too.
 /// Where the check accepts the rows, answer, cells and store are those of
 /// [`run`](crate::run).
+///
+/// E3 and E8 (LANGUAGE 8.4), the same rows with the check and without:
+///
+/// ```
+/// use roomscript::{read, run, run_unchecked, Fault, Limits, Refusal, Stop};
+///
+/// // let v0=box 7; let v1=move v0; copy *v0
+/// let script = b"RCS\x00\x01\x0B\x03\x08\x00\x07\x01\x00\x00\x00\x07\x08\x01\x04\x00\x00\x03\x00\x01";
+/// let mut rows = [0; Limits::BASE.row_numbers()];
+/// let mut store = [0; Limits::BASE.store_numbers()];
+/// read(Limits::BASE, script, &mut rows)?;
+///
+/// let checked = run(Limits::BASE, &rows, &[0; 8], &mut store);
+/// assert_eq!(checked, Err(Refusal { number: 33, place: 6 }));
+/// let unchecked = run_unchecked(Limits::BASE, &rows, &[0; 8], &mut store);
+/// assert_eq!(unchecked, Err(Stop::Fault(Fault { number: 60, term: 6 })));
+/// # Ok::<(), Refusal>(())
+/// ```
 ///
 /// # Stops
 ///

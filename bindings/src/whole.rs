@@ -14,7 +14,7 @@ use crate::{Limits, Ran, Refusal};
 /// whatever it held.
 ///
 /// Only rows that [`check`](crate::check) accepts run. They meet no fault, take
-/// a cell for every box term and give each back: afterwards `store` is all 0
+/// a cell for every box term that runs and give each back: afterwards `store` is all 0
 /// but the cells taken, which are 2, 0, 0 (LANGUAGE 7.4).
 ///
 /// # Refusals

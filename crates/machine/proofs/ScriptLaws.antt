@@ -149,7 +149,7 @@ module _ (set : Limits) where
         unfolding scriptRan scriptOn uncheckedOf runInto
         script-is = rw (runs .is) (sym (ap (runInto set readings w) (runs-decoded ∙ script .1)))
 
-  -- The reader's word for the rows, and the lengths, are all that the run asks.
+  -- That the rows were judged, and the lengths, are all that the run asks.
   module _ (rows : List ℕ) (readings : List ℤ) (w : List ℕ) (g : RunReady set rows readings w) where
     decoded : (t : Term) × Decoded set rows t
     unfolding judgedOf

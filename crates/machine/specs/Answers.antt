@@ -56,7 +56,8 @@ unfoldable pub ranInto : Limits → Ran (State × ℕ) → AnswerAndStore
 ranInto l (ok e) = (answered (toZ w32 (e .1)) (e .0 .taken), encode (l .variables) (storeRows l) (e .0 .store))
 ranInto l (err f) = (faulted (f .number) (f .term), encode (l .variables) (storeRows l) (f .state .store))
 
--- A refusal leaves the store as it was (LANGUAGE 6.7). A run first clears it (4.4), so that what it held does not count: any may be named.
+-- A refusal leaves the store as it was (LANGUAGE 6.7). A run first clears it (4.4), so its result is the same for
+-- every earlier store; here all its rows are closed.
 unfoldable pub runInto : Limits → List ℤ → List ℕ → Result Refusal Term → AnswerAndStore
 runInto l readings store (ok t) = ranInto l (runScript (bitsOf readings) t (λ x. closed))
 runInto l readings store (err e) = (refused (e .0) (e .1), store)

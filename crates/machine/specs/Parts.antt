@@ -376,7 +376,7 @@ fitNumber l rows store readings =
     (pick (eqb rows (rowNumbers l)) (pick (eqb store (storeNumbers l)) (pick (eqb readings 8) 0 4) 3) 2)
     74
 
--- What the run of judged rows asks: the reader's word for the rows, and the lengths of the rest.
+-- What the run of judged rows asks: that the rows were judged, and the lengths of the rest.
 pub record RunReady (set : Limits) (rows : List ℕ) (readings : List ℤ) (w : List ℕ) : Type 0 where
   pub terms : ℕ
   pub judged : judgedOf set rows ≡ ok terms

@@ -35,7 +35,7 @@ pub enum UncheckedOutcome {
 }
 
 // The run (LANGUAGE 4.4) and its answer (4.20), of rows that the reader accepts under the set (2.8), with memory of the
-// right lengths. `opened` has room for a variable of each term. The set goes down as one number, in a register.
+// right lengths. `opened` has room for a variable of each term. The set goes down as one number (DECISIONS C32).
 fn run_script(
     set: Limits,
     rows: &[u32],
@@ -60,8 +60,8 @@ fn run_script(
     UncheckedOutcome::Answered(number_of(ran.payload), ran.taken)
 }
 
-// The same, for callers that have the reader's word for the rows. A set of few terms has a short list of the variables
-// opened, so that its runs do not clear a long one.
+// The same, for rows that were judged already. A set of few terms has a short list of the variables opened, so that its
+// runs do not clear a long one.
 pub fn run_judged(
     set: Limits,
     rows: &[u32],

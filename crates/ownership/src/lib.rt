@@ -22,8 +22,8 @@ pub enum Checked {
     Refused(u32, usize),
 }
 
-// Check (LANGUAGE 6.5), without 74, 2 and 12 to 19: of rows that the reader accepts within the set as so many terms,
-// for callers that have the reader's word for it.
+// Check (LANGUAGE 6.5), without 74, 2 and 12 to 19: of rows that were judged already, within the set and as so many
+// terms.
 pub fn check_judged(set: Limits, rows: &[u32], terms: usize) -> Checked
     requires { ⌜ judgedOf set (now rows) ≡ ok terms ⌝ }
     ensures { λ r. ⌜ toldChecked r ≡ checkOf set (now (rows .entry)) ⌝ }

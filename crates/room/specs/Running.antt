@@ -41,12 +41,13 @@ checkedFirst l rows readings store =
 abbrev pub RunMade : Type 0
 RunMade = RunAnswer × List ℕ
 
--- The store is as the run left it (LANGUAGE 6.6). An accepted script does not come to a fault (7.4), so the second clause is never asked.
+-- The store is as the run left it (LANGUAGE 6.6). An accepted script does not come to a fault (7.4), so the second clause never occurs.
 unfoldable pub endedInto : Limits → Ran (State × ℕ) → RunMade
 endedInto l (ok e) = (answered (toZ w32 (e .1)) (e .0 .taken), encode (l .variables) (storeRows l) (e .0 .store))
 endedInto l (err f) = (refused (f .number) (f .term), encode (l .variables) (storeRows l) (f .state .store))
 
--- A refusal leaves the store as it was (LANGUAGE 6.6). A run first clears it (4.4), so that what it held does not count: any may be named.
+-- A refusal leaves the store as it was (LANGUAGE 6.6). A run first clears it (4.4), so its result is the same for
+-- every earlier store; here all its rows are closed.
 unfoldable pub checkedInto : Limits → List ℤ → List ℕ → Result Refusal Term → RunMade
 checkedInto l readings store (ok t) = endedInto l (runScript (bitsOf readings) t (λ x. closed))
 checkedInto l readings store (err e) = (refused (e .0) (e .1), store)

@@ -1,5 +1,5 @@
 // Runs scripts that the check accepts, from term rows or from bytes, and puts the program's line of a call into a
-// buffer. What the check accepts runs without a fault, so no answer is one.
+// buffer. What the check accepts runs without a fault, so the answers have no case for one.
 mod line; // line.rt: the line of an answer
 
 ghost use mathlib.Core.Path.{_≡_};

@@ -30,11 +30,11 @@ unfoldable pub calledIn : call.CallAnswer → Call
 calledIn (call.called t a c) = record { refused = 0; number = 0; answer = a; place = 0; terms = t; cells = c }
 calledIn (call.refused n p) = record { refused = 1; number = n; answer = pos 0; place = p; terms = 0; cells = 0 }
 
--- The answer so, with the lent memory afterwards as it is.
+-- The answer in C's form, beside the lent memory afterwards.
 abbrev pub inC : {A B M : Type 0} → (A → B) → A × M → B × M
 inC form r = (form (r .0), r .1)
 
--- The answer is that of a safe run, or of a safe call (LANGUAGE 7.4).
+-- What `SafeRun` and `SafeCall` say (LANGUAGE 7.4), of the answer that C's fields stand for.
 abbrev pub SafeRunInC : Limits → List ℕ → List ℤ → Run → List ℕ → List ℕ → Type 0
 SafeRunInC l rows readings r before after = (m : run.RunAnswer) × (r ≡ ranIn m) × run.SafeRun l rows readings m before after
 
