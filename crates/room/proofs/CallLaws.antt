@@ -8,7 +8,7 @@ use lib.IntN.{ℤ}
 use lib.ListN.{length}
 use lib.Dec.{leb, ltb, eqb}
 use borrow.Author.Tests.{ltb-true, ltb-false, le-leb, lt-leb}
-use Rattle.reader.specs.Result.{Result, ok, err, need, pick, Refusal, _>>=_}
+use Rattle.reader.specs.Result.{ok, err, need, pick, _>>=_}
 use Rattle.reader.specs.Limits.{Limits, inRanges, maxBytes, rowNumbers}
 use Rattle.reader.specs.Answers.{told, Answered, lengthsFit, readOf}
 use Rattle.reader.specs.declared.Outcome.{Outcome}
@@ -16,8 +16,8 @@ use Rattle.reader.specs.declared.Outcome.the-variants as read
 use Rattle.machine.specs.Answers.{runFits}
 use Rattle.machine.specs.Parts as machine
 use Rattle.machine.proofs.FitLaws.{Fit, unfit, all-fit}
-use Rattle.room.specs.Running.{RunMade, toldRun, runOf}
-use Rattle.room.specs.Calling.{CallAnswer, CallMade, refused, toldCall, callFits, withTerms, runCalled, readCalled, fitCalled, callOf}
+use Rattle.room.specs.Running.{toldRun, runOf}
+use Rattle.room.specs.Calling.{CallAnswer, toldCall, callFits, withTerms, runCalled, readCalled, fitCalled, callOf}
 use Rattle.room.specs.Parts.{fitNumber}
 use Rattle.room.specs.declared.RunOutcome.{RunOutcome}
 use Rattle.room.specs.declared.Called.{Called}

@@ -6,10 +6,10 @@ use mathlib.Core.Bool.{true}
 use mathlib.Core.List.{List, _++_}
 use lib.IntN.{ℤ}
 use lib.ListN.{length}
-use lib.Dec.{leb, eqb}
+use lib.Dec.{leb}
 use mir.Syntax.{w32}
 use mir.Val.{toZ}
-use borrow.Author.Tests.{leb-true, le-leb, eqb-true, eq-eqb}
+use borrow.Author.Tests.{leb-true, le-leb, eq-eqb}
 use Rattle.reader.specs.Result.{Result, ok, err, need, Refusal, _>>=_}
 use Rattle.reader.specs.Limits.{Limits, inRanges, maxBytes, rowNumbers, storeNumbers}
 use Rattle.reader.specs.Larger.{NoSmaller}

@@ -1,6 +1,6 @@
 -- What check and run answer on the rows of a script.
 use Prim.Native.Nat.{ℕ}
-use mathlib.Core.Path.{_≡_, refl, sym, ap, _∙_}
+use mathlib.Core.Path.{_≡_, ap, _∙_}
 use mathlib.Core.Bool.{true}
 use mathlib.Core.List.{List}
 use lib.IntN.{ℤ}
@@ -19,7 +19,6 @@ use Rattle.reader.proofs.RoundTrip.{decodes, rows-length}
 use Rattle.rules.specs.Judge.{judgeScript}
 use Rattle.ownership.specs.Answers.{checkOf}
 use Rattle.machine.specs.Values.{closed}
-use Rattle.machine.specs.Run.{runScript}
 use Rattle.machine.specs.Answers as unchecked
 use Rattle.machine.specs.Answers.{runFits, runnable, bitsOf, ranInto, runInto, uncheckedOf}
 use Rattle.safety.specs.Safety.{Safe, tidyStore}
