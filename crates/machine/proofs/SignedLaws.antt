@@ -9,7 +9,7 @@ use lib.Signed.{mag, ltZ, nonNeg}
 use mir.Syntax.{w32, w64}
 use mir.Val.{Fits, SFits, toZ, ofZ}
 use mir.Facts.{sfits-widen, toZ-ofZ}
-use borrow.Author.Tests.{lt-ltb, le-ltb, ltb-true}
+use borrow.Author.Tests.{lt-ltb, le-ltb, ltb-true, ltb-false}
 
 -- ---- widened
 
@@ -80,3 +80,20 @@ down-small b h k = rw (down-is b h) (record { sfits = omega arith })
 
 pub down-number : (b : ℕ) → b < 4294967296 → 2147483648 ≤ b → pos b -ℤ pos 4294967296 ≡ toZ w32 b
 down-number b h k = rw (down-is b h, high b k)
+
+-- ---- the sum
+
+pub sum-fits : (a b : ℤ) → SFits w32 a → SFits w32 b → SFits w64 (a +ℤ b)
+sum-fits (pos a) (pos b) h k = record { sfits = omega (arith, h .sfits, k .sfits) }
+sum-fits (pos a) (negsuc b) h k = record { sfits = sub-mag a b (2 ^ 63) (omega (arith, h .sfits)) (omega (arith, k .sfits)) }
+sum-fits (negsuc a) (pos b) h k = record { sfits = sub-mag b a (2 ^ 63) (omega (arith, k .sfits)) (omega (arith, h .sfits)) }
+sum-fits (negsuc a) (negsuc b) h k = record { sfits = omega (arith, h .sfits, k .sfits) }
+
+-- Made in 64 bits from two numbers of 32, and read back.
+pub sum-is : {a b : ℤ} → SFits w32 a → SFits w32 b → toZ w64 (ofZ w64 (toZ w64 (ofZ w64 (toZ w32 (ofZ w32 a))) +ℤ toZ w64 (ofZ w64 (toZ w32 (ofZ w32 b))))) ≡ a +ℤ b
+sum-is h k = simp (toZ-ofZ h, toZ-ofZ k, toZ-ofZ (fits64 h), toZ-ofZ (fits64 k), toZ-ofZ (sum-fits _ _ h k))
+
+-- Between the ends of the range it is a number of 32 bits.
+pub within : (z : ℤ) → ltZ (pos 2147483647) z ≡ false → ltZ z (negsuc 2147483647) ≡ false → SFits w32 z
+within (pos n) a b = record { sfits = omega (arith, ltb-false 2147483647 n a) }
+within (negsuc n) a b = record { sfits = omega (arith, ltb-false 2147483647 n b) }

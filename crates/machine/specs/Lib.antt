@@ -4,6 +4,7 @@ pub mod Store
 pub mod Encode
 pub mod Locate
 pub mod Drop
+pub mod Signed
 pub mod Run
 pub mod Boxes
 pub mod Faults

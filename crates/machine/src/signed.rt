@@ -1,8 +1,15 @@
-// Signed numbers and their 32 bits (LANGUAGE 4.3): signed only at the edge, bits everywhere inside.
+// Signed numbers and their 32 bits (LANGUAGE 4.3): signed only at the edge and in a sum, bits everywhere else.
 ghost use mathlib.Core.Path.{_≡_};
 ghost use Prim.Native.Nat.{_+_, _%_};
+ghost use lib.IntN.{_+ℤ_};
 ghost use mir.Syntax.{w32};
 ghost use mir.Val.{ofZ, toZ};
+ghost use Rattle.machine.specs.Signed.{held, heldSum};
+
+// The least number of 32 bits.
+const LEAST: i32 = -2147483648;
+// The greatest.
+const MOST: i32 = 2147483647;
 
 // The 32 bits of x: a reading (LANGUAGE 4.9) as the store holds it.
 pub fn bits_of(x: i32) -> u32
@@ -37,4 +44,25 @@ pub fn raised(b: u32) -> u32
     } else {
         b - 2147483648
     }
+}
+
+// The sum held to the range (LANGUAGE 4.16): 64 bits hold the sum of any two.
+pub fn held_sum(a: i32, b: i32) -> i32
+    ensures { λ r. ⌜ r ≡ held (a +ℤ b) ⌝ }
+{
+    let sum = a as i64 + b as i64;
+    if sum > MOST as i64 {
+        return MOST;
+    }
+    if sum < LEAST as i64 {
+        return LEAST;
+    }
+    sum as i32
+}
+
+// Likewise of the numbers that the bits stand for, as bits.
+pub fn sum_bits(a: u32, b: u32) -> u32
+    ensures { λ r. ⌜ r ≡ heldSum a b ⌝ }
+{
+    bits_of(held_sum(number_of(a), number_of(b)))
 }
