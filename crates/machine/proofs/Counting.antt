@@ -11,7 +11,7 @@ use Rattle.machine.specs.Values.{Location, Value, empty, openWith}
 use Rattle.machine.specs.Store.{put, isOpen, valueIn, State, withStore, Ran}
 use Rattle.machine.specs.Locate.{locate, filled}
 use Rattle.machine.specs.Drop.{dropValue, closeAll}
-use Rattle.machine.specs.Run.{Outcome, runCopy, runMove, runBorrow, runNumber, runBelow, runLet, runAssign, runBox, runBlockEnd, entered, run, runs}
+use Rattle.machine.specs.Run.{Outcome, runCopy, runMove, runBorrow, runNumber, runPair, runLet, runAssign, runBox, runBlockEnd, entered, run, runs}
 use Rattle.machine.specs.Boxes.{afterwards, boxesRun, boxesRunAll}
 use Rattle.machine.proofs.Results.{then}
 use Rattle.machine.proofs.Kept.{keeps-ok, Lasting, drop-keeps, close-keeps}
@@ -67,7 +67,7 @@ module _ (readings : ℕ → ℕ) where
       omega arith
 
   mutual
-    unfolding run boxesRun All runCopy runMove runBorrow runBelow runBox runLet runBlockEnd
+    unfolding run boxesRun All runCopy runMove runBorrow runPair runBox runLet runBlockEnd
 
     pub taken-is : (t : Term) (s s′ : State) (v : Value) → run readings t s ≡ ok (s′, v) → s′ .taken ≡ s .taken + boxesRun readings t s
     taken-is (number i n) s s′ v h = let z = out-taken h in omega arith

@@ -1,21 +1,21 @@
 -- The terms without an inner term, on the lent numbers.
-use Prim.Native.Nat.{ℕ, _+_, _%_, _≤_, _<_}
+use Prim.Native.Nat.{ℕ}
 use native.Mathlib.Omega.{arith}
 use mathlib.Core.Path.{_≡_, refl, sym, ap, subst, _∙_}
 use mathlib.Core.Bool.{Bool, true, false}
 use mathlib.Core.List.{List}
 use lib.Dec.{eqb}
-use borrow.Author.Tests.{eq-eqb, ne-eqb, lt-ltb, le-ltb}
+use borrow.Author.Tests.{eq-eqb, ne-eqb}
 use Rattle.reader.specs.Limits.{Limits}
 use Rattle.reader.specs.Result.{ok, err, pick, _>>=_}
 use Rattle.reader.specs.Script.{Place}
 use Rattle.machine.specs.Values.{Location, Value, empty, num, owner, reference, openWith}
 use Rattle.machine.specs.Store.{Store, put, State, Ran, fault}
 use Rattle.machine.specs.Locate.{locate, filled, numberIn}
-use Rattle.machine.specs.Run.{Outcome, runCopy, runMove, runBorrow, runNumber, less, runBelow}
+use Rattle.machine.specs.Run.{Outcome, runCopy, runMove, runBorrow, runNumber, runPair}
 use Rattle.machine.specs.Encode.{locationOf, kindNumber, payload}
 use Rattle.machine.specs.Words.{valueOf, storeOf, Sound, Tidy, Written}
-use Rattle.machine.specs.Parts.{stateAt, placeOf, found, Located, held, Filled, gave, Copied, Moved, Borrowed, counted, Numbered, Compared}
+use Rattle.machine.specs.Parts.{stateAt, placeOf, found, Located, held, Filled, gave, Copied, Moved, Borrowed, counted, Numbered, Paired}
 use Rattle.machine.specs.declared.locate.Found.{Found}
 use Rattle.machine.specs.declared.locate.Gave.{Gave}
 use Rattle.machine.proofs.EncodeLaws.{location-row}
@@ -215,33 +215,27 @@ module _ (set : Limits) where
   pub numbers-gave : (n : ℕ) (g : Gave) → Numbers n g → (w : List ℕ) (taken : ℕ) (opened : List ℕ) (i : ℕ) → gave set w taken opened i g ≡ ok (stateAt set w taken opened, num n)
   numbers-gave n g h w taken opened i = gave-goes w taken opened i g (h .fine) ∙ ap (λ (v : Value). ok (stateAt set w taken opened, v)) (value-number set (g .kind) (g .payload) (h .kind) ∙ ap num (h .is))
 
-  module _ (w : List ℕ) (root follows other others : ℕ) (a : Gave) (x : Numbered set w root follows a) where
-    pub below-stops : (a .fault ≡ 0 → ⊥) → Compared set w root follows other others a
-    unfolding runBelow _>>=_
-    below-stops n = record {
+  -- ---- the numbers at two places, and what f makes of them
+
+  module _ (f : ℕ → ℕ → ℕ) (w : List ℕ) (root follows other others : ℕ) (a : Gave) (x : Numbered set w root follows a) where
+    pub pair-stops : (a .fault ≡ 0 → ⊥) → Paired set f w root follows other others a
+    unfolding runPair _>>=_
+    pair-stops n = record {
       sound = x .sound;
       is = λ i taken opened. gave-stops w taken opened i a n ∙ sym (rw (← x .is i taken opened, counted-stops (stateAt set w taken opened) i a n));
     }
 
     module _ (m : a .fault ≡ 0) (b : Gave) (y : Numbered set w other others b) where
-      pub below-second : (b .fault ≡ 0 → ⊥) → Compared set w root follows other others b
-      unfolding runBelow _>>=_
-      below-second n = record {
+      pub pair-second : (b .fault ≡ 0 → ⊥) → Paired set f w root follows other others b
+      unfolding runPair _>>=_
+      pair-second n = record {
         sound = y .sound;
         is = λ i taken opened. gave-stops w taken opened i b n ∙ sym (rw (← x .is i taken opened, counted-goes (stateAt set w taken opened) i a m, ← y .is i taken opened, counted-stops (stateAt set w taken opened) i b n));
       }
 
-      module _ (n : b .fault ≡ 0) (p q : ℕ) (c : p ≡ (a .payload + 2147483648) % 4294967296) (d : q ≡ (b .payload + 2147483648) % 4294967296) where
-        pub below-less : p < q → (g : Gave) → Numbers 1 g → Compared set w root follows other others g
-        unfolding runBelow less _>>=_
-        below-less l g z = record {
-          sound = numbers-sound 1 g z;
-          is = λ i taken opened. numbers-gave 1 g z w taken opened i ∙ sym (rw (← x .is i taken opened, counted-goes (stateAt set w taken opened) i a m, ← y .is i taken opened, counted-goes (stateAt set w taken opened) i b n, ← c, ← d, lt-ltb p q l));
-        }
-
-        pub below-not : q ≤ p → (g : Gave) → Numbers 0 g → Compared set w root follows other others g
-        unfolding runBelow less _>>=_
-        below-not l g z = record {
-          sound = numbers-sound 0 g z;
-          is = λ i taken opened. numbers-gave 0 g z w taken opened i ∙ sym (rw (← x .is i taken opened, counted-goes (stateAt set w taken opened) i a m, ← y .is i taken opened, counted-goes (stateAt set w taken opened) i b n, ← c, ← d, le-ltb p q l));
-        }
+      pub pair-goes : b .fault ≡ 0 → (p : ℕ) → p ≡ f (a .payload) (b .payload) → (g : Gave) → Numbers p g → Paired set f w root follows other others g
+      unfolding runPair _>>=_
+      pair-goes n p e g z = record {
+        sound = numbers-sound p g z;
+        is = λ i taken opened. numbers-gave p g z w taken opened i ∙ sym (rw (← x .is i taken opened, counted-goes (stateAt set w taken opened) i a m, ← y .is i taken opened, counted-goes (stateAt set w taken opened) i b n, ← e));
+      }

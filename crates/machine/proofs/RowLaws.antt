@@ -16,10 +16,10 @@ use Rattle.reader.specs.RowTrees.{placeAt, RowTree, IsTree, onlyIf, around, sev
 use Rattle.reader.proofs.KindBytes.{has, found}
 use Rattle.reader.proofs.RowTreeLaws.{only-if, only-in, only-is, around-inner, rest-first, tree-kind}
 use Rattle.machine.specs.Store.{State}
-use Rattle.machine.specs.Run.{runBorrow, run}
+use Rattle.machine.specs.Run.{runBorrow, runPair, run}
 use Rattle.machine.specs.Answers.{bitsOf}
 use Rattle.machine.specs.Words.{Tidy}
-use Rattle.machine.specs.Parts.{stateAt, Copied, Moved, Borrowed, Compared, ranOn, runOn, leafAt, LeafRan, endOf}
+use Rattle.machine.specs.Parts.{stateAt, Copied, Moved, Borrowed, Paired, pairOf, ranOn, runOn, leafAt, LeafRan, endOf}
 use Rattle.machine.specs.declared.locate.Gave.{Gave}
 use Rattle.machine.proofs.LeafLaws.{Numbers, numbers-sound, numbers-gave}
 
@@ -158,13 +158,18 @@ module _ (set : Limits) where
           is = λ taken opened. c .is i taken opened ∙ rw (p, q) (sym (rw (move-leaf e .1)));
         }
 
-        pub leaf-below : fieldAt rows i 0 ≡ 10 → Tidy set w → (other others : ℕ) → other ≡ fieldAt rows i 3 → others ≡ fieldAt rows i 4 → (g : Gave) → Compared set w root follows other others g → LeafRan set rows i readings w w g
-        unfolding ranOn run
-        leaf-below e t other others r s g c = record {
-          tidy = t;
+        -- Of the kinds with two places: t is the row's term, and f what its run makes of the numbers.
+        leaf-pair : (t : Term) (f : ℕ → ℕ → ℕ) → leafAt set rows i ≡ some (t, i + 1) → ((s : State) → run (bitsOf readings) t s ≡ runPair f s i (placeAt rows i 1) (placeAt rows i 3)) → Tidy set w → (other others : ℕ) → other ≡ fieldAt rows i 3 → others ≡ fieldAt rows i 4 → (g : Gave) → Paired set f w root follows other others g → LeafRan set rows i readings w w g
+        unfolding ranOn
+        leaf-pair t f e d h other others r s g c = record {
+          tidy = h;
           sound = c .sound;
-          is = λ taken opened. c .is i taken opened ∙ rw (p, q, r, s) (sym (rw (below-leaf e .2)));
+          is = λ taken opened. c .is i taken opened ∙ rw (p, q, r, s) (sym (rw e (d (stateAt set w taken opened))));
         }
+
+        pub leaf-below : (k : ℕ) → k ≡ fieldAt rows i 0 → k ≡ 10 → Tidy set w → (other others : ℕ) → other ≡ fieldAt rows i 3 → others ≡ fieldAt rows i 4 → (g : Gave) → Paired set (pairOf k) w root follows other others g → LeafRan set rows i readings w w g
+        unfolding run pairOf
+        leaf-below k ek e = leaf-pair _ (pairOf k) (below-leaf (sym ek ∙ e) .2) (λ s. rw e)
 
         pub leaf-borrow : (k : ℕ) → k ≡ fieldAt rows i 0 → (k ≡ 1 → ⊥) → (k ≡ 2 → ⊥) → (k ≡ 3 → ⊥) → (k ≡ 4 → ⊥) → (k ≡ 10 → ⊥) → Tidy set w → (g : Gave) → Borrowed set w root follows g → LeafRan set rows i readings w w g
         leaf-borrow k ek a b c d e t g x = record {

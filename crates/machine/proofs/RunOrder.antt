@@ -10,7 +10,8 @@ use Rattle.machine.specs.Values.{Location, variable, cell, Value, empty,
 use Rattle.machine.specs.Store.{Store, put, isOpen, valueIn, State, withStore, Ran}
 use Rattle.machine.specs.Locate.{followed, locateFrom, locate, filled, numberIn}
 use Rattle.machine.specs.Drop.{InOrder}
-use Rattle.machine.specs.Run.{Outcome, runCopy, runMove, runBorrow, runNumber, runBelow, runLet, runAssign, runBox, runBlockEnd, entered, begun, run, runs, runScript}
+use Rattle.machine.specs.Signed.{compared}
+use Rattle.machine.specs.Run.{Outcome, runCopy, runMove, runBorrow, runNumber, runPair, runLet, runAssign, runBox, runBlockEnd, entered, begun, run, runs, runScript}
 use Rattle.machine.proofs.StoreLaws.{put-other}
 use Rattle.machine.proofs.DropLaws.{open-taken, without-in-order}
 use Rattle.machine.proofs.Kept.{Keeps, ends, faults, keeps-then, Lasting, drop-keeps, close-keeps}
@@ -107,9 +108,9 @@ module _ (s : State) (i : ℕ) (h : InOrder s) where
   unfolding runBorrow
   borrow-ordered p = keeps-then _ (locate-keeps s i h p) (λ l u. ends _ h)
 
-  below-ordered : (p q : Place) → Ordered (runBelow s i p q)
-  unfolding runBelow
-  below-ordered p q = keeps-then _ (number-keeps s i h p) (λ a u. keeps-then _ (number-keeps s i h q) (λ b w. ends _ h))
+  pair-ordered : (f : ℕ → ℕ → ℕ) (p q : Place) → Ordered (runPair f s i p q)
+  unfolding runPair
+  pair-ordered f p q = keeps-then _ (number-keeps s i h p) (λ a u. keeps-then _ (number-keeps s i h q) (λ b w. ends _ h))
 
   box-ordered : (v : Value) → Ordered (runBox s v)
   unfolding runBox
@@ -144,7 +145,7 @@ module _ (readings : ℕ → ℕ) where
     run-ordered (box i t) s h = keeps-then _ (run-ordered t s h) (λ o k. box-ordered (o .0) i k (o .1))
     run-ordered (declare i x t) s h = keeps-then _ (run-ordered t s h) (λ o k. let-ordered (o .0) i k x (o .1))
     run-ordered (assign i p t) s h = keeps-then _ (run-ordered t s h) (λ o k. assign-ordered (o .0) i k p (o .1))
-    run-ordered (below i p q) s h = below-ordered s i h p q
+    run-ordered (below i p q) s h = pair-ordered s i h compared p q
     run-ordered (block i ts) s h = keeps-then _ (runs-ordered ts i (entered s) h) (λ o k. end-ordered (o .0) i k (s .opened) (o .1))
 
     pub runs-ordered : (ts : Terms) (i : ℕ) (s : State) → InOrder s → Ordered (runs readings ts i s)

@@ -20,7 +20,8 @@ use Rattle.machine.specs.Values.{Location, variable, Value, empty, openW
 use Rattle.machine.specs.Store.{Store, put, isOpen, State, Ran, fault}
 use Rattle.machine.specs.Locate.{followed, locateFrom, filled}
 use Rattle.machine.specs.Drop.{InOrder, dropValue, closeAll}
-use Rattle.machine.specs.Run.{Outcome, runCopy, runMove, runBorrow, runNumber, runBelow, runBox, runLet, runAssign, runBlockEnd, run, runs, runScript}
+use Rattle.machine.specs.Signed.{compared, heldSum}
+use Rattle.machine.specs.Run.{Outcome, runCopy, runMove, runBorrow, runNumber, runPair, runBox, runLet, runAssign, runBlockEnd, run, runs, runScript}
 use Rattle.machine.specs.Encode.{locationOf}
 use Rattle.machine.specs.Answers.{AnswerAndStore, bitsOf, ranInto}
 use Rattle.machine.specs.Words.{valueOf, storeOf, Sound, Tidy}
@@ -84,9 +85,13 @@ pub record Numbered (set : Limits) (w : List ℕ) (root follows : ℕ) (g : Gave
   pub sound : Sound set (g .kind) (g .payload)
   pub is : (i taken : ℕ) (opened : List ℕ) → counted (stateAt set w taken opened) i g ≡ runNumber (stateAt set w taken opened) i (placeOf root follows)
 
-pub record Compared (set : Limits) (w : List ℕ) (root follows other others : ℕ) (g : Gave) : Type 0 where
+pub record Paired (set : Limits) (f : ℕ → ℕ → ℕ) (w : List ℕ) (root follows other others : ℕ) (g : Gave) : Type 0 where
   pub sound : Sound set (g .kind) (g .payload)
-  pub is : (i taken : ℕ) (opened : List ℕ) → gave set w taken opened i g ≡ runBelow (stateAt set w taken opened) i (placeOf root follows) (placeOf other others)
+  pub is : (i taken : ℕ) (opened : List ℕ) → gave set w taken opened i g ≡ runPair f (stateAt set w taken opened) i (placeOf root follows) (placeOf other others)
+
+-- What the kinds with two places make of the numbers at them.
+unfoldable pub pairOf : ℕ → ℕ → ℕ → ℕ
+pairOf kind = pick (eqb kind 13) heldSum compared
 
 -- The run of what stands in rows, by the run rule for it; and of a term.
 unfoldable pub ranOn : {A : Type 0} → (A → State → Ran Outcome) → RowTree A → State → Ran Outcome

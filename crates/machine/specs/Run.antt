@@ -1,14 +1,14 @@
 -- The run of a term, of a block's terms, and of a whole script (LANGUAGE 4.9 to 4.20).
-use Prim.Native.Nat.{ℕ, suc, _+_, _%_}
-use mathlib.Core.Bool.{Bool, not}
+use Prim.Native.Nat.{ℕ, suc}
+use mathlib.Core.Bool.{not}
 use mathlib.Core.List.{List, [], _∷_}
-use lib.Dec.{ltb}
 use Rattle.reader.specs.Result.{ok, _>>=_, need, pick}
 use Rattle.reader.specs.Script.{Place, Term, number, reading, copy, move, borrowShared, borrowExclusive, box, declare, assign, below, block, Terms, last, more}
 use Rattle.machine.specs.Values.{variable, cell, Value, empty, num, owner, reference, openWith}
 use Rattle.machine.specs.Store.{Store, cleared, put, isOpen, valueIn, State, withStore, Ran}
 use Rattle.machine.specs.Locate.{locate, filled, numberIn}
 use Rattle.machine.specs.Drop.{dropValue, closeAll}
+use Rattle.machine.specs.Signed.{compared}
 
 -- The state afterwards and the term's value; no value is empty here (LANGUAGE 4.19).
 abbrev pub Outcome : Type 0
@@ -32,23 +32,19 @@ runMove s i p =
 unfoldable pub runBorrow : State → ℕ → Place → Ran Outcome
 runBorrow s i p = locate s i p >>= λ l. ok (s, reference l)
 
--- A place of a below (LANGUAGE 4.16): locate, read; a number must be there.
+-- One of two places (LANGUAGE 4.16): locate, read; a number must be there.
 unfoldable pub runNumber : State → ℕ → Place → Ran ℕ
 runNumber s i p =
     locate s i p >>= λ l.
     filled s i (s .store l) >>= λ v.
     numberIn s i v
 
--- The order of the signed numbers whose 32 bits are given (LANGUAGE 4.16).
-unfoldable pub less : ℕ → ℕ → Bool
-less a b = ltb ((a + 2147483648) % 4294967296) ((b + 2147483648) % 4294967296)
-
--- Below (LANGUAGE 4.16): the number at the first place, then that at the second; 1 if the first is less, otherwise 0.
-unfoldable pub runBelow : State → ℕ → Place → Place → Ran Outcome
-runBelow s i p q =
+-- A term with two places (LANGUAGE 4.16): the number at the first place, then that at the second, and what f makes of both.
+unfoldable pub runPair : (ℕ → ℕ → ℕ) → State → ℕ → Place → Place → Ran Outcome
+runPair f s i p q =
     runNumber s i p >>= λ a.
     runNumber s i q >>= λ b.
-    ok (s, num (pick (less a b) 1 0))
+    ok (s, num (f a b))
 
 -- Let (LANGUAGE 4.14), after the inner term: its row opens, 62 if it is open already. No value is stored as empty (4.19), here and below.
 unfoldable pub runLet : State → ℕ → ℕ → Value → Ran Outcome
@@ -96,7 +92,7 @@ module _ (readings : ℕ → ℕ) where
     run (box i t) s = run t s >>= λ o. runBox (o .0) (o .1)
     run (declare i x t) s = run t s >>= λ o. runLet (o .0) i x (o .1)
     run (assign i p t) s = run t s >>= λ o. runAssign (o .0) i p (o .1)
-    run (below i p q) s = runBelow s i p q
+    run (below i p q) s = runPair compared s i p q
     run (block i ts) s = runs ts i (entered s) >>= λ o. runBlockEnd i (s .opened) o
 
     -- The terms of block i (LANGUAGE 4.17): each value but the last is dropped after its term.

@@ -5,17 +5,21 @@ ghost use lib.ListN.{length};
 ghost use Rattle.reader.specs.Limits.{unpacked};
 ghost use Rattle.machine.specs.Answers.{bitsOf};
 ghost use Rattle.machine.specs.Words.{Tidy};
-ghost use Rattle.machine.specs.Parts.{Copied, Moved, Borrowed, Numbered, Compared, LeafReady, LeafRan};
+ghost use Rattle.machine.specs.Parts.{Copied, Moved, Borrowed, Numbered, Paired, pairOf, LeafReady, LeafRan};
 use crate::locate::Gave;
 use crate::locate::locate;
 use crate::locate::read_row;
 use crate::numbers;
 use crate::signed::bits_of;
 use crate::signed::raised;
+use crate::signed::sum_bits;
 use crate::store::put_row;
 use reader::fields::field_at;
 use reader::fields::index_of;
 use reader::kinds;
+
+// TODO move: the kind of a sum.
+const SUM: u32 = 13;
 
 // A fault (LANGUAGE 4.5), and no value.
 fn failed(fault: u32) -> Gave
@@ -93,7 +97,7 @@ pub fn run_borrow(sizes: usize, store: &[u32], root: usize, follows: usize) -> G
     }
 }
 
-// A place of a below (LANGUAGE 4.16): locate, read; a number must be there (61).
+// One of two places (LANGUAGE 4.16): locate, read; a number must be there (61).
 pub fn run_number(sizes: usize, store: &[u32], root: usize, follows: usize) -> Gave
     requires { ⌜ Tidy (unpacked sizes) (now store) × (root < unpacked sizes .variables) ⌝ }
     ensures { λ r. ⌜ Numbered (unpacked sizes) (now (store .entry)) root follows r ⌝ }
@@ -108,17 +112,31 @@ pub fn run_number(sizes: usize, store: &[u32], root: usize, follows: usize) -> G
     held
 }
 
-// Below (LANGUAGE 4.16): the number at the first place, then that at the second; 1 if the first is less, otherwise 0.
-pub fn run_below(
+// What the kinds with two places make of the numbers at them (LANGUAGE 4.16): their sum held to the range; or 1 if the first is less, otherwise 0.
+fn paired(kind: u32, a: u32, b: u32) -> u32
+    ensures { λ r. ⌜ r ≡ pairOf kind a b ⌝ }
+{
+    if kind == SUM {
+        return sum_bits(a, b);
+    }
+    if raised(a) < raised(b) {
+        return 1;
+    }
+    0
+}
+
+// A term with two places (LANGUAGE 4.16): the number at the first, then that at the second, and what its kind makes of both.
+pub fn run_pair(
     sizes: usize,
     store: &[u32],
+    kind: u32,
     root: usize,
     follows: usize,
     other: usize,
     others: usize,
 ) -> Gave
     requires { ⌜ Tidy (unpacked sizes) (now store) × (root < unpacked sizes .variables) × (other < unpacked sizes .variables) ⌝ }
-    ensures { λ r. ⌜ Compared (unpacked sizes) (now (store .entry)) root follows other others r ⌝ }
+    ensures { λ r. ⌜ Paired (unpacked sizes) (pairOf kind) (now (store .entry)) root follows other others r ⌝ }
 {
     let first = run_number(sizes, store, root, follows);
     if first.fault != numbers::NO_FAULT {
@@ -128,10 +146,7 @@ pub fn run_below(
     if second.fault != numbers::NO_FAULT {
         return second;
     }
-    if raised(first.payload) < raised(second.payload) {
-        return numbered(1);
-    }
-    numbered(0)
+    numbered(paired(kind, first.payload, second.payload))
 }
 
 // The term at row i, if it has no inner term, by the rule of its kind (LANGUAGE 4.9 to 4.12, 4.16).
@@ -151,7 +166,7 @@ pub fn run_leaf(sizes: usize, rows: &[u32], i: usize, readings: &[i32], store: &
         kinds::BELOW => {
             let other = index_of(field_at(rows, i, 3));
             let others = index_of(field_at(rows, i, 4));
-            run_below(sizes, store, root, follows, other, others)
+            run_pair(sizes, store, kind, root, follows, other, others)
         }
         _ => run_borrow(sizes, store, root, follows),
     }

@@ -16,6 +16,7 @@ use Rattle.rules.specs.Judge
 use Rattle.machine.specs.Store
 use Rattle.machine.specs.Locate
 use Rattle.machine.specs.Drop
+use Rattle.machine.specs.Signed
 use Rattle.machine.specs.Run
 use Rattle.machine.specs.Answers
 use Rattle.safety.specs.Examples
@@ -47,7 +48,8 @@ unfolding
     Store.sameLocation Store.put Store.isOpen
     Locate.followed Locate.locateFrom Locate.locate Locate.filled Locate.numberIn
     Drop.giveBack Drop.dropStep Drop.isGivenBack Drop.cellsGivenBack Drop.cellsLeft Drop.dropAlong Drop.dropValue Drop.closeAll
-    Run.runCopy Run.runMove Run.runBorrow Run.runNumber Run.less Run.runBelow Run.runBox Run.runLet Run.runAssign Run.runBlockEnd Run.run Run.runScript
+    Signed.less Signed.compared
+    Run.runCopy Run.runMove Run.runBorrow Run.runNumber Run.runPair Run.runBox Run.runLet Run.runAssign Run.runBlockEnd Run.run Run.runScript
     Answers.runFits Answers.runnable Answers.bitsOf
     Examples.boxed Examples.e1Bytes Examples.e2 Examples.e3 Examples.e4 Examples.e5 Examples.e6 Examples.e7 Examples.e9 Examples.nine Examples.eight Examples.e11
 lines-hold = refl

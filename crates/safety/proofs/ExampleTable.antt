@@ -17,6 +17,7 @@ use Rattle.rules.specs.Judge
 use Rattle.machine.specs.Store
 use Rattle.machine.specs.Locate
 use Rattle.machine.specs.Drop
+use Rattle.machine.specs.Signed
 use Rattle.machine.specs.Run
 use Rattle.safety.specs.Examples.{e1, e1Bytes, Line, lines, table}
 use Rattle.safety.specs.Examples
@@ -38,5 +39,6 @@ unfolding
     Store.sameLocation Store.put Store.isOpen
     Locate.followed Locate.locateFrom Locate.locate Locate.filled Locate.numberIn
     Drop.giveBack Drop.dropStep Drop.isGivenBack Drop.cellsGivenBack Drop.cellsLeft Drop.dropAlong Drop.dropValue Drop.closeAll
-    Run.runCopy Run.runMove Run.runBorrow Run.runNumber Run.less Run.runBelow Run.runBox Run.runLet Run.runAssign Run.runBlockEnd Run.run Run.runScript
+    Signed.less Signed.compared
+    Run.runCopy Run.runMove Run.runBorrow Run.runNumber Run.runPair Run.runBox Run.runLet Run.runAssign Run.runBlockEnd Run.run Run.runScript
 examples = refl

@@ -2,14 +2,14 @@
 use Prim.Native.Nat.{ℕ}
 use mathlib.Core.Path.{_≡_, refl}
 use mathlib.Core.Option.{none, some}
-use Rattle.reader.specs.Result.{ok, _>>=_, pick}
+use Rattle.reader.specs.Result.{ok, _>>=_}
 use Rattle.reader.specs.Script.{Place}
 use Rattle.rules.specs.Environment.{Environment}
 use Rattle.rules.specs.Rules.{numberTy, judgeReadable, judgeNumber}
 use Rattle.machine.specs.Values.{Location, empty, num, openWith}
 use Rattle.machine.specs.Store.{State, Ran}
 use Rattle.machine.specs.Locate.{locate, filled, numberIn}
-use Rattle.machine.specs.Run.{Outcome, runCopy, runNumber, less, runBelow}
+use Rattle.machine.specs.Run.{Outcome, runCopy, runNumber, runPair}
 use Rattle.machine.proofs.Results.{then, needed}
 use Rattle.safety.proofs.Inversion.{number-nil, readable-ok}
 use Rattle.safety.proofs.Invariant.{Invariant}
@@ -36,13 +36,14 @@ module _ {nv : ℕ} {Γ : Environment} {lv : ℕ} {s : State} (I : Invariant nv 
       let N = number-there I p (a .0) i F (is-whole I (p .root) (a .0 .root) (F .is) (b .1)) (number-nil _ (needed _ _ _ (a .2))) in
       (N .0, run-num i p (F .loc) (N .0) (F .run) (N .2 (F .loc) (F .run)) .0)
 
-  run-both : (i : ℕ) (p q : Place) (a b : ℕ) → runNumber s i p ≡ ok a → runNumber s i q ≡ ok b → runBelow s i p q ≡ ok (s, num (pick (less a b) 1 0))
-  unfolding runBelow _>>=_
-  run-both i p q a b e f = rw (e, f) refl
+  run-both : (f : ℕ → ℕ → ℕ) (i : ℕ) (p q : Place) (a b : ℕ) → runNumber s i p ≡ ok a → runNumber s i q ≡ ok b → runPair f s i p q ≡ ok (s, num (f a b))
+  unfolding runPair _>>=_
+  run-both f i p q a b d e = rw (d, e) refl
 
-  pub case-below : (i : ℕ) (p q : Place) (u u′ : Unit {0}) → judgeNumber nv Γ i p ≡ ok u → judgeNumber nv Γ i q ≡ ok u′
-      → Progress nv Γ Γ (some numberTy) lv (runBelow s i p q)
-  case-below i p q u u′ e f =
-      let a = one-number i i p u e in
-      let b = one-number i i q u′ f in
-      case-number (pick (less (a .0) (b .0)) 1 0) (runBelow s i p q) (run-both i p q (a .0) (b .0) (a .1) (b .1))
+  -- The numbers at two places, whatever f makes of them.
+  pub case-pair : (f : ℕ → ℕ → ℕ) (i : ℕ) (p q : Place) (u u′ : Unit {0}) → judgeNumber nv Γ i p ≡ ok u → judgeNumber nv Γ i q ≡ ok u′
+      → Progress nv Γ Γ (some numberTy) lv (runPair f s i p q)
+  case-pair f i p q u u′ d e =
+      let a = one-number i i p u d in
+      let b = one-number i i q u′ e in
+      case-number (f (a .0) (b .0)) (runPair f s i p q) (run-both f i p q (a .0) (b .0) (a .1) (b .1))

@@ -12,13 +12,14 @@ use Rattle.rules.specs.Judge.{judge, judges}
 use Rattle.machine.specs.Values.{empty, num}
 use Rattle.machine.specs.Store.{State}
 use Rattle.machine.specs.Drop.{dropValue}
+use Rattle.machine.specs.Signed.{compared}
 use Rattle.machine.specs.Run.{runBlockEnd, entered, run, runs}
 use Rattle.safety.proofs.Apart.{free≢live, used≢live}
 use Rattle.machine.proofs.Results.{then, after, needed}
 use Rattle.safety.proofs.Inversion.{was-free, update-same, update-other}
 use Rattle.safety.proofs.Invariant.{Invariant}
 use Rattle.safety.proofs.Progress.{Progress, and-then}
-use Rattle.safety.proofs.Numbers.{case-number, case-below}
+use Rattle.safety.proofs.Numbers.{case-number, case-pair}
 use Rattle.safety.proofs.Borrowing.{case-shared, case-exclusive}
 use Rattle.safety.proofs.Copying.{case-copy}
 use Rattle.safety.proofs.Moving.{case-move}
@@ -140,7 +141,7 @@ module _ (nv : ℕ) (readings : ℕ → ℕ) where
       let a = then (judgeNumber nv Γ i p) _ out h in
       let b = then (judgeNumber nv Γ i q) _ out (a .2) in
       let z : (Γ, some numberTy) ≡ out = let k = b .2 in cc in
-      subst (λ (k : Out). Progress nv Γ (k .0) (k .1) lv (run readings (below i p q) s)) z (case-below I i p q (a .0) (b .0) (a .1) (b .1))
+      subst (λ (k : Out). Progress nv Γ (k .0) (k .1) lv (run readings (below i p q) s)) z (case-pair I compared i p q (a .0) (b .0) (a .1) (b .1))
 
   sound-number : (t : Term) (n : ℕ) → ((s : State) → run readings t s ≡ ok (s, num n))
       → ((lv : ℕ) (Γ : Environment) → judge nv t lv Γ ≡ ok (Γ, some numberTy)) → Sound t
