@@ -5,12 +5,13 @@ use mathlib.Core.Path.{_≡_, refl, ap, _∙_}
 use mathlib.Core.Bool.{Bool, true, false}
 use mathlib.Core.List.{List}
 use Rattle.reader.specs.Result.{Result, ok, err, _>>=_, need, pick}
-use Rattle.reader.specs.Script.{Place, Term, number, reading, copy, move, borrowShared, borrowExclusive, box, declare, assign, below, block, Terms, last, more}
+use Rattle.reader.specs.Script.{Place, Term, number, reading, copy, move, borrowShared, borrowExclusive, box, declare, assign, below, block, sum, Terms, last, more}
 use Rattle.reader.specs.Measures.{boxesIn, boxesAll}
 use Rattle.machine.specs.Values.{Location, Value, empty, openWith}
 use Rattle.machine.specs.Store.{put, isOpen, valueIn, State, withStore, Ran}
 use Rattle.machine.specs.Locate.{locate, filled}
 use Rattle.machine.specs.Drop.{dropValue, closeAll}
+use Rattle.machine.specs.Signed.{compared, heldSum}
 use Rattle.machine.specs.Run.{Outcome, runCopy, runMove, runBorrow, runNumber, runPair, runLet, runAssign, runBox, runBlockEnd, entered, run, runs}
 use Rattle.machine.specs.Boxes.{afterwards, boxesRun, boxesRunAll}
 use Rattle.machine.proofs.Results.{then}
@@ -66,6 +67,13 @@ module _ (readings : ℕ → ℕ) where
       let y = close-takes i (a .0 .0) (b .0) (a .0 .0 .opened) (b .1) in
       omega arith
 
+  pair-takes : (f : ℕ → ℕ → ℕ) (i : ℕ) (p q : Place) (s s′ : State) (v : Value) → runPair f s i p q ≡ ok (s′, v) → s′ .taken ≡ s .taken
+  unfolding runPair
+  pair-takes f i p q s s′ v h =
+      let a = then (runNumber s i p) _ (s′, v) h in
+      let b = then (runNumber s i q) _ (s′, v) (a .2) in
+      let z = out-taken (b .2) in omega arith
+
   mutual
     unfolding run boxesRun All runCopy runMove runBorrow runPair runBox runLet runBlockEnd
 
@@ -103,10 +111,8 @@ module _ (readings : ℕ → ℕ) where
         let c = taken-is t s (a .0 .0) (a .0 .1) (a .1) in
         let z = assign-takes i p (a .0 .0) s′ (a .0 .1) v (a .2) in
         omega arith
-    taken-is (below i p q) s s′ v h =
-        let a = then (runNumber s i p) _ (s′, v) h in
-        let b = then (runNumber s i q) _ (s′, v) (a .2) in
-        let z = out-taken (b .2) in omega arith
+    taken-is (below i p q) s s′ v h = let z = pair-takes compared i p q s s′ v h in omega arith
+    taken-is (sum i p q) s s′ v h = let z = pair-takes heldSum i p q s s′ v h in omega arith
     taken-is (block i ts) s s′ v h = taken-block ts (λ i s s′ v h. taken-all ts i s s′ v h) i s s′ v h
 
     pub taken-all : (ts : Terms) (i : ℕ) (s s′ : State) (v : Value) → runs readings ts i s ≡ ok (s′, v)
@@ -149,6 +155,7 @@ module _ (readings : ℕ → ℕ) where
     boxes-bound (declare i x t) s = boxes-bound t s
     boxes-bound (assign i p t) s = boxes-bound t s
     boxes-bound (below i p q) s = omega arith
+    boxes-bound (sum i p q) s = omega arith
     boxes-bound (block i ts) s = boxes-bound-all ts i (entered s)
 
     boxes-bound-all : (ts : Terms) (i : ℕ) (s : State) → boxesRunAll readings ts i s ≤ boxesAll ts

@@ -3,11 +3,11 @@ use Prim.Native.Nat.{ℕ}
 use mathlib.Core.Path.{_≡_, refl, sym, ap}
 use mathlib.Core.List.{List, [], _∷_}
 use Rattle.reader.specs.Result.{ok, err, _>>=_}
-use Rattle.reader.specs.Script.{Term, number, reading, copy, move, borrowShared, borrowExclusive, box, declare, assign, below, block, Terms, last, more}
+use Rattle.reader.specs.Script.{Term, number, reading, copy, move, borrowShared, borrowExclusive, box, declare, assign, below, block, sum, Terms, last, more}
 use Rattle.machine.specs.Store.{Store, State, Fault, Ran}
 use Rattle.machine.specs.Drop.{closeAll}
 use Rattle.machine.specs.Run.{runAssign, runBox, runBlockEnd, entered, begun, run, runs, runScript}
-use Rattle.machine.specs.Faults.{ClosingMeets, at-first, at-later, TermMeets, at-copy, at-move, at-shared, at-exclusive, at-below, in-box, in-let, at-let, in-assign, at-place, at-old, in-block, at-closing, TermsMeet, in-last, in-first, at-drop, in-rest, RunMeets, on-the-way, at-answer}
+use Rattle.machine.specs.Faults.{ClosingMeets, at-first, at-later, TermMeets, at-copy, at-move, at-shared, at-exclusive, at-below, at-sum, in-box, in-let, at-let, in-assign, at-place, at-old, in-block, at-closing, TermsMeet, in-last, in-first, at-drop, in-rest, RunMeets, on-the-way, at-answer}
 use Rattle.reader.proofs.Answers.{after, stop, err-ok}
 
 -- ---- met on the way: the run's own result
@@ -27,6 +27,7 @@ module _ (readings : ℕ → ℕ) where
     term-faults (at-shared e) = e
     term-faults (at-exclusive e) = e
     term-faults (at-below e) = e
+    term-faults (at-sum e) = e
     term-faults (in-box m) = stop _ _ _ (term-faults m)
     term-faults (in-let m) = stop _ _ _ (term-faults m)
     term-faults (at-let o r e) = after _ _ _ _ r e
@@ -78,6 +79,7 @@ module _ (readings : ℕ → ℕ) where
         either _ _ f q (λ w. at-place o r w) (λ l w x.
         either _ _ f x (λ y. at-old o l r w y) (λ s′ y z. err-ok (sym z))))
     term-met (below i p q) s f e = at-below e
+    term-met (sum i p q) s f e = at-sum e
     term-met (block i ts) s f e =
         either _ _ f e (λ q. in-block (terms-met ts i (entered s) f q)) (λ o r q.
         either _ _ f q (λ w. at-closing o r (closing-met i (o .0) (o .0 .opened) f w)) (λ s′ w x. err-ok (sym x)))

@@ -2,6 +2,7 @@
 use Prim.Native.Nat.{ℕ, zero, suc, _+_, _-_, _<_}
 use native.Mathlib.Omega.{arith}
 use mathlib.Core.Path.{_≡_, refl, sym, ap, _∙_}
+use mathlib.Core.Logic.{_⊎_, inl, inr, ⊎-elim}
 use mathlib.Core.Bool.{Bool}
 use mathlib.Core.Option.{Option, none, some}
 use mathlib.Core.List.{List}
@@ -9,11 +10,11 @@ use lib.Dec.{ltb}
 use lib.IntN.{ℤ}
 use borrow.Author.Tests.{ltb-true}
 use Rattle.reader.specs.Limits.{Limits}
-use Rattle.reader.specs.Script.{Term, reading, copy, move, below, block}
-use Rattle.reader.specs.Kinds.{Kind, kNumber, kReading, kCopy, kMove, kShared, kExclusive, kBox, kLet, kAssign, kBelow, kBlock, byteOf, kindOf}
+use Rattle.reader.specs.Script.{Term, reading, copy, move, below, block, sum}
+use Rattle.reader.specs.Kinds.{Kind, kNumber, kReading, kCopy, kMove, kShared, kExclusive, kBox, kLet, kAssign, kBelow, kBlock, kSum, newest, byteOf, kindOf}
 use Rattle.reader.specs.RowParts.{fieldAt}
 use Rattle.reader.specs.RowTrees.{placeAt, RowTree, IsTree, onlyIf, around, severalAt, termsAt, kindAt, treeAt}
-use Rattle.reader.proofs.KindBytes.{has, found}
+use Rattle.reader.proofs.KindBytes.{has, added-most, found}
 use Rattle.reader.proofs.RowTreeLaws.{only-if, only-in, only-is, around-inner, rest-first, tree-kind}
 use Rattle.machine.specs.Store.{State}
 use Rattle.machine.specs.Run.{runBorrow, runPair, run}
@@ -33,9 +34,9 @@ module _ (set : Limits) where
   -- Such a kind asks nothing of what is inside.
   pub leaf-is : (l : ℕ) (rows : List ℕ) (i k : ℕ) → IsTree (treeAt (set .variables) l rows i) → k ≡ fieldAt rows i 0 → (k ≡ 7 → ⊥) × (k ≡ 8 → ⊥) × (k ≡ 9 → ⊥) → (k ≡ 11 → ⊥) → treeAt (set .variables) l rows i ≡ leafAt set rows i
   unfolding leafAt kindAt byteOf
-  leaf-is l rows i k good ek n d = tree-kind (set .variables) l rows i (kindOf 1 (fieldAt rows i 0)) good refl ∙ go (kindOf 1 (fieldAt rows i 0)) (ap (kindOf 1) ek)
+  leaf-is l rows i k good ek n d = tree-kind (set .variables) l rows i (kindOf newest (fieldAt rows i 0)) good refl ∙ go (kindOf newest (fieldAt rows i 0)) (ap (kindOf newest) ek)
     where
-      go : (o : Option Kind) → kindOf 1 k ≡ o → kindAt o (set .variables) (treeAt (set .variables) (l - 1) rows) rows i ≡ kindAt o (set .variables) (λ j. none) rows i
+      go : (o : Option Kind) → kindOf newest k ≡ o → kindAt o (set .variables) (treeAt (set .variables) (l - 1) rows) rows i ≡ kindAt o (set .variables) (λ j. none) rows i
       go none h = refl
       go (some kNumber) h = refl
       go (some kReading) h = refl
@@ -43,19 +44,24 @@ module _ (set : Limits) where
       go (some kMove) h = refl
       go (some kShared) h = refl
       go (some kExclusive) h = refl
-      go (some kBox) h = absurd (n .0 (sym (found 1 k kBox h)))
-      go (some kLet) h = absurd (n .1 (sym (found 1 k kLet h)))
-      go (some kAssign) h = absurd (n .2 (sym (found 1 k kAssign h)))
+      go (some kBox) h = absurd (n .0 (sym (found newest k kBox h)))
+      go (some kLet) h = absurd (n .1 (sym (found newest k kLet h)))
+      go (some kAssign) h = absurd (n .2 (sym (found newest k kAssign h)))
       go (some kBelow) h = refl
-      go (some kBlock) h = absurd (d (sym (found 1 k kBlock h)))
+      go (some kSum) h = refl
+      go (some kBlock) h = absurd (d (sym (found newest k kBlock h)))
 
   -- Each leaf is one row.
   pub leaf-end : (rows : List ℕ) (i : ℕ) → IsTree (leafAt set rows i) → endOf (leafAt set rows i) ≡ i + 1
   unfolding leafAt kindAt endOf
-  leaf-end rows i good = go (kindOf 1 (fieldAt rows i 0)) good
+  leaf-end rows i good = go (kindOf newest (fieldAt rows i 0)) good
     where
       one : (b : Bool) (t : Term) → IsTree (onlyIf b (some (t, i + 1))) → endOf (onlyIf b (some (t, i + 1))) ≡ i + 1
       one b t h = ap endOf (only-is b (some (t, i + 1)) h)
+
+      two : (t : Term) → IsTree (onlyIf (ltb (fieldAt rows i 1) (set .variables)) (onlyIf (ltb (fieldAt rows i 3) (set .variables)) (some (t, i + 1))))
+          → endOf (onlyIf (ltb (fieldAt rows i 1) (set .variables)) (onlyIf (ltb (fieldAt rows i 3) (set .variables)) (some (t, i + 1)))) ≡ i + 1
+      two t h = rw (only-if (ltb (fieldAt rows i 1) (set .variables)) _ h) (one (ltb (fieldAt rows i 3) (set .variables)) t (only-in (ltb (fieldAt rows i 1) (set .variables)) _ h))
 
       go : (o : Option Kind) → IsTree (kindAt o (set .variables) (λ j. none) rows i) → endOf (kindAt o (set .variables) (λ j. none) rows i) ≡ i + 1
       go none h = absurd h
@@ -68,13 +74,14 @@ module _ (set : Limits) where
       go (some kBox) h = absurd h
       go (some kLet) h = absurd (only-in (ltb (fieldAt rows i 1) (set .variables)) none h)
       go (some kAssign) h = absurd (only-in (ltb (fieldAt rows i 1) (set .variables)) none h)
-      go (some kBelow) h = rw (only-if (ltb (fieldAt rows i 1) (set .variables)) _ h) (one (ltb (fieldAt rows i 3) (set .variables)) _ (only-in (ltb (fieldAt rows i 1) (set .variables)) _ h))
+      go (some kBelow) h = two _ h
+      go (some kSum) h = two _ h
       go (some kBlock) h = absurd (no-block i (fieldAt rows i 1) (i + 1) h)
 
   module _ (rows : List ℕ) (i : ℕ) (good : IsTree (leafAt set rows i)) where
     by-kind : (k : Kind) → fieldAt rows i 0 ≡ byteOf k → leafAt set rows i ≡ kindAt (some k) (set .variables) (λ j. none) rows i
     unfolding leafAt
-    by-kind k e = ap (λ (o : Option Kind). kindAt o (set .variables) (λ j. none) rows i) (ap (kindOf 1) e ∙ has 1 k)
+    by-kind k e = ap (λ (o : Option Kind). kindAt o (set .variables) (λ j. none) rows i) (ap (kindOf newest) e ∙ has newest k (added-most k))
 
     -- A field that the row is tested for is below its bound.
     tested : (x n : ℕ) (d : RowTree Term) → leafAt set rows i ≡ onlyIf (ltb x n) d → (x < n) × (leafAt set rows i ≡ d)
@@ -94,32 +101,49 @@ module _ (set : Limits) where
     unfolding kindAt byteOf
     move-leaf e = tested (fieldAt rows i 1) (set .variables) _ (by-kind kMove e)
 
-    pub below-leaf : fieldAt rows i 0 ≡ 10 → (fieldAt rows i 1 < set .variables) × (fieldAt rows i 3 < set .variables) × (leafAt set rows i ≡ some (below i (placeAt rows i 1) (placeAt rows i 3), i + 1))
-    unfolding kindAt byteOf
-    below-leaf e =
-        let first = tested (fieldAt rows i 1) (set .variables) _ (by-kind kBelow e) in
+    -- The kinds with two places.
+    Two : Term → Type 0
+    Two t = (fieldAt rows i 1 < set .variables) × (fieldAt rows i 3 < set .variables) × (leafAt set rows i ≡ some (t, i + 1))
+
+    two-tested : (t : Term) → leafAt set rows i ≡ onlyIf (ltb (fieldAt rows i 1) (set .variables)) (onlyIf (ltb (fieldAt rows i 3) (set .variables)) (some (t, i + 1))) → Two t
+    unfolding Two
+    two-tested t e =
+        let first = tested (fieldAt rows i 1) (set .variables) _ e in
         let second = tested (fieldAt rows i 3) (set .variables) _ (first .1) in
         (first .0, second .0, second .1)
 
+    below-leaf : fieldAt rows i 0 ≡ 10 → Two (below i (placeAt rows i 1) (placeAt rows i 3))
+    unfolding kindAt byteOf
+    below-leaf e = two-tested _ (by-kind kBelow e)
+
+    sum-leaf : fieldAt rows i 0 ≡ 13 → Two (sum i (placeAt rows i 1) (placeAt rows i 3))
+    unfolding kindAt byteOf
+    sum-leaf e = two-tested _ (by-kind kSum e)
+
+    pub pair-roots : (k : ℕ) → k ≡ fieldAt rows i 0 → (k ≡ 10) ⊎ (k ≡ 13) → (fieldAt rows i 1 < set .variables) × (fieldAt rows i 3 < set .variables)
+    unfolding Two
+    pair-roots k ek h = ⊎-elim (λ e. let b = below-leaf (sym ek ∙ e) in (b .0, b .1)) (λ e. let b = sum-leaf (sym ek ∙ e) in (b .0, b .1)) h
+
     -- ---- borrows, which are the kinds left
 
-    module _ (k : ℕ) (ek : k ≡ fieldAt rows i 0) (a : k ≡ 1 → ⊥) (b : k ≡ 2 → ⊥) (c : k ≡ 3 → ⊥) (d : k ≡ 4 → ⊥) (e : k ≡ 10 → ⊥) where
+    module _ (k : ℕ) (ek : k ≡ fieldAt rows i 0) (a : k ≡ 1 → ⊥) (b : k ≡ 2 → ⊥) (c : k ≡ 3 → ⊥) (d : k ≡ 4 → ⊥) (e : (k ≡ 10) ⊎ (k ≡ 13) → ⊥) where
       pub borrow-leaf : (fieldAt rows i 1 < set .variables) × ((readings : List ℤ) (s : State) → runOn readings (leafAt set rows i) s ≡ runBorrow s i (placeAt rows i 1))
       unfolding leafAt kindAt byteOf ranOn run
-      borrow-leaf = go (kindOf 1 (fieldAt rows i 0)) (ap (kindOf 1) ek) good
+      borrow-leaf = go (kindOf newest (fieldAt rows i 0)) (ap (kindOf newest) ek) good
         where
-          go : (o : Option Kind) → kindOf 1 k ≡ o → IsTree (kindAt o (set .variables) (λ j. none) rows i) → (fieldAt rows i 1 < set .variables) × ((readings : List ℤ) (s : State) → runOn readings (kindAt o (set .variables) (λ j. none) rows i) s ≡ runBorrow s i (placeAt rows i 1))
+          go : (o : Option Kind) → kindOf newest k ≡ o → IsTree (kindAt o (set .variables) (λ j. none) rows i) → (fieldAt rows i 1 < set .variables) × ((readings : List ℤ) (s : State) → runOn readings (kindAt o (set .variables) (λ j. none) rows i) s ≡ runBorrow s i (placeAt rows i 1))
           go none h t = absurd t
-          go (some kNumber) h t = absurd (a (sym (found 1 k kNumber h)))
-          go (some kReading) h t = absurd (b (sym (found 1 k kReading h)))
-          go (some kCopy) h t = absurd (c (sym (found 1 k kCopy h)))
-          go (some kMove) h t = absurd (d (sym (found 1 k kMove h)))
+          go (some kNumber) h t = absurd (a (sym (found newest k kNumber h)))
+          go (some kReading) h t = absurd (b (sym (found newest k kReading h)))
+          go (some kCopy) h t = absurd (c (sym (found newest k kCopy h)))
+          go (some kMove) h t = absurd (d (sym (found newest k kMove h)))
           go (some kShared) h t = let v = only-if (ltb (fieldAt rows i 1) (set .variables)) _ t in (ltb-true _ _ v, λ readings s. rw v)
           go (some kExclusive) h t = let v = only-if (ltb (fieldAt rows i 1) (set .variables)) _ t in (ltb-true _ _ v, λ readings s. rw v)
           go (some kBox) h t = absurd t
           go (some kLet) h t = absurd (only-in (ltb (fieldAt rows i 1) (set .variables)) none t)
           go (some kAssign) h t = absurd (only-in (ltb (fieldAt rows i 1) (set .variables)) none t)
-          go (some kBelow) h t = absurd (e (sym (found 1 k kBelow h)))
+          go (some kBelow) h t = absurd (e (inl (sym (found newest k kBelow h))))
+          go (some kSum) h t = absurd (e (inr (sym (found newest k kSum h))))
           go (some kBlock) h t = absurd (no-block i (fieldAt rows i 1) (i + 1) t)
 
     -- ---- the run of each
@@ -167,11 +191,11 @@ module _ (set : Limits) where
           is = λ taken opened. c .is i taken opened ∙ rw (p, q, r, s) (sym (rw e (d (stateAt set w taken opened))));
         }
 
-        pub leaf-below : (k : ℕ) → k ≡ fieldAt rows i 0 → k ≡ 10 → Tidy set w → (other others : ℕ) → other ≡ fieldAt rows i 3 → others ≡ fieldAt rows i 4 → (g : Gave) → Paired set (pairOf k) w root follows other others g → LeafRan set rows i readings w w g
-        unfolding run pairOf
-        leaf-below k ek e = leaf-pair _ (pairOf k) (below-leaf (sym ek ∙ e) .2) (λ s. rw e)
+        pub leaf-two : (k : ℕ) → k ≡ fieldAt rows i 0 → (k ≡ 10) ⊎ (k ≡ 13) → Tidy set w → (other others : ℕ) → other ≡ fieldAt rows i 3 → others ≡ fieldAt rows i 4 → (g : Gave) → Paired set (pairOf k) w root follows other others g → LeafRan set rows i readings w w g
+        unfolding run pairOf Two
+        leaf-two k ek h = ⊎-elim (λ e. leaf-pair _ (pairOf k) (below-leaf (sym ek ∙ e) .2) (λ s. rw e)) (λ e. leaf-pair _ (pairOf k) (sum-leaf (sym ek ∙ e) .2) (λ s. rw e)) h
 
-        pub leaf-borrow : (k : ℕ) → k ≡ fieldAt rows i 0 → (k ≡ 1 → ⊥) → (k ≡ 2 → ⊥) → (k ≡ 3 → ⊥) → (k ≡ 4 → ⊥) → (k ≡ 10 → ⊥) → Tidy set w → (g : Gave) → Borrowed set w root follows g → LeafRan set rows i readings w w g
+        pub leaf-borrow : (k : ℕ) → k ≡ fieldAt rows i 0 → (k ≡ 1 → ⊥) → (k ≡ 2 → ⊥) → (k ≡ 3 → ⊥) → (k ≡ 4 → ⊥) → ((k ≡ 10) ⊎ (k ≡ 13) → ⊥) → Tidy set w → (g : Gave) → Borrowed set w root follows g → LeafRan set rows i readings w w g
         leaf-borrow k ek a b c d e t g x = record {
           tidy = t;
           sound = x .sound;

@@ -5,12 +5,12 @@ use mathlib.Core.Path.{_≡_, refl, _∙_}
 use mathlib.Core.Bool.{Bool, true, false}
 use mathlib.Core.List.{List}
 use Rattle.reader.specs.Result.{need, pick}
-use Rattle.reader.specs.Script.{Place, Term, number, reading, copy, move, borrowShared, borrowExclusive, box, declare, assign, below, block, Terms, last, more}
+use Rattle.reader.specs.Script.{Place, Term, number, reading, copy, move, borrowShared, borrowExclusive, box, declare, assign, below, block, sum, Terms, last, more}
 use Rattle.machine.specs.Values.{Location, variable, cell, Value, empty, num, owner, reference, Row, closed, givenBack, openWith}
 use Rattle.machine.specs.Store.{Store, put, isOpen, valueIn, State, withStore, Ran}
 use Rattle.machine.specs.Locate.{followed, locateFrom, locate, filled, numberIn}
 use Rattle.machine.specs.Drop.{InOrder}
-use Rattle.machine.specs.Signed.{compared}
+use Rattle.machine.specs.Signed.{compared, heldSum}
 use Rattle.machine.specs.Run.{Outcome, runCopy, runMove, runBorrow, runNumber, runPair, runLet, runAssign, runBox, runBlockEnd, entered, begun, run, runs, runScript}
 use Rattle.machine.proofs.StoreLaws.{put-other}
 use Rattle.machine.proofs.DropLaws.{open-taken, without-in-order}
@@ -146,6 +146,7 @@ module _ (readings : ℕ → ℕ) where
     run-ordered (declare i x t) s h = keeps-then _ (run-ordered t s h) (λ o k. let-ordered (o .0) i k x (o .1))
     run-ordered (assign i p t) s h = keeps-then _ (run-ordered t s h) (λ o k. assign-ordered (o .0) i k p (o .1))
     run-ordered (below i p q) s h = pair-ordered s i h compared p q
+    run-ordered (sum i p q) s h = pair-ordered s i h heldSum p q
     run-ordered (block i ts) s h = keeps-then _ (runs-ordered ts i (entered s) h) (λ o k. end-ordered (o .0) i k (s .opened) (o .1))
 
     pub runs-ordered : (ts : Terms) (i : ℕ) (s : State) → InOrder s → Ordered (runs readings ts i s)

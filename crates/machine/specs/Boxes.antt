@@ -1,7 +1,7 @@
 -- The boxes that ran to their end (LANGUAGE 4.22, 7.4): a count along the run.
 use Prim.Native.Nat.{ℕ, _+_}
 use Rattle.reader.specs.Result.{Result, ok, err}
-use Rattle.reader.specs.Script.{Term, number, reading, copy, move, borrowShared, borrowExclusive, box, declare, assign, below, block, Terms, last, more}
+use Rattle.reader.specs.Script.{Term, number, reading, copy, move, borrowShared, borrowExclusive, box, declare, assign, below, block, sum, Terms, last, more}
 use Rattle.machine.specs.Store.{State}
 use Rattle.machine.specs.Drop.{dropValue}
 use Rattle.machine.specs.Run.{entered, run}
@@ -26,6 +26,7 @@ module _ (readings : ℕ → ℕ) where
     boxesRun (declare i x t) s = boxesRun t s
     boxesRun (assign i p t) s = boxesRun t s
     boxesRun (below i p q) s = 0
+    boxesRun (sum i p q) s = 0
     boxesRun (block i ts) s = boxesRunAll ts i (entered s)
 
     pub boxesRunAll : Terms → ℕ → State → ℕ

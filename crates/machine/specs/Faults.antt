@@ -4,12 +4,12 @@ use Prim.Native.Nat.{ℕ}
 use mathlib.Core.Path.{_≡_}
 use mathlib.Core.List.{List, _∷_}
 use Rattle.reader.specs.Result.{ok, err}
-use Rattle.reader.specs.Script.{Place, Term, copy, move, borrowShared, borrowExclusive, box, declare, assign, below, block, Terms, last, more}
+use Rattle.reader.specs.Script.{Place, Term, copy, move, borrowShared, borrowExclusive, box, declare, assign, below, block, sum, Terms, last, more}
 use Rattle.machine.specs.Values.{Location, variable, closed}
 use Rattle.machine.specs.Store.{Store, put, valueIn, State, withStore, Fault}
 use Rattle.machine.specs.Locate.{locate, numberIn}
 use Rattle.machine.specs.Drop.{dropValue}
-use Rattle.machine.specs.Signed.{compared}
+use Rattle.machine.specs.Signed.{compared, heldSum}
 use Rattle.machine.specs.Run.{Outcome, runCopy, runMove, runBorrow, runPair, runLet, entered, begun, run, runs}
 
 -- Closing the variables for block i, one after the other: dropping the value of one of them meets the fault.
@@ -28,6 +28,7 @@ module _ (readings : ℕ → ℕ) where
       at-shared : {i : ℕ} {p : Place} {s : State} {f : Fault} → runBorrow s i p ≡ err f → TermMeets (borrowShared i p) s f
       at-exclusive : {i : ℕ} {p : Place} {s : State} {f : Fault} → runBorrow s i p ≡ err f → TermMeets (borrowExclusive i p) s f
       at-below : {i : ℕ} {p q : Place} {s : State} {f : Fault} → runPair compared s i p q ≡ err f → TermMeets (below i p q) s f
+      at-sum : {i : ℕ} {p q : Place} {s : State} {f : Fault} → runPair heldSum s i p q ≡ err f → TermMeets (sum i p q) s f
       in-box : {i : ℕ} {t : Term} {s : State} {f : Fault} → TermMeets t s f → TermMeets (box i t) s f
       in-let : {i x : ℕ} {t : Term} {s : State} {f : Fault} → TermMeets t s f → TermMeets (declare i x t) s f
       at-let : {i x : ℕ} {t : Term} {s : State} {f : Fault} (o : Outcome) → run readings t s ≡ ok o → runLet (o .0) i x (o .1) ≡ err f → TermMeets (declare i x t) s f

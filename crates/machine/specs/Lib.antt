@@ -5,6 +5,7 @@ pub mod Encode
 pub mod Locate
 pub mod Drop
 pub mod Signed
+pub mod SumEnds
 pub mod Run
 pub mod Boxes
 pub mod Faults

@@ -8,7 +8,7 @@ use mathlib.Core.List.{List, [], _∷_}
 use lib.Dec.{eqb}
 use lib.IntN.{ℤ}
 use lib.ListN.{length, getD, set as replaced}
-use Rattle.reader.specs.Kinds.{kindOf, wrapsOf}
+use Rattle.reader.specs.Kinds.{newest, kindOf, wrapsOf}
 use Rattle.reader.specs.Result.{Result, ok, err, pick, _>>=_}
 use Rattle.reader.specs.Limits.{Limits, inRanges, rowNumbers, storeRows, storeNumbers}
 use Rattle.reader.specs.Script.{Place, Term, Terms, number}
@@ -103,7 +103,7 @@ runOn readings d s = ranOn (run (bitsOf readings)) d s
 
 -- The term at row i, if it has no inner term.
 unfoldable pub leafAt : Limits → List ℕ → ℕ → RowTree Term
-leafAt set rows i = kindAt (kindOf 1 (fieldAt rows i 0)) (set .variables) (λ j. none) rows i
+leafAt set rows i = kindAt (kindOf newest (fieldAt rows i 0)) (set .variables) (λ j. none) rows i
 
 pub record LeafReady (set : Limits) (rows : List ℕ) (i : ℕ) (readings : List ℤ) (w : List ℕ) : Type 0 where
   pub room : 5 * i + 5 ≤ length rows

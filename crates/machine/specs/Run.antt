@@ -3,12 +3,12 @@ use Prim.Native.Nat.{ℕ, suc}
 use mathlib.Core.Bool.{not}
 use mathlib.Core.List.{List, [], _∷_}
 use Rattle.reader.specs.Result.{ok, _>>=_, need, pick}
-use Rattle.reader.specs.Script.{Place, Term, number, reading, copy, move, borrowShared, borrowExclusive, box, declare, assign, below, block, Terms, last, more}
+use Rattle.reader.specs.Script.{Place, Term, number, reading, copy, move, borrowShared, borrowExclusive, box, declare, assign, below, block, sum, Terms, last, more}
 use Rattle.machine.specs.Values.{variable, cell, Value, empty, num, owner, reference, openWith}
 use Rattle.machine.specs.Store.{Store, cleared, put, isOpen, valueIn, State, withStore, Ran}
 use Rattle.machine.specs.Locate.{locate, filled, numberIn}
 use Rattle.machine.specs.Drop.{dropValue, closeAll}
-use Rattle.machine.specs.Signed.{compared}
+use Rattle.machine.specs.Signed.{compared, heldSum}
 
 -- The state afterwards and the term's value; no value is empty here (LANGUAGE 4.19).
 abbrev pub Outcome : Type 0
@@ -93,6 +93,7 @@ module _ (readings : ℕ → ℕ) where
     run (declare i x t) s = run t s >>= λ o. runLet (o .0) i x (o .1)
     run (assign i p t) s = run t s >>= λ o. runAssign (o .0) i p (o .1)
     run (below i p q) s = runPair compared s i p q
+    run (sum i p q) s = runPair heldSum s i p q
     run (block i ts) s = runs ts i (entered s) >>= λ o. runBlockEnd i (s .opened) o
 
     -- The terms of block i (LANGUAGE 4.17): each value but the last is dropped after its term.

@@ -18,9 +18,6 @@ use reader::fields::field_at;
 use reader::fields::index_of;
 use reader::kinds;
 
-// TODO move: the kind of a sum.
-const SUM: u32 = 13;
-
 // A fault (LANGUAGE 4.5), and no value.
 fn failed(fault: u32) -> Gave
     ensures { λ r. ⌜ (r .fault ≡ fault) × (r .kind ≡ 0) × (r .payload ≡ 0) ⌝ }
@@ -116,7 +113,7 @@ pub fn run_number(sizes: usize, store: &[u32], root: usize, follows: usize) -> G
 fn paired(kind: u32, a: u32, b: u32) -> u32
     ensures { λ r. ⌜ r ≡ pairOf kind a b ⌝ }
 {
-    if kind == SUM {
+    if kind == kinds::SUM {
         return sum_bits(a, b);
     }
     if raised(a) < raised(b) {
@@ -163,7 +160,7 @@ pub fn run_leaf(sizes: usize, rows: &[u32], i: usize, readings: &[i32], store: &
         kinds::READING => numbered(reading_bits(readings, root)),
         kinds::COPY => run_copy(sizes, store, root, follows),
         kinds::MOVE => run_move(sizes, store, root, follows),
-        kinds::BELOW => {
+        kinds::BELOW | kinds::SUM => {
             let other = index_of(field_at(rows, i, 3));
             let others = index_of(field_at(rows, i, 4));
             run_pair(sizes, store, kind, root, follows, other, others)

@@ -7,7 +7,7 @@ use lib.Dec.{ltb}
 use Rattle.reader.specs.Result.{ok}
 use Rattle.reader.specs.Script as script
 use Rattle.reader.specs.Script.{Term}
-use Rattle.reader.specs.Kinds.{Kind, kNumber, kReading, kCopy, kMove, kShared, kExclusive, kBox, kLet, kAssign, kBelow, kBlock, byteOf, kindOf}
+use Rattle.reader.specs.Kinds.{Kind, kNumber, kReading, kCopy, kMove, kShared, kExclusive, kBox, kLet, kAssign, kBelow, kBlock, kSum, newest, byteOf, kindOf}
 use Rattle.reader.specs.RowParts.{fieldAt}
 use Rattle.reader.specs.RowTrees.{placeAt, RowTree, IsTree, kindAt, treeAt}
 use Rattle.reader.proofs.KindBytes.{found}
@@ -22,31 +22,32 @@ use Rattle.rules.specs.Verdicts.{answered}
 use Rattle.ownership.specs.JudgeRows.{rowPlace, atRow, ended, judgedAt, judgeAt, judgeLeaf}
 
 -- Number and reading, and what the term judge never hands on.
-pub leaf-number : (nv k i : ℕ) (p q : script.Place) (Γ : Environment) → (k ≡ 3 → ⊥) → (k ≡ 4 → ⊥) → (k ≡ 5 → ⊥) → (k ≡ 6 → ⊥) → (k ≡ 10 → ⊥) → judgeLeaf nv (kindOf 1 k) i p q Γ ≡ ok (Γ, some numberTy)
+pub leaf-number : (nv k i : ℕ) (p q : script.Place) (Γ : Environment) → (k ≡ 3 → ⊥) → (k ≡ 4 → ⊥) → (k ≡ 5 → ⊥) → (k ≡ 6 → ⊥) → (k ≡ 10 → ⊥) → (k ≡ 13 → ⊥) → judgeLeaf nv (kindOf newest k) i p q Γ ≡ ok (Γ, some numberTy)
 unfolding judgeLeaf byteOf
-leaf-number nv k i p q Γ a b c d e = go (kindOf 1 k) refl
+leaf-number nv k i p q Γ a b c d e f = go (kindOf newest k) refl
   where
-    go : (o : Option Kind) → kindOf 1 k ≡ o → judgeLeaf nv o i p q Γ ≡ ok (Γ, some numberTy)
+    go : (o : Option Kind) → kindOf newest k ≡ o → judgeLeaf nv o i p q Γ ≡ ok (Γ, some numberTy)
     go none h = refl
     go (some kNumber) h = refl
     go (some kReading) h = refl
-    go (some kCopy) h = absurd (a (sym (found 1 k kCopy h)))
-    go (some kMove) h = absurd (b (sym (found 1 k kMove h)))
-    go (some kShared) h = absurd (c (sym (found 1 k kShared h)))
-    go (some kExclusive) h = absurd (d (sym (found 1 k kExclusive h)))
+    go (some kCopy) h = absurd (a (sym (found newest k kCopy h)))
+    go (some kMove) h = absurd (b (sym (found newest k kMove h)))
+    go (some kShared) h = absurd (c (sym (found newest k kShared h)))
+    go (some kExclusive) h = absurd (d (sym (found newest k kExclusive h)))
     go (some kBox) h = refl
     go (some kLet) h = refl
     go (some kAssign) h = refl
-    go (some kBelow) h = absurd (e (sym (found 1 k kBelow h)))
+    go (some kBelow) h = absurd (e (sym (found newest k kBelow h)))
     go (some kBlock) h = refl
+    go (some kSum) h = absurd (f (sym (found newest k kSum h)))
 
-pub leaf-judged : (nv l : ℕ) (rows : List ℕ) (i : ℕ) → IsTree (treeAt nv l rows i) → (level : ℕ) (Γ : Environment) (k : ℕ) → k ≡ fieldAt rows i 0 → (k ≡ 7 → ⊥) × (k ≡ 8 → ⊥) × (k ≡ 9 → ⊥) → (k ≡ 11 → ⊥) → (p q : Place) → p ≡ rowPlace rows i 1 → q ≡ rowPlace rows i 3 → (Γ₁ : Environment) (out : Verdict) → answered Γ₁ out ≡ judgeLeaf nv (kindOf 1 k) i (asPlace p) (asPlace q) Γ → ended Γ₁ (record { next = i + 1; verdict = out }) ≡ judgeAt nv (treeAt nv l rows i) level Γ
+pub leaf-judged : (nv l : ℕ) (rows : List ℕ) (i : ℕ) → IsTree (treeAt nv l rows i) → (level : ℕ) (Γ : Environment) (k : ℕ) → k ≡ fieldAt rows i 0 → (k ≡ 7 → ⊥) × (k ≡ 8 → ⊥) × (k ≡ 9 → ⊥) → (k ≡ 11 → ⊥) → (p q : Place) → p ≡ rowPlace rows i 1 → q ≡ rowPlace rows i 3 → (Γ₁ : Environment) (out : Verdict) → answered Γ₁ out ≡ judgeLeaf nv (kindOf newest k) i (asPlace p) (asPlace q) Γ → ended Γ₁ (record { next = i + 1; verdict = out }) ≡ judgeAt nv (treeAt nv l rows i) level Γ
 unfolding ended judgedAt judge kindAt judgeLeaf byteOf
 leaf-judged nv l rows i good level Γ k ek n d p q ep eq Γ₁ out w =
-    let z : treeAt nv l rows i ≡ kindAt (kindOf 1 k) nv (treeAt nv (l - 1) rows) rows i = tree-kind nv l rows i (kindOf 1 k) good (rw ek) in
-    rw (w, ep, eq, z) (go (treeAt nv (l - 1) rows) (kindOf 1 k) refl (rw z at good))
+    let z : treeAt nv l rows i ≡ kindAt (kindOf newest k) nv (treeAt nv (l - 1) rows) rows i = tree-kind nv l rows i (kindOf newest k) good (rw ek) in
+    rw (w, ep, eq, z) (go (treeAt nv (l - 1) rows) (kindOf newest k) refl (rw z at good))
   where
-    go : (f : ℕ → RowTree Term) (o : Option Kind) → kindOf 1 k ≡ o → IsTree (kindAt o nv f rows i) → atRow (i + 1) (judgeLeaf nv o i (placeAt rows i 1) (placeAt rows i 3) Γ) ≡ judgeAt nv (kindAt o nv f rows i) level Γ
+    go : (f : ℕ → RowTree Term) (o : Option Kind) → kindOf newest k ≡ o → IsTree (kindAt o nv f rows i) → atRow (i + 1) (judgeLeaf nv o i (placeAt rows i 1) (placeAt rows i 3) Γ) ≡ judgeAt nv (kindAt o nv f rows i) level Γ
     go f none h t = absurd t
     go f (some kNumber) h t = refl
     go f (some kReading) h t = rw (only-is _ _ t)
@@ -54,10 +55,13 @@ leaf-judged nv l rows i good level Γ k ek n d p q ep eq Γ₁ out w =
     go f (some kMove) h t = rw (only-is _ _ t)
     go f (some kShared) h t = rw (only-is _ _ t)
     go f (some kExclusive) h t = rw (only-is _ _ t)
-    go f (some kBox) h t = absurd (n .0 (sym (found 1 k kBox h)))
-    go f (some kLet) h t = absurd (n .1 (sym (found 1 k kLet h)))
-    go f (some kAssign) h t = absurd (n .2 (sym (found 1 k kAssign h)))
+    go f (some kBox) h t = absurd (n .0 (sym (found newest k kBox h)))
+    go f (some kLet) h t = absurd (n .1 (sym (found newest k kLet h)))
+    go f (some kAssign) h t = absurd (n .2 (sym (found newest k kAssign h)))
     go f (some kBelow) h t =
         let u = only-in (ltb (fieldAt rows i 1) nv) _ t in
         rw (only-is (ltb (fieldAt rows i 1) nv) _ t, only-is (ltb (fieldAt rows i 3) nv) _ u)
-    go f (some kBlock) h t = absurd (d (sym (found 1 k kBlock h)))
+    go f (some kSum) h t =
+        let u = only-in (ltb (fieldAt rows i 1) nv) _ t in
+        rw (only-is (ltb (fieldAt rows i 1) nv) _ t, only-is (ltb (fieldAt rows i 3) nv) _ u)
+    go f (some kBlock) h t = absurd (d (sym (found newest k kBlock h)))

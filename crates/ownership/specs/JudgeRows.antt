@@ -8,7 +8,7 @@ use lib.Dec.{eqb}
 use lib.ListN.{length}
 use Rattle.reader.specs.Result.{ok, err, pick, _>>=_}
 use Rattle.reader.specs.Script.{Place, Term, Terms}
-use Rattle.reader.specs.Kinds.{Kind, kNumber, kReading, kCopy, kMove, kShared, kExclusive, kBox, kLet, kAssign, kBelow, kBlock, wrapsOf}
+use Rattle.reader.specs.Kinds.{Kind, kNumber, kReading, kCopy, kMove, kShared, kExclusive, kBox, kLet, kAssign, kBelow, kBlock, kSum, wrapsOf}
 use Rattle.reader.specs.RowParts.{fieldAt}
 use Rattle.reader.specs.RowTrees.{placeAt, RowTree, severalAt}
 use Rattle.rules.specs.declared.table.Place as table
@@ -88,6 +88,7 @@ judgeLeaf nv (some kLet) i p q Γ = ok (Γ, some numberTy)
 judgeLeaf nv (some kAssign) i p q Γ = ok (Γ, some numberTy)
 judgeLeaf nv (some kBelow) i p q Γ = judgeBelow nv Γ i p q
 judgeLeaf nv (some kBlock) i p q Γ = ok (Γ, some numberTy)
+judgeLeaf nv (some kSum) i p q Γ = judgeBelow nv Γ i p q
 
 unfoldable pub scriptAt : ℕ → RowTree Term → Judged (Unit {0})
 scriptAt nv none = err (0, 0)

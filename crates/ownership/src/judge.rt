@@ -3,7 +3,7 @@
 ghost use mathlib.Core.Path.{_≡_};
 ghost use mathlib.Core.Bool.{false};
 ghost use Prim.Native.Nat.{_<_, _+_};
-ghost use Rattle.reader.specs.Kinds.{kindOf, wrapsOf};
+ghost use Rattle.reader.specs.Kinds.{newest, kindOf, wrapsOf};
 ghost use Rattle.reader.specs.RowParts.{fieldAt};
 ghost use Rattle.reader.specs.RowTrees.{IsTree, IsRest, treeAt};
 ghost use Rattle.rules.specs.Judge.{nothingTaken};
@@ -48,14 +48,14 @@ fn judge_leaf(
     second: Place,
 ) -> Verdict
     requires { ⌜ TableFor (now env) variables ⌝ }
-    ensures { λ r. ⌜ (answered (environmentOf (now (env .exit))) r ≡ judgeLeaf variables (kindOf 1 kind) i (asPlace first) (asPlace second) (environmentOf (now (env .entry)))) × TableFor (now (env .exit)) variables ⌝ }
+    ensures { λ r. ⌜ (answered (environmentOf (now (env .exit))) r ≡ judgeLeaf variables (kindOf newest kind) i (asPlace first) (asPlace second) (environmentOf (now (env .entry)))) × TableFor (now (env .exit)) variables ⌝ }
 {
     match kind {
         kinds::COPY => judge_copy(env, variables, i, first),
         kinds::MOVE => judge_move(env, variables, i, first),
         kinds::SHARED => judge_shared(env, variables, i, first),
         kinds::EXCLUSIVE => judge_exclusive(env, variables, i, first),
-        kinds::BELOW => judge_below(env, variables, i, first, second),
+        kinds::BELOW | kinds::SUM => judge_below(env, variables, i, first, second),
         _ => number_value(),
     }
 }

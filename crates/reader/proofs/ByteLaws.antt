@@ -19,14 +19,14 @@ use Rattle.reader.specs.Kinds.{Kind, kBlock, byteOf, kindOf, Field, word
 use Rattle.reader.specs.Layout.{inBytes}
 use Rattle.reader.specs.Reader.{Cursor, Reads, _>>=_, done, placeIn, expect, peek, skip, next, ranged, field, operands, is, boxesOf, ended, restOfRow, opening, built, term}
 use Rattle.reader.specs.Within.{Ranges}
-use Rattle.reader.specs.Parts.{cursor, IsKind, fieldsOf}
+use Rattle.reader.specs.Parts.{cursor, knownIn, IsKind, fieldsOf}
 use Rattle.reader.specs.Parts.{placeFields}
 use Rattle.reader.specs.ByteParts.{openingNumber, fieldNumber, wordAt, onNumber, judgedFields, valuesAt, oneField}
 use Rattle.reader.specs.declared.operands.Fields.{Fields}
 use Rattle.reader.specs.declared.operands.Fields.the-variants.{Fine, Refused}
 use Rattle.reader.proofs.Answers.{go-on, stops}
 use Rattle.reader.proofs.KindBytes.{found}
-use Rattle.reader.proofs.KnownKinds.{kind-some, kind-none, fields-of}
+use Rattle.reader.proofs.KnownKinds.{known-is, known-some, known-none, fields-of}
 use Rattle.reader.proofs.NumberLaws.{number-fine}
 use Rattle.reader.proofs.TermSteps.{peek-ok, peek-err, expect-ok, expect-err, opening-12, opening-13, opening-18, opening-16, opening-ok, term-refused, term-deep, term-boxes, past, term-operands-refused, term-built}
 
@@ -200,16 +200,16 @@ module _ (t : List ℕ) (at : ℕ) where
       ((q .1, q .2), values-range bytes fs (j + 1) used (q .3))
 
 -- A kind byte at which nothing is refused.
-pub record Clear (l : Limits) (levels : ℕ) (outer : Bool) (t : List ℕ) (at n b : ℕ) : Type 0 where
+pub record Clear (l : Limits) (v levels : ℕ) (outer : Bool) (t : List ℕ) (at n b : ℕ) : Type 0 where
   pub k : Kind
-  pub kind : kindOf 1 (getD t 0 0) ≡ some k
+  pub kind : kindOf v (getD t 0 0) ≡ some k
   pub byte : byteOf k ≡ getD t 0 0
   pub is-kind : IsKind (getD t 0 0)
   pub bytes : 0 < length t
   pub room : n < l .terms
   pub deep : 0 < levels
   pub few : leb (b + boxesOf k) (l .boxes) ≡ true
-  pub opens : opening l 1 inBytes outer (cursor t at n b) ≡ ok (k, cursor t at n b)
+  pub opens : opening l v inBytes outer (cursor t at n b) ≡ ok (k, cursor t at n b)
 
 -- The tests of `opening` and `term`, in the code's words.
 module _ (l : Limits) (x : ℕ) (k : Kind) (e : byteOf k ≡ x) where
@@ -227,7 +227,7 @@ module _ (l : Limits) (x : ℕ) (k : Kind) (e : byteOf k ≡ x) where
       go true false q = le-leb (b + 1) (l .boxes) (omega (arith, leb-false (l .boxes) b q))
       go false z q = le-leb (b + 0) (l .boxes) (omega arith)
 
-module _ (l : Limits) (levels : ℕ) (outer : Bool) (t : List ℕ) (at n b : ℕ) (fits : b ≤ l .boxes) where
+module _ (l : Limits) (v levels : ℕ) (outer : Bool) (t : List ℕ) (at n b : ℕ) (fits : b ≤ l .boxes) where
   abbrev x : ℕ
   x = getD t 0 0
 
@@ -236,47 +236,47 @@ module _ (l : Limits) (levels : ℕ) (outer : Bool) (t : List ℕ) (at n b : ℕ
 
   -- What the number of the refusal at a kind byte says of the term.
   abbrev Opened : ℕ → Type 0
-  Opened zero = Clear l levels outer t at n b
-  Opened (suc m) = term l 1 inBytes levels outer s ≡ err (suc m, at)
+  Opened zero = Clear l v levels outer t at n b
+  Opened (suc m) = term l v inBytes levels outer s ≡ err (suc m, at)
 
   no-bytes : length t ≡ 0 → Opened 12
   unfolding placeIn
-  no-bytes h = term-refused l 1 inBytes outer s levels _ (opening-12 l 1 inBytes outer s (drop-of-length-le t (le-of-eq h)))
+  no-bytes h = term-refused l v inBytes outer s levels _ (opening-12 l v inBytes outer s (drop-of-length-le t (le-of-eq h)))
 
   module _ (full : 0 < length t) where
     starts : t ≡ x ∷ drop 1 t
     starts = drop-cons t 0 0 full
 
-    unknown : (IsKind x → ⊥) → Opened 13
+    unknown : knownIn v x ≡ false → Opened 13
     unfolding placeIn ended
-    unknown h = term-refused l 1 inBytes outer s levels _ (opening-13 l 1 inBytes outer s x _ starts refl (kind-none x h))
+    unknown h = term-refused l v inBytes outer s levels _ (opening-13 l v inBytes outer s x _ starts refl (known-none x v h))
 
-    module _ (known : IsKind x) (k : Kind) (h : kindOf 1 x ≡ some k) where
+    module _ (known : IsKind x) (k : Kind) (h : kindOf v x ≡ some k) where
       asked : (p : Bool) → (outer && not (eqb x 11)) ≡ p → (not outer || is k kBlock) ≡ not p
-      asked p e = block-where-asked l x k (found 1 x k h) outer ∙ ap not e
+      asked p e = block-where-asked l x k (found v x k h) outer ∙ ap not e
 
       left : (p : Bool) → (eqb x 7 && leb (l .boxes) b) ≡ p → leb (b + boxesOf k) (l .boxes) ≡ not p
-      left p e = boxes-left l x k (found 1 x k h) b fits ∙ ap not e
+      left p e = boxes-left l x k (found v x k h) b fits ∙ ap not e
 
-      opens : (outer && not (eqb x 11)) ≡ false → leb (l .terms) n ≡ false → opening l 1 inBytes outer s ≡ ok (k, s)
-      opens e₁ e₂ = opening-ok l 1 inBytes outer s x _ starts k h (asked false e₁) (lt-ltb n (l .terms) (leb-false (l .terms) n e₂))
+      opens : (outer && not (eqb x 11)) ≡ false → leb (l .terms) n ≡ false → opening l v inBytes outer s ≡ ok (k, s)
+      opens e₁ e₂ = opening-ok l v inBytes outer s x _ starts k h (asked false e₁) (lt-ltb n (l .terms) (leb-false (l .terms) n e₂))
 
       -- The tests for 18, 16, 15 and 17.
       at-kind : (p q r u : Bool) → (outer && not (eqb x 11)) ≡ p → leb (l .terms) n ≡ q → eqb levels 0 ≡ r → (eqb x 7 && leb (l .boxes) b) ≡ u → Opened (pick p 18 (pick q 16 (pick r 15 (pick u 17 0))))
       unfolding placeIn
-      at-kind true q r u e₁ e₂ e₃ e₄ = term-refused l 1 inBytes outer s levels _ (opening-18 l 1 inBytes outer s x _ starts k h (asked true e₁))
+      at-kind true q r u e₁ e₂ e₃ e₄ = term-refused l v inBytes outer s levels _ (opening-18 l v inBytes outer s x _ starts k h (asked true e₁))
       at-kind false true r u e₁ e₂ e₃ e₄ =
-          term-refused l 1 inBytes outer s levels _
-          (opening-16 l 1 inBytes outer s x _ starts k h (asked false e₁) (le-ltb n (l .terms) (leb-true (l .terms) n e₂)))
-      at-kind false false true u e₁ e₂ e₃ e₄ = rw (eqb-true levels 0 e₃) (term-deep l 1 inBytes outer s k (opens e₁ e₂))
+          term-refused l v inBytes outer s levels _
+          (opening-16 l v inBytes outer s x _ starts k h (asked false e₁) (le-ltb n (l .terms) (leb-true (l .terms) n e₂)))
+      at-kind false false true u e₁ e₂ e₃ e₄ = rw (eqb-true levels 0 e₃) (term-deep l v inBytes outer s k (opens e₁ e₂))
       at-kind false false false true e₁ e₂ e₃ e₄ =
-          subst (λ (d : ℕ). term l 1 inBytes d outer s ≡ err (17, at)) (omega (arith, eqb-false levels 0 e₃))
-          (term-boxes l 1 inBytes outer s k (opens e₁ e₂) (levels - 1) (left true e₄))
+          subst (λ (d : ℕ). term l v inBytes d outer s ≡ err (17, at)) (omega (arith, eqb-false levels 0 e₃))
+          (term-boxes l v inBytes outer s k (opens e₁ e₂) (levels - 1) (left true e₄))
       at-kind false false false false e₁ e₂ e₃ e₄ =
           record {
             k = k;
             kind = h;
-            byte = found 1 x k h;
+            byte = found v x k h;
             is-kind = known;
             bytes = full;
             room = leb-false (l .terms) n e₂;
@@ -285,41 +285,39 @@ module _ (l : Limits) (levels : ℕ) (outer : Bool) (t : List ℕ) (at n b : ℕ
             opens = opens e₁ e₂;
           }
 
-  opening-is : Opened (openingNumber l levels outer t n b)
+  opening-is : Opened (openingNumber l v levels outer t n b)
   unfolding openingNumber
-  opening-is = go (eqb (length t) 0) (eqb x 0) (ltb 11 x) refl refl refl
+  opening-is = go (eqb (length t) 0) (knownIn v x) refl refl
     where
-      go : (p q r : Bool) → eqb (length t) 0 ≡ p → eqb x 0 ≡ q → ltb 11 x ≡ r → Opened (pick p 12 (pick q 13 (pick r 13 (pick (outer && not (eqb x 11)) 18 (pick (leb (l .terms) n) 16 (pick (eqb levels 0) 15 (pick (eqb x 7 && leb (l .boxes) b) 17 0)))))))
-      go true q r e₁ e₂ e₃ = no-bytes (eqb-true _ _ e₁)
-      go false true r e₁ e₂ e₃ = unknown (omega (arith, eqb-false (length t) 0 e₁)) (λ h. omega (arith, eqb-true x 0 e₂))
-      go false false true e₁ e₂ e₃ = unknown (omega (arith, eqb-false (length t) 0 e₁)) (λ h. omega (arith, ltb-true 11 x e₃))
-      go false false false e₁ e₂ e₃ =
-          let h : IsKind x = (omega (arith, eqb-false x 0 e₂), ltb-false 11 x e₃) in
-          let o = kind-some x h in
-          at-kind (omega (arith, eqb-false (length t) 0 e₁)) h (o .0) (o .1) (outer && not (eqb x 11)) (leb (l .terms) n) (eqb levels 0) (eqb x 7 && leb (l .boxes) b) refl refl refl refl
+      go : (p q : Bool) → eqb (length t) 0 ≡ p → knownIn v x ≡ q → Opened (pick p 12 (pick (not q) 13 (pick (outer && not (eqb x 11)) 18 (pick (leb (l .terms) n) 16 (pick (eqb levels 0) 15 (pick (eqb x 7 && leb (l .boxes) b) 17 0))))))
+      go true q e₁ e₂ = no-bytes (eqb-true _ _ e₁)
+      go false false e₁ e₂ = unknown (omega (arith, eqb-false (length t) 0 e₁)) e₂
+      go false true e₁ e₂ =
+          let o = known-some x v e₂ in
+          at-kind (omega (arith, eqb-false (length t) 0 e₁)) (known-is x v e₂ .0) (o .0) (o .1) (outer && not (eqb x 11)) (leb (l .terms) n) (eqb levels 0) (eqb x 7 && leb (l .boxes) b) refl refl refl refl
 
   -- The code's number of a refusal at a kind byte is the reader's, and where there is none, the term goes on with its operands.
-  pub opening-refused : (m : ℕ) → openingNumber l levels outer t n b ≡ suc m → term l 1 inBytes levels outer (cursor t at n b) ≡ err (suc m, at)
+  pub opening-refused : (m : ℕ) → openingNumber l v levels outer t n b ≡ suc m → term l v inBytes levels outer (cursor t at n b) ≡ err (suc m, at)
   opening-refused m e = subst Opened e opening-is
 
-  pub opening-clear : openingNumber l levels outer t n b ≡ 0 → Clear l levels outer t at n b
+  pub opening-clear : openingNumber l v levels outer t n b ≡ 0 → Clear l v levels outer t at n b
   opening-clear e = subst Opened e opening-is
 
-module _ {l : Limits} {levels : ℕ} {outer : Bool} {t : List ℕ} {at n b : ℕ} (c : Clear l levels outer t at n b) where
+module _ {l : Limits} {v levels : ℕ} {outer : Bool} {t : List ℕ} {at n b : ℕ} (c : Clear l v levels outer t at n b) where
   past-kind : operands inBytes (fields l (c .k)) (past (c .k) (cursor t at n b)) ≡ onFields (judgedFields (fieldsOf l (getD t 0 0)) t at 1) (valuesAt (fields l (c .k)) t 1) t at (suc n) (b + boxesOf (c .k))
-  past-kind = rw (fields-of (getD t 0 0) l (c .k) (c .kind), ← add-one at) (operands-are t at (suc n) (b + boxesOf (c .k)) (fields l (c .k)) 1 (c .bytes))
+  past-kind = rw (fields-of (getD t 0 0) l v (c .k) (c .kind), ← add-one at) (operands-are t at (suc n) (b + boxesOf (c .k)) (fields l (c .k)) 1 (c .bytes))
 
   one-deeper : suc (levels - 1) ≡ levels
   one-deeper = omega (arith, c .deep)
 
-  pub term-stops : (m p : ℕ) → judgedFields (fieldsOf l (getD t 0 0)) t at 1 ≡ Refused m p → term l 1 inBytes levels outer (cursor t at n b) ≡ err (m, p)
+  pub term-stops : (m p : ℕ) → judgedFields (fieldsOf l (getD t 0 0)) t at 1 ≡ Refused m p → term l v inBytes levels outer (cursor t at n b) ≡ err (m, p)
   unfolding onFields
   term-stops m p e =
-      subst (λ (d : ℕ). term l 1 inBytes d outer (cursor t at n b) ≡ err (m, p)) one-deeper
-      (term-operands-refused l 1 inBytes outer (cursor t at n b) (c .k) (c .opens) (levels - 1) (c .few) (m, p) (rw e at past-kind))
+      subst (λ (d : ℕ). term l v inBytes d outer (cursor t at n b) ≡ err (m, p)) one-deeper
+      (term-operands-refused l v inBytes outer (cursor t at n b) (c .k) (c .opens) (levels - 1) (c .few) (m, p) (rw e at past-kind))
 
-  pub term-goes : (used : ℕ) → judgedFields (fieldsOf l (getD t 0 0)) t at 1 ≡ Fine used → term l 1 inBytes levels outer (cursor t at n b) ≡ built (c .k) n (valuesAt (fields l (c .k)) t 1) (term l 1 inBytes (levels - 1)) (cursor (drop used t) (at + used) (suc n) (b + boxesOf (c .k)))
+  pub term-goes : (used : ℕ) → judgedFields (fieldsOf l (getD t 0 0)) t at 1 ≡ Fine used → term l v inBytes levels outer (cursor t at n b) ≡ built (c .k) n (valuesAt (fields l (c .k)) t 1) (term l v inBytes (levels - 1)) (cursor (drop used t) (at + used) (suc n) (b + boxesOf (c .k)))
   unfolding onFields restOfRow done
   term-goes used e =
-      subst (λ (d : ℕ). term l 1 inBytes d outer (cursor t at n b) ≡ built (c .k) n (valuesAt (fields l (c .k)) t 1) (term l 1 inBytes (levels - 1)) (cursor (drop used t) (at + used) (suc n) (b + boxesOf (c .k)))) one-deeper
-      (term-built l 1 inBytes outer (cursor t at n b) (c .k) (c .opens) (levels - 1) (c .few) _ _ (rw e at past-kind) _ refl)
+      subst (λ (d : ℕ). term l v inBytes d outer (cursor t at n b) ≡ built (c .k) n (valuesAt (fields l (c .k)) t 1) (term l v inBytes (levels - 1)) (cursor (drop used t) (at + used) (suc n) (b + boxesOf (c .k)))) one-deeper
+      (term-built l v inBytes outer (cursor t at n b) (c .k) (c .opens) (levels - 1) (c .few) _ _ (rw e at past-kind) _ refl)

@@ -14,6 +14,7 @@ pub mod Refusals
 pub mod BlockLaws
 pub mod OperandLaws
 pub mod TermLaws
+pub mod Versions
 pub mod Leading
 pub mod Ranges
 pub mod SetFirst

@@ -9,15 +9,15 @@ use borrow.Author.Tests.{eqb-true, eq-eqb}
 use Rattle.reader.specs.Result.{Result, ok, need, Refusal, _>>=_}
 use Rattle.reader.specs.Limits.{Limits, inRanges, rowNumbers}
 use Rattle.reader.specs.Larger.{NoSmaller}
-use Rattle.reader.specs.Script.{Term}
+use Rattle.reader.specs.Script.{Term, Whole}
 use Rattle.reader.specs.Layout.{bytesOf, rowsOf}
 use Rattle.reader.specs.Measures.{size}
 use Rattle.reader.specs.Within.{Under}
-use Rattle.reader.specs.Answers.{readOf, rowsTree, judgedOf, writable, writtenInto, writtenOf}
+use Rattle.reader.specs.Answers.{Told, readOf, rowsTree, judgedOf, givenWhole, writable, writtenInto, writtenOf}
 use Rattle.reader.proofs.Answers.{then, needed}
 use Rattle.reader.proofs.RoundTrip.{decoded, decodes, rows-length}
-use Rattle.reader.proofs.MoreLimits.{within-more}
-use Rattle.reader.proofs.Undo.{read-says, reads-tree}
+use Rattle.reader.proofs.MoreLimits.{within-more, allowed-more}
+use Rattle.reader.proofs.Undo.{given-says, read-says, reads-tree, gives-tree}
 
 module _ (l m : Limits) (n : NoSmaller l m) (r : inRanges m ≡ true) where
   pub tree-more : (rows : List ℕ) (t : Term) → Under 4294967296 rows → rowsTree l rows ≡ ok t → (rows ≡ rowsOf l t) × (rowsTree m (rowsOf m t) ≡ ok t)
@@ -33,13 +33,16 @@ module _ (l m : Limits) (n : NoSmaller l m) (r : inRanges m ≡ true) where
   unfolding judgedOf
   judge-more rows t u h = ap (λ (x : Result Refusal Term). x >>= λ t. ok (size t)) (tree-more rows t u h .1 ∙ sym h)
 
-  pub write-more : (rows output : List ℕ) (t : Term) → Under 4294967296 rows → rowsTree l rows ≡ ok t → writtenOf m (rowsOf m t) output ≡ writtenOf l rows output
+  pub write-more : (v : ℕ) (rows output : List ℕ) (s : Whole) → Under 4294967296 rows → givenWhole l v rows ≡ ok s → writtenOf m v (rowsOf m (s .term)) output ≡ writtenOf l v rows output
   unfolding writtenOf writable
-  write-more rows output t u h = ap (λ (x : Result Refusal Term). writtenInto output (x >>= λ t. need (leb (length (bytesOf t)) (length output)) (5, 0) >>= λ _. ok t)) (tree-more rows t u h .1 ∙ sym h)
+  write-more v rows output s u h =
+      let a = given-says l v rows s u h in
+      let again : givenWhole m v (rowsOf m (s .term)) ≡ ok s = ap (λ (k : ℕ). givenWhole m k (rowsOf m (s .term))) (a .2) ∙ gives-tree m s r (allowed-more l m n s (a .1)) in
+      ap (λ (x : Result Refusal Whole). writtenInto output (x >>= λ s. need (leb (length (bytesOf s)) (length output)) (5, 0) >>= λ _. ok s)) (again ∙ sym h)
 
-  pub read-more : (script rows : List ℕ) (k : ℕ) (rows′ others : List ℕ) → Under 256 script → length others ≡ rowNumbers m → readOf l script rows ≡ (ok k, rows′)
-      → (t : Term) × (rows′ ≡ rowsOf l t) × (readOf m script others ≡ (ok k, rowsOf m t))
-  read-more script rows k rows′ others u e h =
-      let q = read-says l script rows k rows′ u h in
-      let t = q .1 in
-      (t, q .5, ap (λ (x : List ℕ). readOf m x others) (q .3) ∙ reads-tree m t others r (within-more l m n t (q .2)) e ∙ ap (λ (x : ℕ). (ok x, rowsOf m t)) (sym (q .4)))
+  pub read-more : (k : ℕ) (script rows : List ℕ) (a : Told) (rows′ others : List ℕ) → Under 256 script → length others ≡ rowNumbers m → readOf l k script rows ≡ (ok a, rows′)
+      → (t : Term) × (rows′ ≡ rowsOf l t) × (readOf m k script others ≡ (ok a, rowsOf m t))
+  read-more k script rows a rows′ others u e h =
+      let q = read-says l k script rows a rows′ u h in
+      let s = q .1 in
+      (s .term, q .6, ap (λ (x : List ℕ). readOf m k x others) (q .4) ∙ reads-tree m k s others r (allowed-more l m n s (q .2)) (q .3) e ∙ ap (λ (x : Told). (ok x, rowsOf m (s .term))) (sym (q .5)))

@@ -1,69 +1,97 @@
 -- What `write` answers: from the answer to the rows, the count of the bytes, and what is written.
 use Prim.Native.Nat.{ℕ, _*_, _≤_, _<_}
 use native.Mathlib.Omega.{arith}
-use mathlib.Core.Path.{_≡_, sym, ap, _∙_}
+use mathlib.Core.Path.{_≡_, refl, sym, ap, _∙_}
+use mathlib.Core.Bool.{true, false}
 use mathlib.Core.List.{List}
 use lib.ListN.{length, getD}
 use lib.Seq.{sets}
 use lib.Dec.{leb}
-use borrow.Author.Tests.{le-leb, lt-leb}
+use borrow.Author.Tests.{le-leb, lt-leb, eq-eqb, ne-eqb}
 use Rattle.reader.specs.Result.{Result, ok, err, need, Refusal, _>>=_}
-use Rattle.reader.specs.Limits.{Limits, rowNumbers}
-use Rattle.reader.specs.Script.{Term}
+use Rattle.reader.specs.Limits.{Limits, inRanges, rowNumbers}
+use Rattle.reader.specs.Kinds.{newest, knows}
+use Rattle.reader.specs.Script.{Term, Whole}
 use Rattle.reader.specs.Layout.{bytesOf}
 use Rattle.reader.specs.Measures.{size}
-use Rattle.reader.specs.Answers.{told, rowsTree, judgedOf, writable, writtenInto, writtenOf}
+use Rattle.reader.specs.Reader.{decodeIn}
+use Rattle.reader.specs.RowParts.{judgedIn}
+use Rattle.reader.specs.Answers.{told, givenWhole, writable, writtenInto, writtenOf}
 use Rattle.reader.specs.OutputParts.{scriptFrom}
 use Rattle.reader.specs.declared.Outcome.{Outcome}
 use Rattle.reader.specs.declared.Outcome.the-variants.{Count, Refused}
-use Rattle.reader.proofs.Answers.{err-ok, then}
+use Rattle.reader.proofs.Answers.{err-ok, then, after}
 use Rattle.reader.proofs.Ranges.{ranged}
-use Rattle.reader.proofs.Promise.{tree-decoded}
+use Rattle.reader.proofs.Versions.{known-says}
 use Rattle.reader.proofs.Lists.{under-all, sets-front}
-use Rattle.reader.proofs.RoundTrip.{decoded}
+use Rattle.reader.proofs.RoundTrip.{decoded-in}
 use Rattle.reader.proofs.OutputTrees.{rows-script}
 
--- Rows that are refused.
-pub refused-rows : (l : Limits) (rows output : List ℕ) (o : Outcome) → told o ≡ judgedOf l rows → (n p : ℕ) → o ≡ Refused n p → (told o, output) ≡ writtenOf l rows output
-unfolding told judgedOf writtenOf writable writtenInto _>>=_
-refused-rows l rows output o h n p e = go (rowsTree l rows) (sym (ap told e) ∙ h)
-  where
-    go : (r : Result Refusal Term) → err (n, p) ≡ (r >>= λ t. ok (size t)) → (told o, output) ≡ writtenInto output (r >>= λ t. need (leb (length (bytesOf t)) (length output)) (5, 0) >>= λ _. ok t)
-    go (ok t) q = err-ok q
-    go (err x) q = ap (λ (r : Result Refusal ℕ). (r, output)) (ap told e ∙ q)
-
--- Rows that are the n rows of a tree.
-pub record Judged (l : Limits) (rows : List ℕ) (n : ℕ) : Type 0 where
-  pub tree : Term
-  pub reads : rowsTree l rows ≡ ok tree
-  pub script : scriptFrom n rows ≡ bytesOf tree
+-- Rows that are the n rows of a script in version v.
+pub record Judged (l : Limits) (v : ℕ) (rows : List ℕ) (n : ℕ) : Type 0 where
+  pub whole : Whole
+  pub reads : givenWhole l v rows ≡ ok whole
+  pub script : scriptFrom v n rows ≡ bytesOf whole
   pub room : n * 5 ≤ length rows
 
-pub judged : (l : Limits) (rows : List ℕ) → ((i : ℕ) → getD rows i 0 < 4294967296) → (o : Outcome) → told o ≡ judgedOf l rows → (n : ℕ) → o ≡ Count n → Judged l rows n
-unfolding told judgedOf rowNumbers
-judged l rows each o h n e =
-    let q = then (rowsTree l rows) (λ t. ok (size t)) n (sym h ∙ ap told e) in
-    let c = tree-decoded l rows (q .0) (q .1) in
-    let d = decoded l rows (q .0) (under-all 4294967296 rows each) (c .length) (c .decodes) in
-    let count : size (q .0) ≡ n = cc (q .2) in
-    record {
-      tree = q .0;
-      reads = q .1;
-      script = ap (λ (k : ℕ). scriptFrom k rows) (sym count) ∙ ap (scriptFrom (size (q .0))) (d .0) ∙ rows-script l (omega (arith, ranged l (c .ranges) .variables)) (q .0) (d .1);
-      room = omega (arith, c .length, d .1 .terms);
-    }
+module _ (l : Limits) (v : ℕ) (rows output : List ℕ) where
+  -- What is judged before the rows.
+  pub set-refused : inRanges l ≡ false → (told (Refused 74 0), output) ≡ writtenOf l v rows output
+  unfolding told writtenOf writable givenWhole writtenInto _>>=_ need
+  set-refused r = rw r
 
-module _ (l : Limits) (rows output : List ℕ) (n bytes : ℕ) (j : Judged l rows n) (counted : bytes ≡ length (scriptFrom n rows)) where
-  is-length : bytes ≡ length (bytesOf (j .tree))
+  pub length-refused : inRanges l ≡ true → (length rows ≡ rowNumbers l → ⊥) → (told (Refused 2 0), output) ≡ writtenOf l v rows output
+  unfolding told writtenOf writable givenWhole writtenInto _>>=_ need
+  length-refused r n = rw (r, ne-eqb (length rows) (rowNumbers l) n)
+
+  module _ (ranges : inRanges l ≡ true) (full : length rows ≡ rowNumbers l) where
+    pub version-refused : knows newest v ≡ false → (told (Refused 11 0), output) ≡ writtenOf l v rows output
+    unfolding told writtenOf writable givenWhole writtenInto _>>=_ need
+    version-refused k = rw (ranges, eq-eqb (length rows) (rowNumbers l) full, k)
+
+    module _ (known : knows newest v ≡ true) (o : Outcome) (h : told o ≡ judgedIn l v rows) where
+      abbrev script : Term → Whole
+      script t = record { version = v; term = t }
+
+      given : givenWhole l v rows ≡ (decodeIn l v rows >>= λ t. ok (script t))
+      unfolding givenWhole _>>=_ need
+      given = rw (ranges, eq-eqb (length rows) (rowNumbers l) full, known)
+
+      -- Rows that are refused.
+      pub refused-rows : (n p : ℕ) → o ≡ Refused n p → (told o, output) ≡ writtenOf l v rows output
+      unfolding told judgedIn writtenOf writable writtenInto _>>=_
+      refused-rows n p e = rw given (go (decodeIn l v rows) (sym (ap told e) ∙ h))
+        where
+          go : (r : Result Refusal Term) → err (n, p) ≡ (r >>= λ t. ok (size t)) → (told o, output) ≡ writtenInto output ((r >>= λ t. ok (script t)) >>= λ s. need (leb (length (bytesOf s)) (length output)) (5, 0) >>= λ _. ok s)
+          go (ok t) q = err-ok q
+          go (err x) q = ap (λ (r : Result Refusal ℕ). (r, output)) (ap told e ∙ q)
+
+      -- Rows that are the n rows of a tree.
+      pub judged : ((i : ℕ) → getD rows i 0 < 4294967296) → (n : ℕ) → o ≡ Count n → Judged l v rows n
+      unfolding told judgedIn rowNumbers
+      judged each n e =
+          let q = then (decodeIn l v rows) (λ t. ok (size t)) n (sym h ∙ ap told e) in
+          let d = decoded-in l v rows (q .0) (under-all 4294967296 rows each) full (q .1) in
+          let count : size (q .0) ≡ n = cc (q .2) in
+          record {
+            whole = script (q .0);
+            reads = given ∙ after (decodeIn l v rows) (λ t. ok (script t)) (q .0) _ (q .1) refl;
+            script = ap (λ (k : ℕ). scriptFrom v k rows) (sym count) ∙ ap (scriptFrom v (size (q .0))) (d .0)
+                ∙ rows-script l (omega (arith, ranged l ranges .variables)) v (q .0) (known-says newest v known .2) (d .1);
+            room = omega (arith, full, d .1 .terms);
+          }
+
+module _ (l : Limits) (v : ℕ) (rows output : List ℕ) (n bytes : ℕ) (j : Judged l v rows n) (counted : bytes ≡ length (scriptFrom v n rows)) where
+  is-length : bytes ≡ length (bytesOf (j .whole))
   is-length = counted ∙ ap length (j .script)
 
-  pub short-output : length output < bytes → (told (Refused 5 0), output) ≡ writtenOf l rows output
+  pub short-output : length output < bytes → (told (Refused 5 0), output) ≡ writtenOf l v rows output
   unfolding told writtenOf writable writtenInto _>>=_ need
-  short-output h = rw (j .reads, lt-leb (length (bytesOf (j .tree))) (length output) (omega (arith, is-length)))
+  short-output h = rw (j .reads, lt-leb (length (bytesOf (j .whole))) (length output) (omega (arith, is-length)))
 
-  pub script-written : bytes ≤ length output → (output′ : List ℕ) → output′ ≡ sets output 0 (scriptFrom n rows) → (told (Count bytes), output′) ≡ writtenOf l rows output
+  pub script-written : bytes ≤ length output → (output′ : List ℕ) → output′ ≡ sets output 0 (scriptFrom v n rows) → (told (Count bytes), output′) ≡ writtenOf l v rows output
   unfolding told writtenOf writable writtenInto _>>=_ need
   script-written h output′ e =
-      let room : length (bytesOf (j .tree)) ≤ length output = omega (arith, is-length) in
-      rw (j .reads, le-leb (length (bytesOf (j .tree))) (length output) room)
-      (λ i. (ok (is-length i), (e ∙ ap (sets output 0) (j .script) ∙ sets-front output (bytesOf (j .tree)) room) i))
+      let room : length (bytesOf (j .whole)) ≤ length output = omega (arith, is-length) in
+      rw (j .reads, le-leb (length (bytesOf (j .whole))) (length output) room)
+      (λ i. (ok (is-length i), (e ∙ ap (sets output 0) (j .script) ∙ sets-front output (bytesOf (j .whole)) room) i))

@@ -25,13 +25,13 @@ module _ (k a b c d : ℕ) where
   unfolding rowBytes
   none-bytes e = rw e
 
-  pub places-bytes : k ≡ 10 → rowBytes k a b c d ≡ k % 256 ∷ a % 256 ∷ b % 256 ∷ c % 256 ∷ d % 256 ∷ []
+  pub places-bytes : (k ≡ 10) ⊎ (k ≡ 13) → rowBytes k a b c d ≡ k % 256 ∷ a % 256 ∷ b % 256 ∷ c % 256 ∷ d % 256 ∷ []
   unfolding rowBytes
-  places-bytes e = rw e
+  places-bytes h = ⊎-elim (λ e. rw e) (λ e. rw e) h
 
-  pub place-bytes : (k ≡ 1 → ⊥) → ((k ≡ 2) ⊎ ((k ≡ 8) ⊎ (k ≡ 11)) → ⊥) → (k ≡ 7 → ⊥) → (k ≡ 10 → ⊥) → rowBytes k a b c d ≡ k % 256 ∷ a % 256 ∷ b % 256 ∷ []
+  pub place-bytes : (k ≡ 1 → ⊥) → ((k ≡ 2) ⊎ ((k ≡ 8) ⊎ (k ≡ 11)) → ⊥) → (k ≡ 7 → ⊥) → ((k ≡ 10) ⊎ (k ≡ 13) → ⊥) → rowBytes k a b c d ≡ k % 256 ∷ a % 256 ∷ b % 256 ∷ []
   unfolding rowBytes
-  place-bytes n1 n2 n7 n10 = rw (ne-eqb k 1 n1, ne-eqb k 2 (λ e. n2 (inl e)), ne-eqb k 7 n7, ne-eqb k 8 (λ e. n2 (inr (inl e))), ne-eqb k 10 n10, ne-eqb k 11 (λ e. n2 (inr (inr e))))
+  place-bytes n1 n2 n7 n10 = rw (ne-eqb k 1 n1, ne-eqb k 2 (λ e. n2 (inl e)), ne-eqb k 7 n7, ne-eqb k 8 (λ e. n2 (inr (inl e))), ne-eqb k 10 (λ e. n10 (inl e)), ne-eqb k 11 (λ e. n2 (inr (inr e))), ne-eqb k 13 (λ e. n10 (inr e)))
 
 -- The bytes of one row more.
 at-next : (rs : List ℕ) (i : ℕ) → bytesAt (drop 5 rs) i ≡ bytesAt rs (suc i)
@@ -80,12 +80,12 @@ module _ (rs : List ℕ) (i : ℕ) where
 
   -- After the last row.
   module _ (n : ℕ) (most : i ≤ n) (all : n ≤ i) where
-    pub all-counted : (bytes : ℕ) → bytes ≡ 5 + length (flat i rs) → bytes ≡ length (scriptFrom n rs)
-    all-counted bytes h =
+    pub all-counted : (bytes v : ℕ) → bytes ≡ 5 + length (flat i rs) → bytes ≡ length (scriptFrom v n rs)
+    all-counted bytes v h =
         let e : i ≡ n = omega arith in
         omega (arith, ap (λ (k : ℕ). length (flat k rs)) e)
 
-    pub all-put : (out o₀ o : List ℕ) → o₀ ≡ sets out 0 (0x52 ∷ 0x43 ∷ 0x53 ∷ 0 ∷ 1 ∷ []) → o ≡ sets o₀ 5 (flat i rs) → o ≡ sets out 0 (scriptFrom n rs)
-    all-put out o₀ o p q =
+    pub all-put : (v : ℕ) (out o₀ o : List ℕ) → o₀ ≡ sets out 0 (0x52 ∷ 0x43 ∷ 0x53 ∷ v / 256 % 256 ∷ v % 256 ∷ []) → o ≡ sets o₀ 5 (flat i rs) → o ≡ sets out 0 (scriptFrom v n rs)
+    all-put v out o₀ o p q =
         let e : i ≡ n = omega arith in
         q ∙ ap (λ (k : ℕ). sets o₀ 5 (flat k rs)) e ∙ ap (λ (x : List ℕ). sets x 5 (flat n rs)) p

@@ -3,11 +3,11 @@ use Prim.Native.Nat.{ℕ, suc, _+_, _/_, _%_, _≤_, _<_}
 use native.Mathlib.Omega.{arith}
 use native.Mathlib.Nat.{mod-eq-of-lt, suc-add, add-assoc, add-zero}
 use native.Mathlib.Numerals.{one-add}
-use mathlib.Core.Path.{_≡_, sym, ap, _∙_}
+use mathlib.Core.Path.{_≡_, sym, ap, ap₂, _∙_}
 use mathlib.Core.List.{List, _∷_, _++_, append-nil, append-assoc}
 use Rattle.reader.specs.Limits.{Limits}
-use Rattle.reader.specs.Script.{Term, Terms, number, reading, copy, move, borrowShared, borrowExclusive, box, declare, assign, below, block, last, more}
-use Rattle.reader.specs.Kinds.{byteOf, fields}
+use Rattle.reader.specs.Script.{Term, Terms, Whole, number, reading, copy, move, borrowShared, borrowExclusive, box, declare, assign, below, block, sum, last, more}
+use Rattle.reader.specs.Kinds.{newest, byteOf, fields}
 use Rattle.reader.specs.Layout.{inBytes, inRows, zeros, wordOf, unused, head, others, lay, lays, bytesOf, rowsOf}
 use Rattle.reader.specs.Measures.{size, sizes}
 use Rattle.reader.specs.Within.{Formed, FormedAll, Within}
@@ -35,6 +35,8 @@ module _ (l : Limits) (few : l .variables ≤ 256) where
         rw (suc-add, byte (p .root) (omega arith), byte (p .follows) (omega arith)) (ap (λ (x : List ℕ). 9 ∷ p .root ∷ p .follows ∷ x) (flat-term (suc i) t n rest (f .2)))
     flat-term i (below j p q) n rest f =
         rw (one-add, byte (p .root) (omega arith), byte (p .follows) (omega arith), byte (q .root) (omega arith), byte (q .follows) (omega arith))
+    flat-term i (sum j p q) n rest f =
+        rw (one-add, byte (p .root) (omega arith), byte (p .follows) (omega arith), byte (q .root) (omega arith), byte (q .follows) (omega arith))
     flat-term i (block j ts) n rest f =
         rw (suc-add, byte (suc (others ts)) (omega arith)) (ap (λ (x : List ℕ). 11 ∷ suc (others ts) ∷ x) (flat-terms (suc i) ts n rest (f .2)))
 
@@ -45,8 +47,9 @@ module _ (l : Limits) (few : l .variables ≤ 256) where
         (flat-term i t (sizes ts + n) (lays inRows ts ++ rest) (f .0) ∙ ap (λ (x : List ℕ). lay inBytes t ++ x) (flat-terms (i + size t) ts n rest (f .1)))
 
   -- What is written of a tree's rows is the script of the tree.
-  pub rows-script : (t : Term) → Within l t → scriptFrom (size t) (rowsOf l t) ≡ bytesOf t
-  unfolding flat rowsOf bytesOf
-  rows-script t w =
-      ap (λ (x : List ℕ). 0x52 ∷ 0x43 ∷ 0x53 ∷ 0 ∷ 1 ∷ x)
+  pub rows-script : (v : ℕ) (t : Term) → v ≤ newest → Within l t → scriptFrom v (size t) (rowsOf l t) ≡ bytesOf (record { version = v; term = t })
+  unfolding flat rowsOf bytesOf newest
+  rows-script v t h w =
+      let high : v / 256 % 256 ≡ v / 256 = omega arith in
+      ap₂ (λ (y : ℕ) (x : List ℕ). 0x52 ∷ 0x43 ∷ 0x53 ∷ y ∷ v % 256 ∷ x) high
       (ap (λ (n : ℕ). flat n (rowsOf l t)) (sym (add-zero (size t))) ∙ flat-term 0 t 0 _ (w .formed) ∙ append-nil (lay inBytes t))

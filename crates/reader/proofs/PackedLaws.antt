@@ -1,10 +1,11 @@
 -- The numbers that the term and block functions answer: what each stands for, and the number of each answer.
 use Prim.Native.Nat.{ℕ, _+_, _*_, _-_, _/_, _%_, _≤_, _<_}
 use native.Mathlib.Omega.{arith}
-use mathlib.Core.Path.{_≡_, ap₂, _∙_}
+use mathlib.Core.Path.{_≡_, sym, ap, ap₂, _∙_}
 use borrow.Author.Tests.{lt-ltb, le-ltb}
 use Rattle.reader.specs.ByteParts.{found}
 use Rattle.reader.specs.ByteParts as got
+use Rattle.reader.specs.Lent.{withVersion}
 use Rattle.reader.specs.RowParts.{spanned}
 use Rattle.reader.specs.RowParts as span
 
@@ -47,7 +48,7 @@ module _ (r n p : ℕ) (near : p < 65536) (e : (r ≡ 1099511627776 + n * 65536 
 two : (r m a : ℕ) → a < 65536 → r ≡ m * 65536 + a → (r % 65536 ≡ a) × (r / 65536 ≡ m)
 two r m a h e = (omega arith, omega arith)
 
-pub fine-found : (r at terms boxes : ℕ) → at < 65536 → terms < 8192 → boxes < 256 → r ≡ (boxes * 8192 + terms) * 65536 + at → found r ≡ got.Fine at terms boxes
+pub fine-found : (r at terms boxes : ℕ) → at < 65536 → terms < 8192 → boxes < 2048 → r ≡ (boxes * 8192 + terms) * 65536 + at → found r ≡ got.Fine at terms boxes
 fine-found r at terms boxes a t b e =
     let m = boxes * 8192 + terms in
     let x = two r m at a e in
@@ -57,3 +58,8 @@ fine-found r at terms boxes a t b e =
 
 pub counted-spanned : (r terms boxes : ℕ) → terms < 8192 → boxes < 256 → r ≡ boxes * 8192 + terms → spanned r ≡ span.Fine terms boxes
 counted-spanned r terms boxes t b e = spanned-fine r (omega arith) ∙ ap₂ span.Fine (omega arith) (omega arith)
+
+-- An answer with the version in place of the boxes.
+pub told-answer : (v g r : ℕ) → v < 2048 → g < 1099511627776 → r ≡ (v * 8192 + g / 65536 % 8192) * 65536 + g % 65536 → found r ≡ withVersion v (found g)
+unfolding withVersion
+told-answer v g r h l e = fine-found r (g % 65536) (g / 65536 % 8192) v (omega arith) (omega arith) h e ∙ sym (ap (withVersion v) (found-fine g l))

@@ -5,13 +5,13 @@ use mathlib.Core.Path.{_≡_, subst}
 use mathlib.Core.Bool.{Bool, true, false}
 use mathlib.Core.Option.{Option, none, some}
 use mathlib.Core.List.{List, [], _∷_}
-use lib.ListN.{length, getD}
-use lib.Dec.{ltb, eqb}
+use lib.ListN.{length}
+use lib.Dec.{ltb}
 use Rattle.reader.specs.Result.{pick}
 use Rattle.reader.specs.Limits.{Limits}
-use Rattle.reader.specs.Kinds.{Kind, kNumber, kReading, kCopy, kMove, kShared, kExclusive, kBox, kLet, kAssign, kBelow, kBlock, kindOf, Field, word, until, fields}
+use Rattle.reader.specs.Kinds.{Kind, kNumber, kReading, kCopy, kMove, kShared, kExclusive, kBox, kLet, kAssign, kBelow, kBlock, kSum, newest, knows, kindOf, Field, word, until, fields}
 use Rattle.reader.specs.Parts.{fieldsIn, fieldsOf}
-use Rattle.reader.specs.ByteParts.{fieldNumber, markNumber, onNumber, judgedFields, leadJudged}
+use Rattle.reader.specs.ByteParts.{fieldNumber, markNumber, onNumber, judgedFields, versionAt, leadJudged}
 use Rattle.reader.specs.declared.operands.Fields.{Fields}
 use Rattle.reader.specs.declared.operands.Fields.the-variants as found
 
@@ -49,18 +49,19 @@ few-fields l (some kLet) = omega arith
 few-fields l (some kAssign) = omega arith
 few-fields l (some kBelow) = omega arith
 few-fields l (some kBlock) = omega arith
+few-fields l (some kSum) = omega arith
 
 pub operands-near : (l : Limits) (kind : ℕ) (t : List ℕ) (at n p : ℕ) → judgedFields (fieldsOf l kind) t at 1 ≡ found.Refused n p → at + length t ≤ 32768 → p ≤ 33000
 unfolding fieldsOf
 operands-near l kind t at n p e h =
-    subst (λ (f : Fields). Near 33000 f) e (near-fields 33000 (fieldsIn l (kindOf 1 kind)) t at 1 (omega arith) (omega (arith, few-fields l (kindOf 1 kind))))
+    subst (λ (f : Fields). Near 33000 f) e (near-fields 33000 (fieldsIn l (kindOf newest kind)) t at 1 (omega arith) (omega (arith, few-fields l (kindOf newest kind))))
 
-pub lead-near : (t : List ℕ) (at n p : ℕ) → leadJudged t at ≡ found.Refused n p → at ≤ length t → length t ≤ 32768 → p ≤ 33000
+pub lead-near : (k : ℕ) (t : List ℕ) (at n p : ℕ) → leadJudged k t at ≡ found.Refused n p → at ≤ length t → length t ≤ 32768 → p ≤ 33000
 unfolding leadJudged
-lead-near t at n p e i h =
+lead-near k t at n p e i h =
     subst (λ (f : Fields). Near 33000 f) e
     (near-number 33000 (markNumber t at 0x52) at _ (omega arith)
     (near-number 33000 (markNumber t (at + 1) 0x43) (at + 1) _ (omega arith)
     (near-number 33000 (markNumber t (at + 2) 0x53) (at + 2) _ (omega arith)
     (near-pick 33000 (ltb (length t) (at + 5)) (found.Refused 12 (length t)) _ (omega arith)
-    (near-pick 33000 (eqb (getD t (at + 3) 0 * 256 + getD t (at + 4) 0) 1) (found.Fine (at + 5)) (found.Refused 11 (at + 3)) tt (omega arith))))))
+    (near-pick 33000 (knows k (versionAt t (at + 3))) (found.Fine (at + 5)) (found.Refused 11 (at + 3)) tt (omega arith))))))

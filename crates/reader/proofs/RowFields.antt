@@ -9,13 +9,13 @@ use lib.Dec.{leb, ltb, eqb, leb·zero}
 use borrow.Author.Tests.{le-ltb, ne-eqb}
 use Rattle.reader.specs.Result.{ok, err, pick}
 use Rattle.reader.specs.Limits.{Limits}
-use Rattle.reader.specs.Kinds.{Kind, byteOf, kindOf, Field, word, until, fields}
+use Rattle.reader.specs.Kinds.{Kind, byteOf, newest, kindOf, Field, word, until, fields}
 use Rattle.reader.specs.Layout.{inRows}
 use Rattle.reader.specs.Reader.{Cursor, _>>=_, done, placeIn, expect, peek, skip, next, ranged, field, operands, zeroFields}
 use Rattle.reader.specs.Parts.{cursor, placeFields, fieldsOf}
 use Rattle.reader.specs.RowParts.{fieldFits, fieldsFit}
 use Rattle.reader.proofs.Answers.{go-on, stops}
-use Rattle.reader.proofs.KindBytes.{has}
+use Rattle.reader.proofs.KindBytes.{has, added-most}
 use Rattle.reader.proofs.KnownKinds.{fields-of}
 use Rattle.reader.proofs.TermSteps.{peek-ok, expect-ok, expect-err}
 
@@ -119,4 +119,4 @@ module _ (nv a b : ℕ) (fs : List Field) (vs : List ℕ) where
 
 -- The operands of a byte that is known to be a kind's.
 pub fields-by : (l : Limits) (k : Kind) (b : ℕ) → b ≡ byteOf k → fieldsOf l b ≡ fields l k
-fields-by l k b e = fields-of b l k (ap (kindOf 1) e ∙ has 1 k)
+fields-by l k b e = fields-of b l newest k (ap (kindOf newest) e ∙ has newest k (added-most k))

@@ -3,6 +3,7 @@ use Prim.Native.Nat.{ℕ, zero, suc, _+_, _*_, _-_, _≤_, _<_}
 use native.Mathlib.Omega.{arith}
 use native.Mathlib.Numerals.{sub-one}
 use mathlib.Core.Path.{_≡_, refl, sym, ap, _∙_}
+use mathlib.Core.Logic.{_⊎_, ⊎-elim}
 use mathlib.Core.Bool.{Bool, true, false, false≢true, _&&_}
 use mathlib.Core.Option.{some}
 use mathlib.Core.List.{List, [], _∷_}
@@ -13,7 +14,7 @@ use borrow.Author.Tests.{leb-true, ne-eqb}
 use Rattle.reader.specs.Result.{Result, ok, err, Refusal, pick}
 use Rattle.reader.specs.Limits.{Limits}
 use Rattle.reader.specs.Script.{Term, Terms, number}
-use Rattle.reader.specs.Kinds.{Kind, kNumber, kReading, kCopy, kMove, kShared, kExclusive, kBox, kLet, kAssign, kBelow, kBlock, byteOf, kindOf, fields}
+use Rattle.reader.specs.Kinds.{Kind, kNumber, kReading, kCopy, kMove, kShared, kExclusive, kBox, kLet, kAssign, kBelow, kBlock, kSum, byteOf, addedIn, kindOf, fields}
 use Rattle.reader.specs.Layout.{inRows, lay}
 use Rattle.reader.specs.Reader.{Cursor, Reads, done, boxesOf, several, built, term}
 use Rattle.reader.specs.Measures.{size}
@@ -22,7 +23,8 @@ use Rattle.reader.specs.Parts.{cursor, boxesWith}
 use Rattle.reader.specs.RowParts.{fieldAt, fieldsAt, fieldFits, fieldsFit, rowNumber, RowsReady, rowCursor, termRows, blockRows, Span, Fine, Refused, spanOf}
 use Rattle.reader.proofs.Answers.{go-on, stops}
 use Rattle.reader.proofs.KindBytes.{has, found}
-use Rattle.reader.proofs.TermSteps.{Leaf, leafNumber, leafReading, leafCopy, leafMove, leafShared, leafExclusive, leafBelow, Around, aroundBox, aroundLet, aroundAssign, leaf-ok, around-err, around-ok, block-err, block-ok}
+use Rattle.reader.proofs.TermLaws.{around-kind}
+use Rattle.reader.proofs.TermSteps.{Leaf, leafNumber, leafReading, leafCopy, leafMove, leafShared, leafExclusive, leafBelow, leafSum, Around, leaf-ok, around-err, around-ok, block-err, block-ok}
 use Rattle.reader.proofs.Lengths.{laid-rows}
 use Rattle.reader.proofs.Sound.{sound}
 use Rattle.reader.proofs.RowTerms.{boxes-of, Enters, Judges, row-judged}
@@ -62,20 +64,7 @@ leaf-of kLet a b c d = absurd (b refl)
 leaf-of kAssign a b c d = absurd (c refl)
 leaf-of kBelow a b c d = leafBelow
 leaf-of kBlock a b c d = absurd (d refl)
-
-around-of : (k : Kind) → 7 ≤ byteOf k → (byteOf k ≡ 10 → ⊥) → (byteOf k ≡ 11 → ⊥) → Around k
-unfolding byteOf
-around-of kNumber a b c = absurd (omega arith)
-around-of kReading a b c = absurd (omega arith)
-around-of kCopy a b c = absurd (omega arith)
-around-of kMove a b c = absurd (omega arith)
-around-of kShared a b c = absurd (omega arith)
-around-of kExclusive a b c = absurd (omega arith)
-around-of kBox a b c = aroundBox
-around-of kLet a b c = aroundLet
-around-of kAssign a b c = aroundAssign
-around-of kBelow a b c = absurd (b refl)
-around-of kBlock a b c = absurd (c refl)
+leaf-of kSum a b c d = leafSum
 
 -- A term around another has its span.
 around-span : (i : ℕ) (vs : List ℕ) (inner : Bool → Reads Term) (s : Cursor) {k : Kind} → Around k → spanOf (built k i vs inner s) ≡ spanOf (inner false s)
@@ -96,28 +85,28 @@ block-span i vs inner s = go (several (inner false) (getD vs 0 0 - 1) s) refl
     go (err e) h = ap spanOf (block-err i vs inner s e h)
 
 -- The number n that the code finds at row i.
-module _ (l : Limits) (levels : ℕ) (outer : Bool) (rows : List ℕ) (i boxes : ℕ) (ready : RowsReady l rows i boxes) (n : ℕ) (is : n ≡ rowNumber l levels outer rows i boxes) where
-  judges : Judges l levels outer rows i boxes n
-  judges = rw is (row-judged l levels outer rows i boxes (ready .full) (ready .few))
+module _ (l : Limits) (v levels : ℕ) (outer : Bool) (rows : List ℕ) (i boxes : ℕ) (ready : RowsReady l rows i boxes) (n : ℕ) (is : n ≡ rowNumber l v levels outer rows i boxes) where
+  judges : Judges l v levels outer rows i boxes n
+  judges = rw is (row-judged l v levels outer rows i boxes (ready .full) (ready .few))
 
-  pub refused-span : (n ≡ 0 → ⊥) → Refused n i ≡ spanOf (termRows l levels outer rows i boxes)
+  pub refused-span : (n ≡ 0 → ⊥) → Refused n i ≡ spanOf (termRows l v levels outer rows i boxes)
   unfolding spanOf
   refused-span h = sym (ap spanOf (judges .refuses h))
 
-  pub entered : n ≡ 0 → Enters l levels outer rows i boxes
+  pub entered : n ≡ 0 → Enters l v levels outer rows i boxes
   entered h = judges .enters h
 
 -- The term at a row whose number is 0, by the row's kind b.
-module _ (l : Limits) (levels : ℕ) (outer : Bool) (rows : List ℕ) (i boxes : ℕ) (e : Enters l levels outer rows i boxes) (b : ℕ) (at : b ≡ fieldAt rows i 0) where
-  its-kind : kindOf 1 b ≡ some (e .kind)
-  its-kind = ap (kindOf 1) at ∙ e .is
+module _ (l : Limits) (v levels : ℕ) (outer : Bool) (rows : List ℕ) (i boxes : ℕ) (e : Enters l v levels outer rows i boxes) (b : ℕ) (at : b ≡ fieldAt rows i 0) where
+  its-kind : kindOf v b ≡ some (e .kind)
+  its-kind = ap (kindOf v) at ∙ e .is
 
   its-byte : byteOf (e .kind) ≡ b
-  its-byte = found 1 b (e .kind) its-kind
+  its-byte = found v b (e .kind) its-kind
 
   boxed : boxes + boxesOf (e .kind) ≡ boxesWith b boxes
   unfolding boxesWith
-  boxed = rw (boxes-of b (e .kind) its-kind) (go (eqb b 7))
+  boxed = rw (boxes-of v b (e .kind) its-kind) (go (eqb b 7))
     where
       go : (t : Bool) → boxes + pick t 1 0 ≡ pick t (boxes + 1) boxes
       go true = refl
@@ -130,30 +119,36 @@ module _ (l : Limits) (levels : ℕ) (outer : Bool) (rows : List ℕ) (i boxes :
   pub boxed-few : (n : ℕ) → n ≡ boxesWith b boxes → n ≤ l .boxes
   boxed-few n q = omega (arith, e .few, boxed)
 
-  pub leaf-spans : (b ≡ 7 → ⊥) → (b ≡ 8 → ⊥) → (b ≡ 9 → ⊥) → (b ≡ 11 → ⊥) → Fine (i + 1) boxes ≡ spanOf (termRows l levels outer rows i boxes)
+  pub leaf-spans : (b ≡ 7 → ⊥) → (b ≡ 8 → ⊥) → (b ≡ 9 → ⊥) → (b ≡ 11 → ⊥) → Fine (i + 1) boxes ≡ spanOf (termRows l v levels outer rows i boxes)
   unfolding spanOf
   leaf-spans n7 n8 n9 n11 =
       let k = leaf-of (e .kind) (λ z. n7 (sym its-byte ∙ z)) (λ z. n8 (sym its-byte ∙ z)) (λ z. n9 (sym its-byte ∙ z)) (λ z. n11 (sym its-byte ∙ z)) in
       ap (λ (x : ℕ). Fine (i + 1) x) (sym (unboxed n7)) ∙ sym (ap spanOf (e .builds ∙ leaf-ok i _ _ _ k (number i 0)))
 
-  pub around-spans : 7 ≤ b → (b ≡ 10 → ⊥) → (b ≡ 11 → ⊥) → (n : ℕ) → n ≡ boxesWith b boxes → (r : Span) → r ≡ spanOf (termRows l (levels - 1) false rows (i + 1) n) → r ≡ spanOf (termRows l levels outer rows i boxes)
-  around-spans low n10 n11 n q r h =
-      let k = around-of (e .kind) (omega (arith, its-byte)) (λ z. n10 (sym its-byte ∙ z)) (λ z. n11 (sym its-byte ∙ z)) in
-      h ∙ ap (λ (x : ℕ). spanOf (termRows l (levels - 1) false rows (i + 1) x)) (q ∙ sym boxed) ∙ sym (ap spanOf (e .builds) ∙ around-span i _ (term l 1 inRows (levels - 1)) _ k)
+  pub pair-spans : (b ≡ 10) ⊎ (b ≡ 13) → Fine (i + 1) boxes ≡ spanOf (termRows l v levels outer rows i boxes)
+  pair-spans h = ⊎-elim (λ z. by z (omega arith)) (λ z. by z (omega arith)) h
+    where
+      by : {m : ℕ} → b ≡ m → 9 < m × (m ≡ 11 → ⊥) → Fine (i + 1) boxes ≡ spanOf (termRows l v levels outer rows i boxes)
+      by z n = leaf-spans (λ y. omega (arith, n .0)) (λ y. omega (arith, n .0)) (λ y. omega (arith, n .0)) (λ y. n .1 (sym z ∙ y))
+
+  pub around-spans : 7 ≤ b → (b ≡ 10 → ⊥) → (b ≡ 11 → ⊥) → (b ≡ 13 → ⊥) → (n : ℕ) → n ≡ boxesWith b boxes → (r : Span) → r ≡ spanOf (termRows l v (levels - 1) false rows (i + 1) n) → r ≡ spanOf (termRows l v levels outer rows i boxes)
+  around-spans low n10 n11 n13 n q r h =
+      let k = around-kind (e .kind) (omega (arith, its-byte)) (λ z. n10 (sym its-byte ∙ z)) (λ z. n11 (sym its-byte ∙ z)) (λ z. n13 (sym its-byte ∙ z)) in
+      h ∙ ap (λ (x : ℕ). spanOf (termRows l v (levels - 1) false rows (i + 1) x)) (q ∙ sym boxed) ∙ sym (ap spanOf (e .builds) ∙ around-span i _ (term l v inRows (levels - 1)) _ k)
 
   module _ (eleven : b ≡ 11) (count : ℕ) (counts : count ≡ fieldAt rows i 1) where
     a-block : e .kind ≡ kBlock
-    unfolding byteOf
-    a-block = let z : some (e .kind) ≡ some kBlock = sym its-kind ∙ ap (kindOf 1) eleven ∙ has 1 kBlock in cc
+    unfolding byteOf addedIn
+    a-block = let z : some (e .kind) ≡ some kBlock = sym its-kind ∙ ap (kindOf v) eleven ∙ has v kBlock (omega arith) in cc
 
-    pub block-spans : (r : Span) → r ≡ spanOf (blockRows l (levels - 1) count rows (i + 1) boxes) → r ≡ spanOf (termRows l levels outer rows i boxes)
+    pub block-spans : (r : Span) → r ≡ spanOf (blockRows l v (levels - 1) count rows (i + 1) boxes) → r ≡ spanOf (termRows l v levels outer rows i boxes)
     unfolding fields
     block-spans r h =
         let s = rowCursor rows (i + 1) (boxes + boxesOf (e .kind)) in
-        let k : built (e .kind) i (take (length (fields l (e .kind))) (fieldsAt rows i)) (term l 1 inRows (levels - 1)) s ≡ built kBlock i (fieldAt rows i 1 ∷ []) (term l 1 inRows (levels - 1)) s = rw a-block in
-        h ∙ ap (λ (x : ℕ). spanOf (blockRows l (levels - 1) x rows (i + 1) boxes)) counts
-        ∙ ap (λ (x : ℕ). spanOf (blockRows l (levels - 1) (fieldAt rows i 1) rows (i + 1) x)) (sym (unboxed (λ z. omega arith)))
-        ∙ sym (ap spanOf (e .builds ∙ k) ∙ block-span i (fieldAt rows i 1 ∷ []) (term l 1 inRows (levels - 1)) s)
+        let k : built (e .kind) i (take (length (fields l (e .kind))) (fieldsAt rows i)) (term l v inRows (levels - 1)) s ≡ built kBlock i (fieldAt rows i 1 ∷ []) (term l v inRows (levels - 1)) s = rw a-block in
+        h ∙ ap (λ (x : ℕ). spanOf (blockRows l v (levels - 1) x rows (i + 1) boxes)) counts
+        ∙ ap (λ (x : ℕ). spanOf (blockRows l v (levels - 1) (fieldAt rows i 1) rows (i + 1) x)) (sym (unboxed (λ z. omega arith)))
+        ∙ sym (ap spanOf (e .builds ∙ k) ∙ block-span i (fieldAt rows i 1 ∷ []) (term l v inRows (levels - 1)) s)
 
     -- A block has one term at least.
     pub block-count : 0 < count
@@ -181,9 +176,9 @@ pub record Ends (l : Limits) (rows : List ℕ) (i : ℕ) (t : Term) (s′ : Curs
   pub fits : s′ .terms ≤ l .terms
   pub few : s′ .boxes ≤ l .boxes
 
-pub ends : (l : Limits) (levels : ℕ) (outer : Bool) (rows : List ℕ) (i boxes : ℕ) → Words rows → (t : Term) (s′ : Cursor) → termRows l levels outer rows i boxes ≡ ok (t, s′) → Ends l rows i t s′
-ends l levels outer rows i boxes w t s′ h =
-    let r = sound l 1 inRows levels outer (rowCursor rows i boxes) s′ t (words-under (drop (5 * i) rows) (λ j. rw (getD-drop (5 * i) rows j 0) (w (5 * i + j)))) h .0 in
+pub ends : (l : Limits) (v levels : ℕ) (outer : Bool) (rows : List ℕ) (i boxes : ℕ) → Words rows → (t : Term) (s′ : Cursor) → termRows l v levels outer rows i boxes ≡ ok (t, s′) → Ends l rows i t s′
+ends l v levels outer rows i boxes w t s′ h =
+    let r = sound l v inRows levels outer (rowCursor rows i boxes) s′ t (words-under (drop (5 * i) rows) (λ j. rw (getD-drop (5 * i) rows j 0) (w (5 * i + j)))) h .0 in
     let five = laid-rows t in
     let z : 5 * i + 5 * size t ≡ 5 * s′ .terms = omega (arith, r .terms) in
     let a : s′ .at ≡ 5 * s′ .terms = omega (arith, r .at, r .terms) in
@@ -196,33 +191,33 @@ ends l levels outer rows i boxes w t s′ h =
     }
 
 -- So many terms of a block from row i on, none included.
-unfoldable pub restSpan : Limits → ℕ → List ℕ → ℕ → ℕ → ℕ → Span
-restSpan l levels rows zero i boxes = Fine i boxes
-restSpan l levels rows (suc n) i boxes = spanOf (several (term l 1 inRows levels false) n (rowCursor rows i boxes))
+unfoldable pub restSpan : Limits → ℕ → ℕ → List ℕ → ℕ → ℕ → ℕ → Span
+restSpan l v levels rows zero i boxes = Fine i boxes
+restSpan l v levels rows (suc n) i boxes = spanOf (several (term l v inRows levels false) n (rowCursor rows i boxes))
 
-module _ (l : Limits) (levels : ℕ) (rows : List ℕ) (i boxes : ℕ) where
+module _ (l : Limits) (v levels : ℕ) (rows : List ℕ) (i boxes : ℕ) where
   abbrev one : Reads Term
-  one = term l 1 inRows levels false
+  one = term l v inRows levels false
 
   abbrev s : Cursor
   s = rowCursor rows i boxes
 
-  pub all-span : (count : ℕ) → 0 < count → restSpan l levels rows count i boxes ≡ spanOf (blockRows l levels count rows i boxes)
+  pub all-span : (count : ℕ) → 0 < count → restSpan l v levels rows count i boxes ≡ spanOf (blockRows l v levels count rows i boxes)
   unfolding restSpan
   all-span zero h = absurd (omega arith)
   all-span (suc n) h = rw sub-one
 
-  pub none-span : (n : ℕ) → n ≤ 0 → Fine i boxes ≡ restSpan l levels rows n i boxes
+  pub none-span : (n : ℕ) → n ≤ 0 → Fine i boxes ≡ restSpan l v levels rows n i boxes
   unfolding restSpan
   none-span zero h = refl
   none-span (suc n) h = absurd (omega arith)
 
   -- A block of one term has the term's span.
-  pub one-span : spanOf (blockRows l levels 1 rows i boxes) ≡ spanOf (one s)
+  pub one-span : spanOf (blockRows l v levels 1 rows i boxes) ≡ spanOf (one s)
   unfolding several spanOf done
   one-span = go (one s) refl
     where
-      go : (o : Result Refusal (Term × Cursor)) → one s ≡ o → spanOf (blockRows l levels 1 rows i boxes) ≡ spanOf o
+      go : (o : Result Refusal (Term × Cursor)) → one s ≡ o → spanOf (blockRows l v levels 1 rows i boxes) ≡ spanOf o
       go (ok o) q = ap spanOf (go-on one _ s (o .1) (o .0) _ q refl)
       go (err e) q = ap spanOf (stops one _ s e q)
 
@@ -231,7 +226,7 @@ module _ (l : Limits) (levels : ℕ) (rows : List ℕ) (i boxes : ℕ) where
   several-stops zero e h = stops one _ s e h
   several-stops (suc n) e h = stops one _ s e h
 
-  pub stop-span : (left : ℕ) → 0 < left → (n p : ℕ) → Refused n p ≡ spanOf (one s) → Refused n p ≡ restSpan l levels rows left i boxes
+  pub stop-span : (left : ℕ) → 0 < left → (n p : ℕ) → Refused n p ≡ spanOf (one s) → Refused n p ≡ restSpan l v levels rows left i boxes
   unfolding restSpan spanOf
   stop-span zero h n p e = absurd (omega arith)
   stop-span (suc m) h n p e = sym (ap spanOf (several-stops m (n, p) (refused-of (one s) n p e)))
@@ -250,7 +245,7 @@ module _ (l : Limits) (levels : ℕ) (rows : List ℕ) (i boxes : ℕ) where
     read = fine-of (one s) j b f
 
     abbrev ended : Ends l rows i (read .value) (read .to)
-    ended = ends l levels false rows i boxes w (read .value) (read .to) (read .is)
+    ended = ends l v levels false rows i boxes w (read .value) (read .to) (read .is)
 
     pub rest-few : b ≤ l .boxes
     rest-few = omega (arith, ended .few, read .boxes)
@@ -258,7 +253,7 @@ module _ (l : Limits) (levels : ℕ) (rows : List ℕ) (i boxes : ℕ) where
     from-row : read .to ≡ rowCursor rows j b
     from-row = ended .is ∙ ap (λ (x : ℕ). rowCursor rows x (read .to .boxes)) (read .terms) ∙ ap (λ (x : ℕ). rowCursor rows j x) (read .boxes)
 
-    pub rest-span : (left : ℕ) → 0 < left → restSpan l levels rows (left - 1) j b ≡ restSpan l levels rows left i boxes
+    pub rest-span : (left : ℕ) → 0 < left → restSpan l v levels rows (left - 1) j b ≡ restSpan l v levels rows left i boxes
     unfolding restSpan several spanOf done
     rest-span zero h = absurd (omega arith)
     rest-span (suc zero) h = f ∙ ap spanOf (read .is) ∙ sym (ap spanOf (go-on one _ s (read .to) (read .value) _ (read .is) refl))

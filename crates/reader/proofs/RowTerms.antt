@@ -7,18 +7,18 @@ use mathlib.Core.Option.{some}
 use mathlib.Core.List.{List, [], _∷_, _++_}
 use lib.ListN.{length, take, drop, getD, length-drop, drop-of-length-le}
 use lib.Seq.{drop-cons, length-take-le}
-use lib.Dec.{leb, ltb, eqb}
-use borrow.Author.Tests.{leb-true, leb-false, ltb-true, ltb-false, eqb-true, eqb-false, le-leb, lt-leb, lt-ltb, ne-eqb}
+use lib.Dec.{leb, eqb}
+use borrow.Author.Tests.{leb-true, leb-false, eqb-true, eqb-false, le-leb, lt-leb, lt-ltb}
 use Rattle.reader.specs.Result.{Result, ok, err, Refusal, pick}
 use Rattle.reader.specs.Limits.{Limits, rowNumbers}
 use Rattle.reader.specs.Script.{Term}
-use Rattle.reader.specs.Kinds.{Kind, kNumber, kReading, kCopy, kMove, kShared, kExclusive, kBox, kLet, kAssign, kBelow, kBlock, byteOf, kindOf, fields}
+use Rattle.reader.specs.Kinds.{Kind, kNumber, kReading, kCopy, kMove, kShared, kExclusive, kBox, kLet, kAssign, kBelow, kBlock, kSum, byteOf, kindOf, fields}
 use Rattle.reader.specs.Layout.{inRows}
 use Rattle.reader.specs.Reader.{Cursor, placeIn, operands, zeroFields, restOfRow, is, boxesOf, ended, opening, built, term}
-use Rattle.reader.specs.Parts.{cursor}
+use Rattle.reader.specs.Parts.{cursor, knownIn}
 use Rattle.reader.specs.RowParts.{fieldAt, fieldsAt, fieldsFit, rowNumber, rowCursor, termRows}
 use Rattle.reader.proofs.KindBytes.{found}
-use Rattle.reader.proofs.KnownKinds.{kind-some, kind-none, fields-of}
+use Rattle.reader.proofs.KnownKinds.{known-some, known-none, fields-of}
 use Rattle.reader.proofs.TermSteps.{past, opening-12, opening-12-row, opening-13, opening-18, opening-ok, term-refused, term-deep, term-boxes, term-operands-refused, term-row-refused, term-built}
 use Rattle.reader.proofs.RowFields.{operandsFit, fit-parts, operands-read, zeros-read}
 
@@ -35,15 +35,16 @@ fields-few l kLet = omega arith
 fields-few l kAssign = omega arith
 fields-few l kBelow = omega arith
 fields-few l kBlock = omega arith
+fields-few l kSum = omega arith
 
 row-place : (i : ℕ) → placeIn inRows (5 * i) ≡ i
 unfolding placeIn
 row-place i = omega arith
 
 -- The boxes met once the kind is counted, by the code's test.
-pub boxes-of : (b : ℕ) (k : Kind) → kindOf 1 b ≡ some k → boxesOf k ≡ pick (eqb b 7) 1 0
+pub boxes-of : (v b : ℕ) (k : Kind) → kindOf v b ≡ some k → boxesOf k ≡ pick (eqb b 7) 1 0
 unfolding boxesOf is byteOf
-boxes-of b k h = rw (found 1 b k h)
+boxes-of v b k h = rw (found v b k h)
 
 boxes-over : (most : ℕ) (t u : Bool) (b : ℕ) → leb most b ≡ u → (t && u) ≡ true → most < b + pick t 1 0
 boxes-over most true true b e h = omega (arith, leb-true most b e)
@@ -56,7 +57,7 @@ boxes-fit most true false b few e h = omega (arith, leb-false most b e)
 boxes-fit most false u b few e h = omega arith
 
 -- The reader stands at row i, whose fields after the kind are xs. The kind is known, and it may stand here.
-module _ (l : Limits) (outer : Bool) (i n b x : ℕ) (xs r : List ℕ) (d : ℕ) (k : Kind) where
+module _ (l : Limits) (v : ℕ) (outer : Bool) (i n b x : ℕ) (xs r : List ℕ) (d : ℕ) (k : Kind) where
   abbrev here : Cursor
   here = cursor (x ∷ xs ++ r) (5 * i) n b
 
@@ -73,8 +74,8 @@ module _ (l : Limits) (outer : Bool) (i n b x : ℕ) (xs r : List ℕ) (d : ℕ)
   abbrev below : Cursor
   below = cursor r (5 * (i + 1)) (suc n) (b + boxesOf k)
 
-  term-fields : length xs ≡ 4 → opening l 1 inRows outer here ≡ ok (k, here) → leb (b + boxesOf k) (l .boxes) ≡ true
-      → term l 1 inRows (suc d) outer here ≡ pick (fieldsFit (fields l k) xs) (built k n values (term l 1 inRows d) below) (err (14, i))
+  term-fields : length xs ≡ 4 → opening l v inRows outer here ≡ ok (k, here) → leb (b + boxesOf k) (l .boxes) ≡ true
+      → term l v inRows (suc d) outer here ≡ pick (fieldsFit (fields l k) xs) (built k n values (term l v inRows d) below) (err (14, i))
   unfolding restOfRow
   term-fields four o few =
       rw (fit-parts (fields l k) xs enough)
@@ -95,10 +96,10 @@ module _ (l : Limits) (outer : Bool) (i n b x : ℕ) (xs r : List ℕ) (d : ℕ)
 
       go : (t u : Bool) → operands inRows (fields l k) (past k here) ≡ pick t (ok (values, behind)) (err (14, i))
           → restOfRow inRows (length values) behind ≡ pick u (ok (tt, below)) (err (14, i))
-          → term l 1 inRows (suc d) outer here ≡ pick (t && u) (built k n values (term l 1 inRows d) below) (err (14, i))
-      go true true p q = term-built l 1 inRows outer here k o d few values behind p below q
-      go true false p q = term-row-refused l 1 inRows outer here k o d few values behind p (14, i) q
-      go false u p q = term-operands-refused l 1 inRows outer here k o d few (14, i) p
+          → term l v inRows (suc d) outer here ≡ pick (t && u) (built k n values (term l v inRows d) below) (err (14, i))
+      go true true p q = term-built l v inRows outer here k o d few values behind p below q
+      go true false p q = term-row-refused l v inRows outer here k o d few values behind p (14, i) q
+      go false u p q = term-operands-refused l v inRows outer here k o d few (14, i) p
 
 -- Row i of full rows, in front of the rows after it.
 module _ (n : ℕ) (rows : List ℕ) (i : ℕ) (full : length rows ≡ 5 * n) where
@@ -114,26 +115,35 @@ module _ (n : ℕ) (rows : List ℕ) (i : ℕ) (full : length rows ≡ 5 * n) wh
       ∙ ap (λ (ys : List ℕ). fieldAt rows i 0 ∷ fieldAt rows i 1 ∷ fieldAt rows i 2 ∷ ys) (field-first (5 * i + 3) (5 * i + 4) (omega arith) (omega arith))
       ∙ ap (λ (ys : List ℕ). fieldAt rows i 0 ∷ fieldAt rows i 1 ∷ fieldAt rows i 2 ∷ fieldAt rows i 3 ∷ ys) (field-first (5 * i + 4) (5 * (i + 1)) (omega arith) (omega arith))
 
+-- What `not` says of a test.
+denied : (t : Bool) → not t ≡ true → t ≡ false
+denied true h = absurd (false≢true h)
+denied false h = refl
+
+granted : (t : Bool) → not t ≡ false → t ≡ true
+granted true h = refl
+granted false h = absurd (true≢false h)
+
 -- What a row is whose number is 0: its kind, and what that builds.
-pub record Enters (l : Limits) (levels : ℕ) (outer : Bool) (rows : List ℕ) (i boxes : ℕ) : Type 0 where
+pub record Enters (l : Limits) (v levels : ℕ) (outer : Bool) (rows : List ℕ) (i boxes : ℕ) : Type 0 where
   pub kind : Kind
-  pub is : kindOf 1 (fieldAt rows i 0) ≡ some kind
+  pub is : kindOf v (fieldAt rows i 0) ≡ some kind
   pub room : i < l .terms
   pub deep : 0 < levels
   pub few : boxes + boxesOf kind ≤ l .boxes
   pub fit : fieldsFit (fields l kind) (fieldsAt rows i) ≡ true
-  pub builds : termRows l levels outer rows i boxes ≡ built kind i (take (length (fields l kind)) (fieldsAt rows i)) (term l 1 inRows (levels - 1)) (rowCursor rows (i + 1) (boxes + boxesOf kind))
+  pub builds : termRows l v levels outer rows i boxes ≡ built kind i (take (length (fields l kind)) (fieldsAt rows i)) (term l v inRows (levels - 1)) (rowCursor rows (i + 1) (boxes + boxesOf kind))
 
 -- What a number found at the row says of the term there.
-pub record Judges (l : Limits) (levels : ℕ) (outer : Bool) (rows : List ℕ) (i boxes n : ℕ) : Type 0 where
-  pub refuses : (n ≡ 0 → ⊥) → termRows l levels outer rows i boxes ≡ err (n, i)
-  pub enters : n ≡ 0 → Enters l levels outer rows i boxes
+pub record Judges (l : Limits) (v levels : ℕ) (outer : Bool) (rows : List ℕ) (i boxes n : ℕ) : Type 0 where
+  pub refuses : (n ≡ 0 → ⊥) → termRows l v levels outer rows i boxes ≡ err (n, i)
+  pub enters : n ≡ 0 → Enters l v levels outer rows i boxes
 
-module _ (l : Limits) (levels : ℕ) (outer : Bool) (rows : List ℕ) (i boxes : ℕ) (full : length rows ≡ rowNumbers l) (few : boxes ≤ l .boxes) where
+module _ (l : Limits) (v levels : ℕ) (outer : Bool) (rows : List ℕ) (i boxes : ℕ) (full : length rows ≡ rowNumbers l) (few : boxes ≤ l .boxes) where
   abbrev Row : ℕ → Type 0
-  Row n = Judges l levels outer rows i boxes n
+  Row n = Judges l v levels outer rows i boxes n
 
-  refused : (n : ℕ) → 0 < n → termRows l levels outer rows i boxes ≡ err (n, i) → Row n
+  refused : (n : ℕ) → 0 < n → termRows l v levels outer rows i boxes ≡ err (n, i) → Row n
   refused n h e = record { refuses = λ z. e; enters = λ z. absurd (omega arith) }
 
   -- A test comes first.
@@ -145,8 +155,8 @@ module _ (l : Limits) (levels : ℕ) (outer : Bool) (rows : List ℕ) (i boxes :
   unfolding rowNumbers
   at-end h =
       let z : length rows ≤ 5 * i = omega arith in
-      let e = opening-12 l 1 inRows outer (rowCursor rows i boxes) (drop-of-length-le rows z) in
-      refused 12 (omega arith) (term-refused l 1 inRows outer _ levels _ e ∙ ap (λ (p : ℕ). err (12, p)) (row-place i))
+      let e = opening-12 l v inRows outer (rowCursor rows i boxes) (drop-of-length-le rows z) in
+      refused 12 (omega arith) (term-refused l v inRows outer _ levels _ e ∙ ap (λ (p : ℕ). err (12, p)) (row-place i))
 
   module _ (room : i < l .terms) where
     abbrev s : Cursor
@@ -159,23 +169,21 @@ module _ (l : Limits) (levels : ℕ) (outer : Bool) (rows : List ℕ) (i boxes :
     unfolding rowNumbers
     split = row-split (l .terms) rows i full room
 
-    stopped : (n : ℕ) → 0 < n → opening l 1 inRows outer s ≡ err (n, placeIn inRows (5 * i)) → Row n
-    stopped n h e = refused n h (term-refused l 1 inRows outer s levels _ e ∙ ap (λ (p : ℕ). err (n, p)) (row-place i))
+    stopped : (n : ℕ) → 0 < n → opening l v inRows outer s ≡ err (n, placeIn inRows (5 * i)) → Row n
+    stopped n h e = refused n h (term-refused l v inRows outer s levels _ e ∙ ap (λ (p : ℕ). err (n, p)) (row-place i))
 
     kind-zero : fieldAt rows i 0 ≡ 0 → Row 12
-    kind-zero z = stopped 12 (omega arith) (opening-12-row l 1 outer s (fieldAt rows i 0) after split z)
+    kind-zero z = stopped 12 (omega arith) (opening-12-row l v outer s (fieldAt rows i 0) after split z)
 
-    kind-unknown : 11 < fieldAt rows i 0 → Row 13
+    kind-unknown : eqb (fieldAt rows i 0) 0 ≡ false → knownIn v (fieldAt rows i 0) ≡ false → Row 13
     unfolding ended
-    kind-unknown h =
-        let z : eqb (fieldAt rows i 0) 0 ≡ false = ne-eqb (fieldAt rows i 0) 0 (λ e. omega arith) in
-        stopped 13 (omega arith) (opening-13 l 1 inRows outer s (fieldAt rows i 0) after split z (kind-none (fieldAt rows i 0) (λ q. omega arith)))
+    kind-unknown z h = stopped 13 (omega arith) (opening-13 l v inRows outer s (fieldAt rows i 0) after split z (known-none (fieldAt rows i 0) v h))
 
     -- The kind is k.
-    module _ (k : Kind) (h : kindOf 1 (fieldAt rows i 0) ≡ some k) where
+    module _ (k : Kind) (h : kindOf v (fieldAt rows i 0) ≡ some k) where
       may-stand : (not outer || is k kBlock) ≡ not (outer && not (eqb (fieldAt rows i 0) 11))
       unfolding is byteOf
-      may-stand = rw (found 1 (fieldAt rows i 0) k h) (deny outer (eqb (fieldAt rows i 0) 11))
+      may-stand = rw (found v (fieldAt rows i 0) k h) (deny outer (eqb (fieldAt rows i 0) 11))
         where
           deny : (a b : Bool) → (not a || b) ≡ not (a && not b)
           deny true true = refl
@@ -183,32 +191,32 @@ module _ (l : Limits) (levels : ℕ) (outer : Bool) (rows : List ℕ) (i boxes :
           deny false b = refl
 
       no-block : (outer && not (eqb (fieldAt rows i 0) 11)) ≡ true → Row 18
-      no-block t = stopped 18 (omega arith) (opening-18 l 1 inRows outer s (fieldAt rows i 0) after split k h (may-stand ∙ ap not t))
+      no-block t = stopped 18 (omega arith) (opening-18 l v inRows outer s (fieldAt rows i 0) after split k h (may-stand ∙ ap not t))
 
       module _ (stands : (outer && not (eqb (fieldAt rows i 0) 11)) ≡ false) where
-        opens : opening l 1 inRows outer s ≡ ok (k, s)
-        opens = opening-ok l 1 inRows outer s (fieldAt rows i 0) after split k h (may-stand ∙ ap not stands) (lt-ltb i (l .terms) room)
+        opens : opening l v inRows outer s ≡ ok (k, s)
+        opens = opening-ok l v inRows outer s (fieldAt rows i 0) after split k h (may-stand ∙ ap not stands) (lt-ltb i (l .terms) room)
 
         too-deep : levels ≡ 0 → Row 15
-        too-deep z = refused 15 (omega arith) (ap (λ (d : ℕ). term l 1 inRows d outer s) z ∙ term-deep l 1 inRows outer s k opens ∙ ap (λ (p : ℕ). err (15, p)) (row-place i))
+        too-deep z = refused 15 (omega arith) (ap (λ (d : ℕ). term l v inRows d outer s) z ∙ term-deep l v inRows outer s k opens ∙ ap (λ (p : ℕ). err (15, p)) (row-place i))
 
         module _ (d : ℕ) (level : levels ≡ suc d) where
           too-many : l .boxes < boxes + boxesOf k → Row 17
           too-many z =
               refused 17 (omega arith)
-              (ap (λ (e : ℕ). term l 1 inRows e outer s) level ∙ term-boxes l 1 inRows outer s k opens d (lt-leb (boxes + boxesOf k) (l .boxes) z) ∙ ap (λ (p : ℕ). err (17, p)) (row-place i))
+              (ap (λ (e : ℕ). term l v inRows e outer s) level ∙ term-boxes l v inRows outer s k opens d (lt-leb (boxes + boxesOf k) (l .boxes) z) ∙ ap (λ (p : ℕ). err (17, p)) (row-place i))
 
           module _ (fits : boxes + boxesOf k ≤ l .boxes) where
             abbrev inner : Result Refusal (Term × Cursor)
-            inner = built k i (take (length (fields l k)) (fieldsAt rows i)) (term l 1 inRows (levels - 1)) (rowCursor rows (i + 1) (boxes + boxesOf k))
+            inner = built k i (take (length (fields l k)) (fieldsAt rows i)) (term l v inRows (levels - 1)) (rowCursor rows (i + 1) (boxes + boxesOf k))
 
-            by-fields : termRows l levels outer rows i boxes ≡ pick (fieldsFit (fields l k) (fieldsAt rows i)) inner (err (14, i))
+            by-fields : termRows l v levels outer rows i boxes ≡ pick (fieldsFit (fields l k) (fieldsAt rows i)) inner (err (14, i))
             by-fields =
                 let e : suc i ≡ i + 1 = omega arith in
                 let f : d ≡ levels - 1 = omega arith in
-                ap (λ (m : ℕ). term l 1 inRows m outer s) level
-                ∙ ap (λ (ys : List ℕ). term l 1 inRows (suc d) outer (cursor ys (5 * i) i boxes)) split
-                ∙ term-fields l outer i i boxes (fieldAt rows i 0) (fieldsAt rows i) (drop (5 * (i + 1)) rows) d k refl (rw split at opens) (le-leb (boxes + boxesOf k) (l .boxes) fits)
+                ap (λ (m : ℕ). term l v inRows m outer s) level
+                ∙ ap (λ (ys : List ℕ). term l v inRows (suc d) outer (cursor ys (5 * i) i boxes)) split
+                ∙ term-fields l v outer i i boxes (fieldAt rows i 0) (fieldsAt rows i) (drop (5 * (i + 1)) rows) d k refl (rw split at opens) (le-leb (boxes + boxesOf k) (l .boxes) fits)
                 ∙ rw (e, f)
 
             misfit : fieldsFit (fields l k) (fieldsAt rows i) ≡ false → Row 14
@@ -220,21 +228,21 @@ module _ (l : Limits) (levels : ℕ) (outer : Bool) (rows : List ℕ) (i boxes :
               enters = λ z. record { kind = k; is = h; room = room; deep = omega arith; few = fits; fit = t; builds = by-fields ∙ ap (λ (u : Bool). pick u inner (err (14, i))) t };
             }
 
-  pub row-judged : Row (rowNumber l levels outer rows i boxes)
+  pub row-judged : Row (rowNumber l v levels outer rows i boxes)
   unfolding rowNumber
   row-judged =
       let b = fieldAt rows i 0 in
       choose (leb (l .terms) i) 12 _ (λ t. at-end (leb-true (l .terms) i t)) λ f.
       let room = leb-false (l .terms) i f in
       choose (eqb b 0) 12 _ (λ t. kind-zero room (eqb-true b 0 t)) λ z.
-      choose (ltb 11 b) 13 _ (λ t. kind-unknown room (ltb-true 11 b t)) λ w.
-      let o = kind-some b (omega (arith, eqb-false b 0 z), ltb-false 11 b w) in
+      choose (not (knownIn v b)) 13 _ (λ t. kind-unknown room z (denied (knownIn v b) t)) λ w.
+      let o = known-some b v (granted (knownIn v b) w) in
       let k = o .0 in
       choose (outer && not (eqb b 11)) 18 _ (no-block room k (o .1)) λ st.
-      choose (eqb levels 0) 15 _ (λ t. too-deep room k (o .1) st (eqb-true levels 0 t)) λ v.
-      let level : levels ≡ suc (levels - 1) = omega (arith, eqb-false levels 0 v) in
-      let e : boxesOf k ≡ pick (eqb b 7) 1 0 = boxes-of b k (o .1) in
+      choose (eqb levels 0) 15 _ (λ t. too-deep room k (o .1) st (eqb-true levels 0 t)) λ q.
+      let level : levels ≡ suc (levels - 1) = omega (arith, eqb-false levels 0 q) in
+      let e : boxesOf k ≡ pick (eqb b 7) 1 0 = boxes-of v b k (o .1) in
       choose (eqb b 7 && leb (l .boxes) boxes) 17 _ (λ t. too-many room k (o .1) st (levels - 1) level (rw e (boxes-over (l .boxes) (eqb b 7) (leb (l .boxes) boxes) boxes refl t))) λ m.
       let fits : boxes + boxesOf k ≤ l .boxes = rw e (boxes-fit (l .boxes) (eqb b 7) (leb (l .boxes) boxes) boxes few refl m) in
-      rw (fields-of b l k (o .1))
+      rw (fields-of b l v k (o .1))
       (choose (fieldsFit (fields l k) (fieldsAt rows i)) 0 14 (entered room k (o .1) st (levels - 1) level fits) (misfit room k (o .1) st (levels - 1) level fits))

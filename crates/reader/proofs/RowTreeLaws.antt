@@ -12,7 +12,7 @@ use lib.Dec.{leb, ltb}
 use lib.ListN.{length}
 use borrow.Author.Tests.{leb-true, ltb-true}
 use Rattle.reader.specs.Script.{Term, Terms, box, declare, assign, block, last}
-use Rattle.reader.specs.Kinds.{Kind, kBox, kLet, kAssign, kBlock, byteOf, kinds, among, kindOf, wrapsOf}
+use Rattle.reader.specs.Kinds.{Kind, kBox, kLet, kAssign, kBlock, byteOf, newest, kinds, among, kindOf, wrapsOf}
 use Rattle.reader.specs.RowParts.{fieldAt}
 use Rattle.reader.specs.RowTrees.{placeAt, RowTree, IsTree, onlyIf, around, before, severalAt, termsAt, IsRest, kindAt, treeAt}
 use Rattle.reader.proofs.KindBytes.{wrapping}
@@ -68,11 +68,11 @@ module _ (nv : ℕ) where
   has-room zero rows i h = absurd h
   has-room (suc l) rows i h = leb-true _ _ (only-if _ _ h)
 
-  pub tree-kind : (l : ℕ) (rows : List ℕ) (i : ℕ) (o : Option Kind) → IsTree (treeAt nv l rows i) → kindOf 1 (fieldAt rows i 0) ≡ o → treeAt nv l rows i ≡ kindAt o nv (treeAt nv (l - 1) rows) rows i
+  pub tree-kind : (l : ℕ) (rows : List ℕ) (i : ℕ) (o : Option Kind) → IsTree (treeAt nv l rows i) → kindOf newest (fieldAt rows i 0) ≡ o → treeAt nv l rows i ≡ kindAt o nv (treeAt nv (l - 1) rows) rows i
   unfolding treeAt
   tree-kind zero rows i o h e = absurd h
   tree-kind (suc l) rows i o h e =
-      let q : leb (5 * i + 5) (length rows) ≡ true = only-if (leb (5 * i + 5) (length rows)) (kindAt (kindOf 1 (fieldAt rows i 0)) nv (treeAt nv l rows) rows i) h in
+      let q : leb (5 * i + 5) (length rows) ≡ true = only-if (leb (5 * i + 5) (length rows)) (kindAt (kindOf newest (fieldAt rows i 0)) nv (treeAt nv l rows) rows i) h in
       rw (sub-one, q, e)
 
 module _ (nv l : ℕ) (rows : List ℕ) (i : ℕ) (good : IsTree (treeAt nv l rows i)) where
@@ -80,11 +80,11 @@ module _ (nv l : ℕ) (rows : List ℕ) (i : ℕ) (good : IsTree (treeAt nv l ro
   inner = treeAt nv (l - 1) rows (i + 1)
 
   pub box-is : fieldAt rows i 0 ≡ 7 → treeAt nv l rows i ≡ around (box i) inner
-  unfolding kindAt kindOf among kinds byteOf
+  unfolding kindAt newest kindOf among kinds byteOf
   box-is e = tree-kind nv l rows i (some kBox) good (rw e)
 
   let-kind : fieldAt rows i 0 ≡ 8 → treeAt nv l rows i ≡ onlyIf (ltb (fieldAt rows i 1) nv) (around (declare i (fieldAt rows i 1)) inner)
-  unfolding kindAt kindOf among kinds byteOf
+  unfolding kindAt newest kindOf among kinds byteOf
   let-kind e = tree-kind nv l rows i (some kLet) good (rw e)
 
   let-in : fieldAt rows i 0 ≡ 8 → ltb (fieldAt rows i 1) nv ≡ true
@@ -97,7 +97,7 @@ module _ (nv l : ℕ) (rows : List ℕ) (i : ℕ) (good : IsTree (treeAt nv l ro
   let-is e = let-kind e ∙ rw (let-in e)
 
   assign-kind : fieldAt rows i 0 ≡ 9 → treeAt nv l rows i ≡ onlyIf (ltb (fieldAt rows i 1) nv) (around (assign i (placeAt rows i 1)) inner)
-  unfolding kindAt kindOf among kinds byteOf
+  unfolding kindAt newest kindOf among kinds byteOf
   assign-kind e = tree-kind nv l rows i (some kAssign) good (rw e)
 
   assign-in : fieldAt rows i 0 ≡ 9 → ltb (fieldAt rows i 1) nv ≡ true
@@ -123,7 +123,7 @@ module _ (nv l : ℕ) (rows : List ℕ) (i : ℕ) (good : IsTree (treeAt nv l ro
       assigned e = around-inner (assign i (placeAt rows i 1)) inner (rw (assign-is e) at good)
 
   pub block-is : fieldAt rows i 0 ≡ 11 → treeAt nv l rows i ≡ around (block i) (termsAt (treeAt nv (l - 1) rows) (fieldAt rows i 1) (i + 1))
-  unfolding kindAt kindOf among kinds byteOf
+  unfolding kindAt newest kindOf among kinds byteOf
   block-is e = tree-kind nv l rows i (some kBlock) good (rw e)
 
   pub block-inner : fieldAt rows i 0 ≡ 11 → IsTree (termsAt (treeAt nv (l - 1) rows) (fieldAt rows i 1) (i + 1))

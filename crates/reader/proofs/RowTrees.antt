@@ -9,15 +9,15 @@ use lib.ListN.{length, getD, length-drop, length-append}
 use borrow.Author.Tests.{le-leb, lt-ltb}
 use Rattle.reader.specs.Result.{ok}
 use Rattle.reader.specs.Limits.{Limits, rowNumbers}
-use Rattle.reader.specs.Script.{Term, Terms, number, reading, copy, move, borrowShared, borrowExclusive, box, declare, assign, below, block, last, more}
-use Rattle.reader.specs.Kinds.{kindOf, fields}
+use Rattle.reader.specs.Script.{Term, Terms, number, reading, copy, move, borrowShared, borrowExclusive, box, declare, assign, below, block, sum, last, more}
+use Rattle.reader.specs.Kinds.{newest, kindOf, fields}
 use Rattle.reader.specs.Layout.{inRows, others, lay, lays}
 use Rattle.reader.specs.Reader.{decode}
 use Rattle.reader.specs.Measures.{size, sizes, depth, depths, kindIn}
 use Rattle.reader.specs.Within.{Formed, FormedAll, Under}
 use Rattle.reader.specs.RowParts.{fieldAt}
 use Rattle.reader.specs.RowTrees.{RowTree, severalAt, termsAt, kindAt, treeAt}
-use Rattle.reader.proofs.KindBytes.{has}
+use Rattle.reader.proofs.KindBytes.{has, added-most}
 use Rattle.reader.proofs.Parts.{counts}
 use Rattle.reader.proofs.RoundTrip.{decoded, laid-rows}
 use Rattle.reader.proofs.View.{values, Stands, row, in-box, in-let, in-assign, in-block, at-last, at-more, stands}
@@ -29,10 +29,10 @@ module _ (l : Limits) (rs : List ℕ) where
   room : (i : ℕ) (t : Term) → Stands rs i (lay inRows t) → 5 * i + 5 ≤ length rs
   room i t s = omega (arith, simp (length-drop, length-append) at (ap length (s .is)), laid-rows t, counts t .terms)
 
-  kind-found : (i : ℕ) (t : Term) → Stands rs i (lay inRows t) → kindOf 1 (fieldAt rs i 0) ≡ some (kindIn t)
+  kind-found : (i : ℕ) (t : Term) → Stands rs i (lay inRows t) → kindOf newest (fieldAt rs i 0) ≡ some (kindIn t)
   kind-found i t s =
       let z : 5 * i + 0 ≡ 5 * i = omega arith in
-      ap (λ (n : ℕ). kindOf 1 (getD rs n 0)) z ∙ ap (kindOf 1) (row rs i t s .kind) ∙ has 1 (kindIn t)
+      ap (λ (n : ℕ). kindOf newest (getD rs n 0)) z ∙ ap (kindOf newest) (row rs i t s .kind) ∙ has newest (kindIn t) (added-most (kindIn t))
 
   by-kind : (d i : ℕ) (t : Term) → depth t ≤ d → Stands rs i (lay inRows t) → tree d i ≡ kindAt (some (kindIn t)) (l .variables) (tree (d - 1)) rs i
   unfolding treeAt
@@ -60,6 +60,10 @@ module _ (l : Limits) (rs : List ℕ) where
     standing (below j p q) d i h f s =
         let r = row rs i (below j p q) s in
         by-kind d i (below j p q) h s
+        ∙ rw (r .one, r .two, r .three, r .four, lt-ltb (p .root) (l .variables) (f .1 .0 .1), lt-ltb (q .root) (l .variables) (f .1 .1 .1 .0 .1), f .0)
+    standing (sum j p q) d i h f s =
+        let r = row rs i (sum j p q) s in
+        by-kind d i (sum j p q) h s
         ∙ rw (r .one, r .two, r .three, r .four, lt-ltb (p .root) (l .variables) (f .1 .0 .1), lt-ltb (q .root) (l .variables) (f .1 .1 .1 .0 .1), f .0)
     standing (box j t) d i h f s =
         by-kind d i (box j t) h s ∙ rw (add-one i, standing t (d - 1) (suc i) (omega arith) (f .2) (in-box rs i j t s), f .0) (ap (λ (k : ℕ). some (box i t, k)) (omega arith))

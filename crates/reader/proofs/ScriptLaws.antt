@@ -1,8 +1,8 @@
 -- A whole script in bytes: mark and version, the outermost block, and nothing after it.
-use Prim.Native.Nat.{ℕ, zero, suc, _+_, _*_, _≤_, _<_}
+use Prim.Native.Nat.{ℕ, zero, suc, _+_, _≤_, _<_}
 use native.Mathlib.Omega.{arith}
-use mathlib.Core.Path.{_≡_, refl, ap, _∙_}
-use mathlib.Core.Bool.{Bool, true, false}
+use mathlib.Core.Path.{_≡_, refl, sym, ap, _∙_}
+use mathlib.Core.Bool.{Bool, true, false, _&&_}
 use mathlib.Core.List.{List, [], _∷_}
 use lib.ListN.{length, getD, drop, drop-of-length-le}
 use lib.Seq.{drop-cons, drop-drop}
@@ -10,17 +10,23 @@ use lib.Dec.{leb, ltb, eqb}
 use borrow.Author.Tests.{leb-true, leb-false, ltb-true, ltb-false}
 use Rattle.reader.specs.Result.{Result, ok, err, need, pick, Refusal, _>>=_ as _&_}
 use Rattle.reader.specs.Limits.{Limits}
-use Rattle.reader.specs.Script.{Term}
+use Rattle.reader.specs.Script.{Term, Whole}
+use Rattle.reader.specs.Kinds.{newest, knows}
 use Rattle.reader.specs.Layout.{inBytes}
-use Rattle.reader.specs.Reader.{Cursor, Reads, _>>=_, done, placeIn, expect, peek, skip, next, mark, version, leading, nothingLeft, over, script, term, start, answer, parse}
+use Rattle.reader.specs.Reader.{Cursor, Reads, _>>=_, done, placeIn, expect, peek, skip, next, mark, version, leading, nothingLeft, over, script, term, wholeScript, start, answer, parse}
 use Rattle.reader.specs.Parts.{cursor}
-use Rattle.reader.specs.ByteParts.{onNumber, markNumber, leadJudged, readScript}
+use Rattle.reader.specs.ByteParts.{onNumber, markNumber, versionAt, leadJudged, readScript}
 use Rattle.reader.specs.Lent.{readOutermost}
 use Rattle.reader.specs.declared.operands.Fields.{Fields}
 use Rattle.reader.specs.declared.operands.Fields.the-variants as fields
 use Rattle.reader.proofs.Answers.{go-on, stops, after, stop}
 use Rattle.reader.proofs.NumberLaws.{number-fine}
 use Rattle.reader.proofs.TermSteps.{peek-ok, peek-err, expect-ok, expect-err}
+
+-- Mark and version that are fine, of which the version is known or too new.
+unfoldable pub narrowed : Bool → Fields → Fields
+narrowed b (fields.Fine m) = pick b (fields.Fine m) (fields.Refused 11 3)
+narrowed b (fields.Refused n p) = fields.Refused n p
 
 module _ (t : List ℕ) where
   abbrev here : ℕ → Cursor
@@ -64,22 +70,22 @@ module _ (t : List ℕ) where
   next-end j h = stops (peek inBytes) _ (here j) _ (peek-end j h)
 
   -- What reading mark and version answers where they are judged so.
-  unfoldable pub onLead : Fields → Result Refusal (Unit {0} × Cursor)
-  onLead (fields.Fine n) = ok (tt, here 5)
-  onLead (fields.Refused n p) = err (n, p)
+  unfoldable pub onLead : Fields → Result Refusal (ℕ × Cursor)
+  onLead (fields.Fine m) = ok (versionAt t 3, here 5)
+  onLead (fields.Refused m p) = err (m, p)
 
-  versioned : Fields
-  versioned = pick (ltb (length t) 5) (fields.Refused 12 (length t)) (pick (eqb (getD t 3 0 * 256 + getD t 4 0) 1) (fields.Fine 5) (fields.Refused 11 3))
+  versioned : ℕ → Fields
+  versioned n = pick (ltb (length t) 5) (fields.Refused 12 (length t)) (pick (knows n (versionAt t 3)) (fields.Fine 5) (fields.Refused 11 3))
 
-  version-is : 3 ≤ length t → version (here 3) ≡ onLead versioned
+  version-is : (n : ℕ) → 3 ≤ length t → version n (here 3) ≡ onLead (versioned n)
   unfolding version versioned onLead need _&_
-  version-is h = go (ltb (length t) 5) (ltb (length t) 4) (eqb (getD t 3 0 * 256 + getD t 4 0) 1) refl refl refl
+  version-is n h = go (ltb (length t) 5) (ltb (length t) 4) (knows n (versionAt t 3)) refl refl refl
     where
-      both : 5 ≤ length t → {r : Result Refusal (Unit {0} × Cursor)} → _&_ (need (eqb (getD t 3 0 * 256 + getD t 4 0) 1) (11, 3)) (λ u. ok (u, here 5)) ≡ r → version (here 3) ≡ r
+      both : 5 ≤ length t → {r : Result Refusal (ℕ × Cursor)} → _&_ (need (knows n (versionAt t 3)) (11, 3)) (λ u. ok (versionAt t 3, here 5)) ≡ r → version n (here 3) ≡ r
       both h q = go-on (next inBytes) _ (here 3) (here 4) (getD t 3 0) _ (next-here 3 (omega arith)) (go-on (next inBytes) _ (here 4) (here 5) (getD t 4 0) _ (next-here 4 (omega arith)) q)
 
-      go : (x y z : Bool) → ltb (length t) 5 ≡ x → ltb (length t) 4 ≡ y → eqb (getD t 3 0 * 256 + getD t 4 0) 1 ≡ z
-          → version (here 3) ≡ onLead (pick x (fields.Refused 12 (length t)) (pick z (fields.Fine 5) (fields.Refused 11 3)))
+      go : (x y z : Bool) → ltb (length t) 5 ≡ x → ltb (length t) 4 ≡ y → knows n (versionAt t 3) ≡ z
+          → version n (here 3) ≡ onLead (pick x (fields.Refused 12 (length t)) (pick z (fields.Fine 5) (fields.Refused 11 3)))
       go true true z a b e = let l : length t ≡ 3 = omega (arith, ltb-true (length t) 4 b) in rw l (stops (next inBytes) _ (here 3) _ (next-end 3 (omega arith)))
       go true false z a b e =
           let l : length t ≡ 4 = omega (arith, ltb-true (length t) 5 a, ltb-false (length t) 4 b) in
@@ -95,7 +101,7 @@ module _ (t : List ℕ) where
       go true l q = absurd (omega arith)
       go false l q = leb-false _ _ l
 
-  mark-then : (j b : ℕ) (k : Reads (Unit {0})) (f : Fields) → (markNumber t j b ≡ 0 → k (here (suc j)) ≡ onLead f) → (mark b >>= λ u. k) (here j) ≡ onLead (onNumber (markNumber t j b) j f)
+  mark-then : (j b : ℕ) (k : Reads ℕ) (f : Fields) → (markNumber t j b ≡ 0 → k (here (suc j)) ≡ onLead f) → (mark b >>= λ u. k) (here j) ≡ onLead (onNumber (markNumber t j b) j f)
   unfolding marked onNumber onLead
   mark-then j b k f h = go (markNumber t j b) refl
     where
@@ -103,53 +109,85 @@ module _ (t : List ℕ) where
       go zero e = go-on (mark b) _ (here j) (here (suc j)) tt _ (mark-is j b ∙ ap (λ (n : ℕ). marked n j) e) (h e)
       go (suc n) e = stops (mark b) _ (here j) _ (mark-is j b ∙ ap (λ (n : ℕ). marked n j) e)
 
-  pub lead-is : leading (start t) ≡ onLead (leadJudged t 0)
+  pub lead-is : (n : ℕ) → leading n (start t) ≡ onLead (leadJudged n t 0)
   unfolding leadJudged leading versioned
-  lead-is = mark-then 0 0x52 _ _ (λ a. mark-then 1 0x43 _ _ (λ b. mark-then 2 0x53 version versioned (λ c. version-is (mark-room 2 0x53 c))))
+  lead-is n = mark-then 0 0x52 _ _ (λ a. mark-then 1 0x43 _ _ (λ b. mark-then 2 0x53 (version n) (versioned n) (λ c. version-is n (mark-room 2 0x53 c))))
 
-  -- Where mark and version are fine, they are there, and five bytes.
-  pub lead-room : (at n : ℕ) → leadJudged t at ≡ fields.Fine n → (n ≡ at + 5) × (at + 5 ≤ length t)
+  -- Where mark and version are fine, they are there, five bytes, and the version is known.
+  pub lead-room : (k at n : ℕ) → leadJudged k t at ≡ fields.Fine n → (n ≡ at + 5) × (at + 5 ≤ length t) × (knows k (versionAt t (at + 3)) ≡ true)
   unfolding leadJudged
-  lead-room at n h = go (ltb (length t) (at + 5)) (eqb (getD t (at + 3) 0 * 256 + getD t (at + 4) 0) 1) refl (number-fine _ (at + 2) n _ (number-fine _ (at + 1) n _ (number-fine _ at n _ h .1) .1) .1)
+  lead-room k at n h = go (ltb (length t) (at + 5)) (knows k (versionAt t (at + 3))) refl (number-fine _ (at + 2) n _ (number-fine _ (at + 1) n _ (number-fine _ at n _ h .1) .1) .1)
     where
-      go : (x y : Bool) → ltb (length t) (at + 5) ≡ x → pick x (fields.Refused 12 (length t)) (pick y (fields.Fine (at + 5)) (fields.Refused 11 (at + 3))) ≡ fields.Fine n → (n ≡ at + 5) × (at + 5 ≤ length t)
+      go : (x y : Bool) → ltb (length t) (at + 5) ≡ x → pick x (fields.Refused 12 (length t)) (pick y (fields.Fine (at + 5)) (fields.Refused 11 (at + 3))) ≡ fields.Fine n → (n ≡ at + 5) × (at + 5 ≤ length t) × (y ≡ true)
       go true y l q = let z : _≡_ {A = ℕ} 0 1 = cc in absurd (omega arith)
-      go false true l q = (let e : at + 5 ≡ n = cc in omega arith, ltb-false _ _ l)
+      go false true l q = (let e : at + 5 ≡ n = cc in omega arith, ltb-false _ _ l, refl)
       go false false l q = let z : _≡_ {A = ℕ} 0 1 = cc in absurd (omega arith)
+
+  -- A reader that knows fewer versions judges mark and version as one that knows them all, and then whether the version is too new.
+  lead-narrow-at : (n v : ℕ) → pick (knows n v) (fields.Fine 5) (fields.Refused 11 3) ≡ narrowed (leb v n) (pick (knows newest v) (fields.Fine 5) (fields.Refused 11 3))
+  unfolding knows narrowed
+  lead-narrow-at n v = go (leb 1 v) (leb v n) (leb v newest)
+    where
+      go : (a b c : Bool) → pick (a && b && c) (fields.Fine 5) (fields.Refused 11 3) ≡ narrowed b (pick (a && c && c) (fields.Fine 5) (fields.Refused 11 3))
+      go true true true = refl
+      go true true false = refl
+      go true false true = refl
+      go true false false = refl
+      go false b c = refl
+
+  pub lead-narrow : (n : ℕ) → leadJudged n t 0 ≡ narrowed (leb (versionAt t 3) n) (leadJudged newest t 0)
+  unfolding leadJudged narrowed onNumber
+  lead-narrow n =
+      let b = leb (versionAt t 3) n in
+      sym (on-number b (markNumber t 0 0x52) 0 _ ∙ ap (onNumber (markNumber t 0 0x52) 0)
+      (on-number b (markNumber t 1 0x43) 1 _ ∙ ap (onNumber (markNumber t 1 0x43) 1)
+      (on-number b (markNumber t 2 0x53) 2 _ ∙ ap (onNumber (markNumber t 2 0x53) 2)
+      (on-end b (ltb (length t) 5) _ ∙ ap (pick (ltb (length t) 5) (fields.Refused 12 (length t))) (sym (lead-narrow-at n (versionAt t 3)))))))
+    where
+      on-number : (b : Bool) (m p : ℕ) (f : Fields) → narrowed b (onNumber m p f) ≡ onNumber m p (narrowed b f)
+      on-number b zero p f = refl
+      on-number b (suc m) p f = refl
+
+      on-end : (b x : Bool) (f : Fields) → narrowed b (pick x (fields.Refused 12 (length t)) f) ≡ pick x (fields.Refused 12 (length t)) (narrowed b f)
+      on-end b true f = refl
+      on-end b false f = refl
 
   -- ---- the whole script
 
-  pub script-lead : (l : Limits) (n p : ℕ) → leadJudged t 0 ≡ fields.Refused n p → readScript l t ≡ err (n, p)
-  unfolding onLead
-  script-lead l n p e = stops leading _ (start t) (n, p) (lead-is ∙ ap onLead e)
+  pub script-lead : (l : Limits) (k n p : ℕ) → leadJudged k t 0 ≡ fields.Refused n p → readScript l k t ≡ err (n, p)
+  unfolding onLead wholeScript
+  script-lead l k n p e = stops (leading k) _ (start t) (n, p) (lead-is k ∙ ap onLead e)
 
-  module _ (l : Limits) (n : ℕ) (e : leadJudged t 0 ≡ fields.Fine n) where
-    script-on : readScript l t ≡ script l 1 inBytes (here 5)
-    unfolding onLead
-    script-on = go-on leading _ (start t) (here 5) tt _ (lead-is ∙ ap onLead e) refl
+  module _ (l : Limits) (k n : ℕ) (e : leadJudged k t 0 ≡ fields.Fine n) where
+    abbrev v : ℕ
+    v = versionAt t 3
 
-    pub script-refused : (q : Refusal) → readOutermost l t 5 ≡ err q → readScript l t ≡ err q
+    script-on : readScript l k t ≡ (script l v inBytes >>= λ x. done (record { version = v; term = x })) (here 5)
+    unfolding onLead wholeScript
+    script-on = go-on (leading k) _ (start t) (here 5) v _ (lead-is k ∙ ap onLead e) refl
+
+    pub script-refused : (q : Refusal) → readOutermost l v t 5 ≡ err q → readScript l k t ≡ err q
     unfolding script
-    script-refused q h = script-on ∙ stops (term l 1 inBytes (l .levels) true) _ (here 5) q h
+    script-refused q h = script-on ∙ stops (script l v inBytes) _ (here 5) q (stops (term l v inBytes (l .levels) true) _ (here 5) q h)
 
-    pub script-over : (x : Term) (s : Cursor) → readOutermost l t 5 ≡ ok (x, s) → s .rest ≡ drop (s .at) t → length t ≤ s .at → readScript l t ≡ ok (x, s)
+    pub script-over : (x : Term) (s : Cursor) → readOutermost l v t 5 ≡ ok (x, s) → s .rest ≡ drop (s .at) t → length t ≤ s .at → readScript l k t ≡ ok (record { version = v; term = x }, s)
     unfolding script over done nothingLeft _&_
     script-over x s h r i =
         let d : s .rest ≡ [] = r ∙ drop-of-length-le t i in
         let o : over inBytes s ≡ ok (tt, s) = rw d in
-        script-on ∙ go-on (term l 1 inBytes (l .levels) true) _ (here 5) s x _ h (go-on (over inBytes) _ s s tt _ o refl)
+        script-on ∙ go-on (script l v inBytes) _ (here 5) s x _ (go-on (term l v inBytes (l .levels) true) _ (here 5) s x _ h (go-on (over inBytes) _ s s tt _ o refl)) refl
 
-    pub script-left : (x : Term) (s : Cursor) → readOutermost l t 5 ≡ ok (x, s) → s .rest ≡ drop (s .at) t → s .at < length t → readScript l t ≡ err (19, s .at)
+    pub script-left : (x : Term) (s : Cursor) → readOutermost l v t 5 ≡ ok (x, s) → s .rest ≡ drop (s .at) t → s .at < length t → readScript l k t ≡ err (19, s .at)
     unfolding script over nothingLeft _&_
     script-left x s h r i =
         let d : s .rest ≡ getD t (s .at) 0 ∷ drop (suc (s .at)) t = r ∙ drop-cons t (s .at) 0 i in
         let o : over inBytes s ≡ err (19, s .at) = rw d in
-        script-on ∙ go-on (term l 1 inBytes (l .levels) true) _ (here 5) s x _ h (stops (over inBytes) _ s _ o)
+        script-on ∙ stops (script l v inBytes) _ (here 5) _ (go-on (term l v inBytes (l .levels) true) _ (here 5) s x _ h (stops (over inBytes) _ s _ o))
 
-pub parse-is : (l : Limits) (t : List ℕ) (x : Term) (s : Cursor) → readScript l t ≡ ok (x, s) → parse l t ≡ ok x
+pub parse-is : (l : Limits) (k : ℕ) (t : List ℕ) (x : Whole) (s : Cursor) → readScript l k t ≡ ok (x, s) → parse l k t ≡ ok x
 unfolding parse answer
-parse-is l t x s h = after (readScript l t) (λ r. ok (r .0)) (x, s) _ h refl
+parse-is l k t x s h = after (readScript l k t) (λ r. ok (r .0)) (x, s) _ h refl
 
-pub parse-refused : (l : Limits) (t : List ℕ) (e : Refusal) → readScript l t ≡ err e → parse l t ≡ err e
+pub parse-refused : (l : Limits) (k : ℕ) (t : List ℕ) (e : Refusal) → readScript l k t ≡ err e → parse l k t ≡ err e
 unfolding parse answer
-parse-refused l t e h = stop (readScript l t) (λ r. ok (r .0)) e h
+parse-refused l k t e h = stop (readScript l k t) (λ r. ok (r .0)) e h

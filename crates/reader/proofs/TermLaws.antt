@@ -11,7 +11,7 @@ use borrow.Author.Tests.{leb-true}
 use Rattle.reader.specs.Result.{ok}
 use Rattle.reader.specs.Limits.{Limits, rowNumbers}
 use Rattle.reader.specs.Script.{Term, Terms, number, block, last, more}
-use Rattle.reader.specs.Kinds.{Kind, kNumber, kReading, kCopy, kMove, kShared, kExclusive, kBox, kLet, kAssign, kBelow, kBlock, byteOf, Field, fields}
+use Rattle.reader.specs.Kinds.{Kind, kNumber, kReading, kCopy, kMove, kShared, kExclusive, kBox, kLet, kAssign, kBelow, kBlock, kSum, byteOf, Field, fields}
 use Rattle.reader.specs.Layout.{inBytes, inRows, zeros, wordOf, unused, head, others, lay, lays}
 use Rattle.reader.specs.Reader.{Cursor, Reads, is, boxesOf, several, built, term}
 use Rattle.reader.specs.Parts.{cursor, fieldsOf, boxesWith}
@@ -19,7 +19,7 @@ use Rattle.reader.specs.ByteParts.{openingNumber, judgedFields, oneField
 use Rattle.reader.specs.declared.operands.Fields.{Fields}
 use Rattle.reader.specs.declared.operands.Fields.the-variants as fieldsFound
 use Rattle.reader.specs.ByteParts as got
-use Rattle.reader.proofs.TermSteps.{Leaf, leafNumber, leafReading, leafCopy, leafMove, leafShared, leafExclusive, leafBelow, Around, aroundBox, aroundLet, aroundAssign, wrapped, leaf-ok, around-err, around-ok, block-err, block-ok}
+use Rattle.reader.proofs.TermSteps.{Leaf, leafNumber, leafReading, leafCopy, leafMove, leafShared, leafExclusive, leafBelow, leafSum, Around, aroundBox, aroundLet, aroundAssign, wrapped, leaf-ok, around-err, around-ok, block-err, block-ok}
 use Rattle.reader.proofs.Answers.{ran, is-done}
 use Rattle.reader.proofs.Lists.{part-all, under-drop}
 use Rattle.reader.proofs.BlockLaws.{framed}
@@ -28,19 +28,20 @@ use Rattle.reader.proofs.ByteLaws.{Clear, fields-within, one-range, ope
 
 -- ---- kinds by their bytes
 
-pub around-kind : (k : Kind) → 7 ≤ byteOf k → (byteOf k ≡ 10 → ⊥) → (byteOf k ≡ 11 → ⊥) → Around k
+pub around-kind : (k : Kind) → 7 ≤ byteOf k → (byteOf k ≡ 10 → ⊥) → (byteOf k ≡ 11 → ⊥) → (byteOf k ≡ 13 → ⊥) → Around k
 unfolding byteOf
-around-kind kNumber a b c = absurd (omega arith)
-around-kind kReading a b c = absurd (omega arith)
-around-kind kCopy a b c = absurd (omega arith)
-around-kind kMove a b c = absurd (omega arith)
-around-kind kShared a b c = absurd (omega arith)
-around-kind kExclusive a b c = absurd (omega arith)
-around-kind kBox a b c = aroundBox
-around-kind kLet a b c = aroundLet
-around-kind kAssign a b c = aroundAssign
-around-kind kBelow a b c = absurd (b refl)
-around-kind kBlock a b c = absurd (c refl)
+around-kind kNumber a b c d = absurd (omega arith)
+around-kind kReading a b c d = absurd (omega arith)
+around-kind kCopy a b c d = absurd (omega arith)
+around-kind kMove a b c d = absurd (omega arith)
+around-kind kShared a b c d = absurd (omega arith)
+around-kind kExclusive a b c d = absurd (omega arith)
+around-kind kBox a b c d = aroundBox
+around-kind kLet a b c d = aroundLet
+around-kind kAssign a b c d = aroundAssign
+around-kind kBelow a b c d = absurd (b refl)
+around-kind kBlock a b c d = absurd (c refl)
+around-kind kSum a b c d = absurd (d refl)
 
 pub leaf-kind : (k : Kind) → (7 ≤ byteOf k → 9 < byteOf k) → (byteOf k ≡ 11 → ⊥) → Leaf k
 unfolding byteOf
@@ -55,6 +56,7 @@ leaf-kind kLet a b = absurd (omega (arith, a (omega arith)))
 leaf-kind kAssign a b = absurd (omega (arith, a (omega arith)))
 leaf-kind kBelow a b = leafBelow
 leaf-kind kBlock a b = absurd (b refl)
+leaf-kind kSum a b = leafSum
 
 pub block-kind : (k : Kind) → byteOf k ≡ 11 → k ≡ kBlock
 unfolding byteOf
@@ -69,6 +71,7 @@ block-kind kLet e = absurd (omega arith)
 block-kind kAssign e = absurd (omega arith)
 block-kind kBelow e = absurd (omega arith)
 block-kind kBlock e = refl
+block-kind kSum e = absurd (omega arith)
 
 pub with-boxes : (k : Kind) (b : ℕ) → boxesWith (byteOf k) b ≡ b + boxesOf k
 unfolding boxesWith boxesOf is byteOf
@@ -83,6 +86,7 @@ with-boxes kLet b = omega arith
 with-boxes kAssign b = omega arith
 with-boxes kBelow b = omega arith
 with-boxes kBlock b = omega arith
+with-boxes kSum b = omega arith
 
 pub leaf-boxes : {k : Kind} → Leaf k → boxesOf k ≡ 0
 unfolding boxesOf is byteOf
@@ -93,6 +97,7 @@ leaf-boxes leafMove = refl
 leaf-boxes leafShared = refl
 leaf-boxes leafExclusive = refl
 leaf-boxes leafBelow = refl
+leaf-boxes leafSum = refl
 
 -- ---- rows of a term
 
@@ -106,6 +111,7 @@ module _ (l : Limits) (n : ℕ) (t : List ℕ) (x : Term) where
   laid-leaf leafShared = refl
   laid-leaf leafExclusive = refl
   laid-leaf leafBelow = refl
+  laid-leaf leafSum = refl
 
   laid-around : {k : Kind} → Around k → lay inRows (wrapped k n (valuesAt (fields l k) t 1) x) ≡ head inRows k (valuesAt (fields l k) t 1) ++ lay inRows x
   unfolding lay wrapped fields valuesAt
@@ -126,6 +132,7 @@ five l kLet t = refl
 five l kAssign t = refl
 five l kBelow t = refl
 five l kBlock t = refl
+five l kSum t = refl
 
 block-boxes : (b : ℕ) → b + boxesOf kBlock ≡ b
 unfolding boxesOf is byteOf
@@ -145,7 +152,7 @@ count-says inner (suc n) s s′ ts h =
 -- ---- a term whose head is read
 
 -- The head of the term that begins t is read up to `used`.
-pub record Head (l : Limits) (levels : ℕ) (outer : Bool) (t : List ℕ) (at n b used : ℕ) : Type 0 where
+pub record Head (l : Limits) (v levels : ℕ) (outer : Bool) (t : List ℕ) (at n b used : ℕ) : Type 0 where
   pub k : Kind
   pub byte : byteOf k ≡ getD t 0 0
   pub operands : fieldsOf l (getD t 0 0) ≡ fields l k
@@ -155,32 +162,32 @@ pub record Head (l : Limits) (levels : ℕ) (outer : Bool) (t : List ℕ) (at n 
   pub room : n < l .terms
   pub few : b + boxesOf k ≤ l .boxes
   pub several : k ≡ kBlock → 1 ≤ getD t 1 0
-  pub is : term l 1 inBytes levels outer (cursor t at n b) ≡ built k n (valuesAt (fields l k) t 1) (term l 1 inBytes (levels - 1)) (cursor (drop used t) (at + used) (suc n) (b + boxesOf k))
+  pub is : term l v inBytes levels outer (cursor t at n b) ≡ built k n (valuesAt (fields l k) t 1) (term l v inBytes (levels - 1)) (cursor (drop used t) (at + used) (suc n) (b + boxesOf k))
 
 -- The row of operands that are read.
 pub filled-row : (fs : List Field) (kind : ℕ) (t : List ℕ) (at n : ℕ) (before after : List ℕ) {f : Fields} {used : ℕ} → Filled fs kind t at n before after f → f ≡ fieldsFound.Fine used → after ≡ sets before (n * 5) (rowWith kind (valuesAt fs t 1))
 filled-row fs kind t at n before after q e = subst (λ (x : Fields). RowAfter x n (rowWith kind (valuesAt fs t 1)) before after) e (q .1)
 
 -- The kind byte is refused.
-pub number-refused : (l : Limits) (levels : ℕ) (outer : Bool) (t : List ℕ) (at n b m : ℕ) (rows : List ℕ) → b ≤ l .boxes → m ≡ openingNumber l levels outer t n b → (m ≡ 0 → ⊥) → Reading (lay inRows) (readTerm l levels outer t at n b) n rows rows (got.Refused m at)
+pub number-refused : (l : Limits) (v levels : ℕ) (outer : Bool) (t : List ℕ) (at n b m : ℕ) (rows : List ℕ) → b ≤ l .boxes → m ≡ openingNumber l v levels outer t n b → (m ≡ 0 → ⊥) → Reading (lay inRows) (readTerm l v levels outer t at n b) n rows rows (got.Refused m at)
 unfolding gotOf RowsAfter
-number-refused l levels outer t at n b zero rows h e z = absurd (z refl)
-number-refused l levels outer t at n b (suc m) rows h e z = rw (opening-refused l levels outer t at n b h m (sym e)) (refl, tt)
+number-refused l v levels outer t at n b zero rows h e z = absurd (z refl)
+number-refused l v levels outer t at n b (suc m) rows h e z = rw (opening-refused l v levels outer t at n b h m (sym e)) (refl, tt)
 
 -- The operands are refused.
-pub operand-refused : (l : Limits) (levels : ℕ) (outer : Bool) (t : List ℕ) (at n b m p : ℕ) (rows rows₁ : List ℕ) → Clear l levels outer t at n b → judgedFields (fieldsOf l (getD t 0 0)) t at 1 ≡ fieldsFound.Refused m p → Reading (lay inRows) (readTerm l levels outer t at n b) n rows rows₁ (got.Refused m p)
+pub operand-refused : (l : Limits) (v levels : ℕ) (outer : Bool) (t : List ℕ) (at n b m p : ℕ) (rows rows₁ : List ℕ) → Clear l v levels outer t at n b → judgedFields (fieldsOf l (getD t 0 0)) t at 1 ≡ fieldsFound.Refused m p → Reading (lay inRows) (readTerm l v levels outer t at n b) n rows rows₁ (got.Refused m p)
 unfolding gotOf RowsAfter
-operand-refused l levels outer t at n b m p rows rows₁ c e = rw (term-stops c m p e) (refl, tt)
+operand-refused l v levels outer t at n b m p rows rows₁ c e = rw (term-stops c m p e) (refl, tt)
 
 -- The head is read where nothing is wrong at the kind byte and in the operands.
-pub head-of : (l : Limits) (levels : ℕ) (outer : Bool) (t : List ℕ) (at n b : ℕ) → Clear l levels outer t at n b → (used : ℕ) → judgedFields (fieldsOf l (getD t 0 0)) t at 1 ≡ fieldsFound.Fine used → Head l levels outer t at n b used
+pub head-of : (l : Limits) (v levels : ℕ) (outer : Bool) (t : List ℕ) (at n b : ℕ) → Clear l v levels outer t at n b → (used : ℕ) → judgedFields (fieldsOf l (getD t 0 0)) t at 1 ≡ fieldsFound.Fine used → Head l v levels outer t at n b used
 unfolding fields
-head-of l levels outer t at n b c used f =
+head-of l v levels outer t at n b c used f =
     let w = fields-within t at (fieldsOf l (getD t 0 0)) 1 used f (c .bytes) in
     record {
       k = c .k;
       byte = c .byte;
-      operands = fields-of (getD t 0 0) l (c .k) (c .kind);
+      operands = fields-of (getD t 0 0) l v (c .k) (c .kind);
       low = w .0;
       within = w .1;
       deep = c .deep;
@@ -190,10 +197,10 @@ head-of l levels outer t at n b c used f =
       is = term-goes c used f;
     }
   where
-    block-fields : (c : Clear l levels outer t at n b) → c .k ≡ kBlock → fieldsOf l (getD t 0 0) ≡ oneField 1 256
-    block-fields c e = fields-of (getD t 0 0) l (c .k) (c .kind) ∙ ap (fields l) e
+    block-fields : (c : Clear l v levels outer t at n b) → c .k ≡ kBlock → fieldsOf l (getD t 0 0) ≡ oneField 1 256
+    block-fields c e = fields-of (getD t 0 0) l v (c .k) (c .kind) ∙ ap (fields l) e
 
-module _ (l : Limits) (levels : ℕ) (outer : Bool) (t : List ℕ) (at n b used : ℕ) (h : Head l levels outer t at n b used)
+module _ (l : Limits) (v levels : ℕ) (outer : Bool) (t : List ℕ) (at n b used : ℕ) (h : Head l v levels outer t at n b used)
     (rows rows₁ : List ℕ) (e₁ : rows₁ ≡ sets rows (n * 5) (rowWith (getD t 0 0) (valuesAt (fieldsOf l (getD t 0 0)) t 1))) where
   row-is : rowWith (getD t 0 0) (valuesAt (fieldsOf l (getD t 0 0)) t 1) ≡ head inRows (h .k) (valuesAt (fields l (h .k)) t 1)
   unfolding head unused
@@ -202,11 +209,11 @@ module _ (l : Limits) (levels : ℕ) (outer : Bool) (t : List ℕ) (at n b used 
   rows-is : rows₁ ≡ sets rows (n * 5) (head inRows (h .k) (valuesAt (fields l (h .k)) t 1))
   rows-is = e₁ ∙ ap (sets rows (n * 5)) row-is
 
-  pub leaf-returns : Leaf (h .k) → Reading (lay inRows) (readTerm l levels outer t at n b) n rows rows₁ (got.Fine (at + used) (n + 1) b)
+  pub leaf-returns : Leaf (h .k) → Reading (lay inRows) (readTerm l v levels outer t at n b) n rows rows₁ (got.Fine (at + used) (n + 1) b)
   unfolding gotOf RowsAfter
   leaf-returns f =
       let s : Cursor = cursor (drop used t) (at + used) (suc n) (b + boxesOf (h .k)) in
-      let w : readTerm l levels outer t at n b ≡ ok (wrapped (h .k) n (valuesAt (fields l (h .k)) t 1) (number 0 0), s) = h .is ∙ leaf-ok n _ _ s f (number 0 0) in
+      let w : readTerm l v levels outer t at n b ≡ ok (wrapped (h .k) n (valuesAt (fields l (h .k)) t 1) (number 0 0), s) = h .is ∙ leaf-ok n _ _ s f (number 0 0) in
       let e : n + 1 ≡ suc n = add-one n in
       let z : b ≡ b + boxesOf (h .k) = omega (arith, leaf-boxes f) in
       rw w (ap₂ (got.Fine (at + used)) e z, rows-is ∙ ap (sets rows (n * 5)) (sym (laid-leaf l n t (number 0 0) f)))
@@ -216,30 +223,30 @@ module _ (l : Limits) (levels : ℕ) (outer : Bool) (t : List ℕ) (at n b used 
   Part = take (length t - used) (drop used t)
 
   pub around-returns : Around (h .k) → (rows₂ : List ℕ) (r : Got)
-      → Reading (lay inRows) (readTerm l (levels - 1) false Part (at + used) (n + 1) (boxesWith (getD t 0 0) b)) (n + 1) rows₁ rows₂ r
-      → Reading (lay inRows) (readTerm l levels outer t at n b) n rows rows₂ r
+      → Reading (lay inRows) (readTerm l v (levels - 1) false Part (at + used) (n + 1) (boxesWith (getD t 0 0) b)) (n + 1) rows₁ rows₂ r
+      → Reading (lay inRows) (readTerm l v levels outer t at n b) n rows rows₂ r
   around-returns a rows₂ r q =
       let s : Cursor = cursor (drop used t) (at + used) (suc n) (b + boxesOf (h .k)) in
       let e : cursor Part (at + used) (n + 1) (boxesWith (getD t 0 0) b) ≡ s = rw (part-all, add-one, ← h .byte, with-boxes) in
       let vs = valuesAt (fields l (h .k)) t 1 in
-      framed (lay inRows) (lay inRows) (wrapped (h .k) n vs) (head inRows (h .k) vs) (term l 1 inBytes (levels - 1) false s) (readTerm l levels outer t at n b)
+      framed (lay inRows) (lay inRows) (wrapped (h .k) n vs) (head inRows (h .k) vs) (term l v inBytes (levels - 1) false s) (readTerm l v levels outer t at n b)
       (λ e o. h .is ∙ around-err n vs _ s a e o) (λ x s′ o. h .is ∙ around-ok n vs _ s a x s′ o) (λ x s′ o. laid-around l n t x a) (five l (h .k) t)
-      n (n + 1) refl rows rows₁ rows₂ rows-is r (subst (λ (c : Cursor). Reading (lay inRows) (term l 1 inBytes (levels - 1) false c) (n + 1) rows₁ rows₂ r) e q)
+      n (n + 1) refl rows rows₁ rows₂ rows-is r (subst (λ (c : Cursor). Reading (lay inRows) (term l v inBytes (levels - 1) false c) (n + 1) rows₁ rows₂ r) e q)
 
   pub block-returns : h .k ≡ kBlock → (rows₂ : List ℕ) (r : Got)
-      → Reading (lays inRows) (readBlock l (levels - 1) (getD t 1 0) Part (at + used) (n + 1) b) (n + 1) rows₁ rows₂ r
-      → Reading (lay inRows) (readTerm l levels outer t at n b) n rows rows₂ r
+      → Reading (lays inRows) (readBlock l v (levels - 1) (getD t 1 0) Part (at + used) (n + 1) b) (n + 1) rows₁ rows₂ r
+      → Reading (lay inRows) (readTerm l v levels outer t at n b) n rows rows₂ r
   unfolding lay fields valuesAt
   block-returns k rows₂ r q =
       let s : Cursor = cursor (drop used t) (at + used) (suc n) b in
       let z : b + boxesOf (h .k) ≡ b = rw k (block-boxes b) in
       let e : cursor Part (at + used) (n + 1) b ≡ s = rw (part-all, add-one) in
-      let i : readTerm l levels outer t at n b ≡ built kBlock n (getD t 1 0 ∷ []) (term l 1 inBytes (levels - 1)) s = h .is ∙ ap (λ (c : ℕ). built (h .k) n (valuesAt (fields l (h .k)) t 1) (term l 1 inBytes (levels - 1)) (cursor (drop used t) (at + used) (suc n) c)) z ∙ ap (λ (c : Kind). built c n (valuesAt (fields l c) t 1) (term l 1 inBytes (levels - 1)) s) k in
-      framed (lays inRows) (lay inRows) (block n) (head inRows kBlock (getD t 1 0 ∷ [])) (several (term l 1 inBytes (levels - 1) false) (getD t 1 0 - 1) s) (readTerm l levels outer t at n b)
+      let i : readTerm l v levels outer t at n b ≡ built kBlock n (getD t 1 0 ∷ []) (term l v inBytes (levels - 1)) s = h .is ∙ ap (λ (c : ℕ). built (h .k) n (valuesAt (fields l (h .k)) t 1) (term l v inBytes (levels - 1)) (cursor (drop used t) (at + used) (suc n) c)) z ∙ ap (λ (c : Kind). built c n (valuesAt (fields l c) t 1) (term l v inBytes (levels - 1)) s) k in
+      framed (lays inRows) (lay inRows) (block n) (head inRows kBlock (getD t 1 0 ∷ [])) (several (term l v inBytes (levels - 1) false) (getD t 1 0 - 1) s) (readTerm l v levels outer t at n b)
       (λ e o. i ∙ block-err n (getD t 1 0 ∷ []) _ s e o) (λ ts s′ o. i ∙ block-ok n (getD t 1 0 ∷ []) _ s ts s′ o)
       (λ ts s′ o. ap (λ (c : ℕ). head inRows kBlock (c ∷ []) ++ lays inRows ts) (omega (arith, count-says _ _ s s′ ts o, h .several k))) (five l kBlock t)
       n (n + 1) refl rows rows₁ rows₂ (rows-is ∙ ap (λ (c : Kind). sets rows (n * 5) (head inRows c (valuesAt (fields l c) t 1))) k) r
-      (subst (λ (c : Cursor). Reading (lays inRows) (several (term l 1 inBytes (levels - 1) false) (getD t 1 0 - 1) c) (n + 1) rows₁ rows₂ r) e q)
+      (subst (λ (c : Cursor). Reading (lays inRows) (several (term l v inBytes (levels - 1) false) (getD t 1 0 - 1) c) (n + 1) rows₁ rows₂ r) e q)
 
   pub inner-ready : Ready l t at b rows → length rows₁ ≡ rowNumbers l → Ready l Part (at + used) (boxesWith (getD t 0 0) b) rows₁
   inner-ready r full =

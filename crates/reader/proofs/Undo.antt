@@ -11,65 +11,85 @@ use lib.Dec.{leb, eqb}
 use borrow.Author.Tests.{le-leb, eqb-true, eq-eqb}
 use Rattle.reader.specs.Result.{Result, ok, err, need, Refusal, _>>=_}
 use Rattle.reader.specs.Limits.{Limits, inRanges, maxBytes, rowNumbers}
-use Rattle.reader.specs.Script.{Term}
+use Rattle.reader.specs.Kinds.{newest, knows}
+use Rattle.reader.specs.Script.{Term, Whole}
 use Rattle.reader.specs.Layout.{bytesOf, rowsOf}
-use Rattle.reader.specs.Reader.{parse}
+use Rattle.reader.specs.Reader.{parse, decodeIn}
 use Rattle.reader.specs.Measures.{size}
-use Rattle.reader.specs.Within.{Under, Within}
-use Rattle.reader.specs.Answers.{Answered, lengthsFit, parsedInto, onFit, readOf, rowsTree, judgedOf, writable, writtenInto, writtenOf}
+use Rattle.reader.specs.Within.{Under, Within, Allowed}
+use Rattle.reader.specs.Answers.{Told, Answered, lengthsFit, parsedInto, onFit, readOf, rowsTree, judgedOf, givenWhole, writable, writtenInto, writtenOf}
 use Rattle.reader.specs.Undo.{ReadAfterWrite, WriteAfterRead, JudgedAreRead}
 use Rattle.reader.proofs.Promise.{tree-decoded}
 use Rattle.reader.proofs.SetFirst.{set-taken}
 use Rattle.reader.proofs.Answers.{err-ok, then, needed}
-use Rattle.reader.proofs.RoundTrip.{parsed, parses, decoded, decodes, byte-length, byte-most, rows-length}
+use Rattle.reader.proofs.Versions.{known-says, known-does, version-most, newest-known}
+use Rattle.reader.proofs.RoundTrip.{parsed, parses, decoded, decoded-in, decodes, decodes-in, byte-length, byte-most, rows-length}
 
 -- ---- what an answer says of its input
 
+-- Rows that are to be written are a script's.
+pub given-says : (l : Limits) (v : ℕ) (rows : List ℕ) (s : Whole) → Under 4294967296 rows → givenWhole l v rows ≡ ok s
+    → (inRanges l ≡ true) × Allowed l s × (v ≡ s .version) × (rows ≡ rowsOf l (s .term))
+unfolding givenWhole
+given-says l v rows s u h =
+    let r = then (need (inRanges l) (74, 0)) _ s h in
+    let c = then (need (eqb (length rows) (rowNumbers l)) (2, 0)) _ s (r .2) in
+    let k = then (need (knows newest v) (11, 0)) _ s (c .2) in
+    let f = then (decodeIn l v rows) _ s (k .2) in
+    let d = decoded-in l v rows (f .0) u (eqb-true _ _ (needed _ _ (c .0) (c .1))) (f .1) in
+    let m = known-says newest v (needed _ _ (k .0) (k .1)) in
+    let e : record { version = v; term = f .0 } ≡ s = cc (f .2) in
+    (needed _ _ (r .0) (r .1), subst (Allowed l) e (record { version = (m .0, m .2); kinds = d .2; term = d .1 }), ap (λ (x : Whole). x .version) e, d .0 ∙ ap (λ (x : Whole). rowsOf l (x .term)) e)
+
 -- Rows that were written are a script's, and the output has its bytes.
-written-says : (l : Limits) (rows output : List ℕ) (n : ℕ) (output′ : List ℕ) → Under 4294967296 rows → writtenOf l rows output ≡ (ok n, output′)
-    → (inRanges l ≡ true) × (t : Term) × Within l t × (rows ≡ rowsOf l t) × (n ≡ length (bytesOf t)) × (output′ ≡ bytesOf t ++ drop (length (bytesOf t)) output)
-unfolding writtenOf writtenInto writable rowsTree
-written-says l rows output n output′ u h = go (writable l rows output) refl h
+written-says : (l : Limits) (v : ℕ) (rows output : List ℕ) (n : ℕ) (output′ : List ℕ) → writtenOf l v rows output ≡ (ok n, output′)
+    → (s : Whole) × (givenWhole l v rows ≡ ok s) × (n ≡ length (bytesOf s)) × (output′ ≡ bytesOf s ++ drop (length (bytesOf s)) output)
+unfolding writtenOf writtenInto writable
+written-says l v rows output n output′ h = go (writable l v rows output) refl h
   where
-    go : (r : Result Refusal Term) → writable l rows output ≡ r → writtenInto output r ≡ (ok n, output′)
-        → (inRanges l ≡ true) × (t : Term) × Within l t × (rows ≡ rowsOf l t) × (n ≡ length (bytesOf t)) × (output′ ≡ bytesOf t ++ drop (length (bytesOf t)) output)
-    go (err e) w q = err-ok (ap (λ (a : Answered). a .0) q)
-    go (ok t) w q =
-        let a = then (rowsTree l rows) _ t w in
-        let b = then (need (leb (length (bytesOf (a .0))) (length output)) (5, 0)) _ t (a .2) in
-        let r = then (need (inRanges l) (74, 0)) _ (a .0) (a .1) in
-        let c = then (need (eqb (length rows) (rowNumbers l)) (2, 0)) _ (a .0) (r .2) in
-        let s : a .0 ≡ t = cc (b .2) in
-        let d = decoded l rows (a .0) u (eqb-true _ _ (needed _ _ (c .0) (c .1))) (c .2) in
-        let n′ : _≡_ {A = Result Refusal ℕ} (ok (length (bytesOf t))) (ok n) = ap (λ (x : Answered). x .0) q in
-        (needed _ _ (r .0) (r .1), t, subst (Within l) s (d .1), d .0 ∙ ap (rowsOf l) s, cc, sym (ap (λ (x : Answered). x .1) q))
+    go : (r : Result Refusal Whole) → writable l v rows output ≡ r → writtenInto output r ≡ (ok n, output′)
+        → (s : Whole) × (givenWhole l v rows ≡ ok s) × (n ≡ length (bytesOf s)) × (output′ ≡ bytesOf s ++ drop (length (bytesOf s)) output)
+    go (err e) w q = err-ok (ap (λ (a : Answered ℕ). a .0) q)
+    go (ok s) w q =
+        let a = then (givenWhole l v rows) _ s w in
+        let b = then (need (leb (length (bytesOf (a .0))) (length output)) (5, 0)) _ s (a .2) in
+        let e : a .0 ≡ s = cc (b .2) in
+        let n′ : _≡_ {A = Result Refusal ℕ} (ok (length (bytesOf s))) (ok n) = ap (λ (x : Answered ℕ). x .0) q in
+        (s, a .1 ∙ ap ok e, cc, sym (ap (λ (x : Answered ℕ). x .1) q))
 
 -- A script that was read is a tree's bytes, and the rows are its rows.
-pub read-says : (l : Limits) (script rows : List ℕ) (n : ℕ) (rows′ : List ℕ) → Under 256 script → readOf l script rows ≡ (ok n, rows′)
-    → (inRanges l ≡ true) × (t : Term) × Within l t × (script ≡ bytesOf t) × (n ≡ size t) × (rows′ ≡ rowsOf l t)
+pub read-says : (l : Limits) (k : ℕ) (script rows : List ℕ) (r : Told) (rows′ : List ℕ) → Under 256 script → readOf l k script rows ≡ (ok r, rows′)
+    → (inRanges l ≡ true) × (s : Whole) × Allowed l s × (s .version ≤ k) × (script ≡ bytesOf s) × (r ≡ (s .version, size (s .term))) × (rows′ ≡ rowsOf l (s .term))
 unfolding readOf onFit parsedInto
-read-says l script rows n rows′ u h = go (lengthsFit l script rows) refl (parse l script) refl h
+read-says l k script rows n rows′ u h = go (lengthsFit l script rows) refl (parse l k script) refl h
   where
-    go : (f : Result Refusal (Unit {0})) → lengthsFit l script rows ≡ f → (r : Result Refusal Term) → parse l script ≡ r → onFit f rows (parsedInto l r) ≡ (ok n, rows′)
-        → (inRanges l ≡ true) × (t : Term) × Within l t × (script ≡ bytesOf t) × (n ≡ size t) × (rows′ ≡ rowsOf l t)
-    go (err e) g r p q = err-ok (ap (λ (a : Answered). a .0) q)
-    go (ok x) g (err e) p q = err-ok (ap (λ (a : Answered). a .0) q)
-    go (ok x) g (ok t) p q =
-        let d = parsed l script t u p in
-        let n′ : _≡_ {A = Result Refusal ℕ} (ok (size t)) (ok n) = ap (λ (a : Answered). a .0) q in
-        (set-taken l script rows x g, t, d .1, sym (d .0), cc, sym (ap (λ (a : Answered). a .1) q))
+    go : (f : Result Refusal (Unit {0})) → lengthsFit l script rows ≡ f → (r : Result Refusal Whole) → parse l k script ≡ r → onFit f rows (parsedInto l r) ≡ (ok n, rows′)
+        → (inRanges l ≡ true) × (s : Whole) × Allowed l s × (s .version ≤ k) × (script ≡ bytesOf s) × (n ≡ (s .version, size (s .term))) × (rows′ ≡ rowsOf l (s .term))
+    go (err e) g r p q = err-ok (ap (λ (a : Answered Told). a .0) q)
+    go (ok x) g (err e) p q = err-ok (ap (λ (a : Answered Told). a .0) q)
+    go (ok x) g (ok s) p q =
+        let d = parsed l k script s u p in
+        let n′ : _≡_ {A = Result Refusal Told} (ok (s .version, size (s .term))) (ok n) = ap (λ (a : Answered Told). a .0) q in
+        (set-taken l script rows x g, s, d .1, d .2, sym (d .0), sym (cc n′), sym (ap (λ (a : Answered Told). a .1) q))
 
 -- ---- what a tree's bytes and rows are answered with
 
-pub reads-tree : (l : Limits) (t : Term) (rows : List ℕ) → inRanges l ≡ true → Within l t → length rows ≡ rowNumbers l → readOf l (bytesOf t) rows ≡ (ok (size t), rowsOf l t)
+pub reads-tree : (l : Limits) (k : ℕ) (s : Whole) (rows : List ℕ) → inRanges l ≡ true → Allowed l s → s .version ≤ k → length rows ≡ rowNumbers l
+    → readOf l k (bytesOf s) rows ≡ (ok (s .version, size (s .term)), rowsOf l (s .term))
 unfolding readOf lengthsFit onFit parsedInto need _>>=_
-reads-tree l t rows r i e =
-    let b : length (bytesOf t) ≤ maxBytes = omega (arith, byte-length t, byte-most l t r i) in
-    rw (r, le-leb (length (bytesOf t)) maxBytes b, eq-eqb (length rows) (rowNumbers l) e, parses l t i)
+reads-tree l k s rows r i m e =
+    let b : length (bytesOf s) ≤ maxBytes = omega (arith, byte-length s, byte-most l s r (i .term)) in
+    rw (r, le-leb (length (bytesOf s)) maxBytes b, eq-eqb (length rows) (rowNumbers l) e, parses l k s i m)
 
-writes-tree : (l : Limits) (t : Term) (output : List ℕ) → inRanges l ≡ true → Within l t → length (bytesOf t) ≤ length output → writtenOf l (rowsOf l t) output ≡ (ok (length (bytesOf t)), bytesOf t ++ drop (length (bytesOf t)) output)
-unfolding writtenOf writtenInto writable rowsTree need _>>=_
-writes-tree l t output r i m = rw (r, eq-eqb (length (rowsOf l t)) (rowNumbers l) (rows-length l t i), decodes l t i, le-leb (length (bytesOf t)) (length output) m)
+pub gives-tree : (l : Limits) (s : Whole) → inRanges l ≡ true → Allowed l s → givenWhole l (s .version) (rowsOf l (s .term)) ≡ ok s
+unfolding givenWhole need _>>=_
+gives-tree l s r i =
+    rw (r, eq-eqb (length (rowsOf l (s .term))) (rowNumbers l) (rows-length l (s .term) (i .term)), known-does newest (s .version) (i .version .0) (i .version .1) (i .version .1), decodes-in l (s .version) (s .term) (i .term) (i .kinds))
+
+writes-tree : (l : Limits) (s : Whole) (output : List ℕ) → inRanges l ≡ true → Allowed l s → length (bytesOf s) ≤ length output
+    → writtenOf l (s .version) (rowsOf l (s .term)) output ≡ (ok (length (bytesOf s)), bytesOf s ++ drop (length (bytesOf s)) output)
+unfolding writtenOf writtenInto writable need _>>=_
+writes-tree l s output r i m = rw (gives-tree l s r i, le-leb (length (bytesOf s)) (length output) m)
 
 -- A tree's rows are judged as its number of terms.
 judges-tree : (l : Limits) (t : Term) → inRanges l ≡ true → Within l t → judgedOf l (rowsOf l t) ≡ ok (size t)
@@ -79,18 +99,26 @@ judges-tree l t r i = rw (r, eq-eqb (length (rowsOf l t)) (rowNumbers l) (rows-l
 -- ---- the statements
 
 pub read-after-write : (l : Limits) → ReadAfterWrite l
-read-after-write l rows output n output′ others u e h =
-    let w = written-says l rows output n output′ u h in
-    let t = w .1 in
-    let b : take n output′ ≡ bytesOf t = ap (take n) (w .5) ∙ take-at (bytesOf t) (drop (length (bytesOf t)) output) n (sym (w .4)) in
-    (size t, ap (judgedOf l) (w .3) ∙ judges-tree l t (w .0) (w .2), ap (λ (x : List ℕ). readOf l x others) b ∙ reads-tree l t others (w .0) (w .2) e ∙ ap (λ (x : List ℕ). (ok (size t), x)) (sym (w .3)))
+read-after-write l v known rows output n output′ others u e g h =
+    let w = written-says l v rows output n output′ h in
+    let s = w .0 in
+    let a = given-says l v rows s u (w .1) in
+    let b : take n output′ ≡ bytesOf s = ap (take n) (w .3) ∙ take-at (bytesOf s) (drop (length (bytesOf s)) output) n (sym (w .2)) in (
+      size (s .term),
+      ap (judgedOf l) (a .3) ∙ judges-tree l (s .term) (a .0) (a .1 .term),
+      ap (λ (x : List ℕ). readOf l known x others) b ∙ reads-tree l known s others (a .0) (a .1) (omega (arith, a .2)) e
+          ∙ ap₂ (λ (k : ℕ) (x : List ℕ). (ok (k, size (s .term)), x)) (sym (a .2)) (sym (a .3)),
+    )
 
 pub write-after-read : (l : Limits) → WriteAfterRead l
-write-after-read l script rows n rows′ output u h m =
-    let r = read-says l script rows n rows′ u h in
-    let t = r .1 in
-    let room : length (bytesOf t) ≤ length output = subst (λ (x : List ℕ). length x ≤ length output) (r .3) m in
-    (ap (judgedOf l) (r .5) ∙ judges-tree l t (r .0) (r .2) ∙ ap ok (sym (r .4)), ap (λ (x : List ℕ). writtenOf l x output) (r .5) ∙ writes-tree l t output (r .0) (r .2) room ∙ ap (λ (x : List ℕ). (ok (length x), x ++ drop (length x) output)) (sym (r .3)))
+write-after-read l known script rows v n rows′ output u h m =
+    let r = read-says l known script rows (v, n) rows′ u h in
+    let s = r .1 in
+    let room : length (bytesOf s) ≤ length output = subst (λ (x : List ℕ). length x ≤ length output) (r .4) m in (
+      ap (judgedOf l) (r .6) ∙ judges-tree l (s .term) (r .0) (r .2 .term) ∙ ap (λ (x : Told). ok (x .1)) (sym (r .5)),
+      ap₂ (λ (x : Told) (y : List ℕ). writtenOf l (x .0) y output) (r .5) (r .6) ∙ writes-tree l s output (r .0) (r .2) room
+          ∙ ap (λ (x : List ℕ). (ok (length x), x ++ drop (length x) output)) (sym (r .4)),
+    )
 
 pub judged-are-read : (l : Limits) → JudgedAreRead l
 unfolding judgedOf
@@ -100,4 +128,6 @@ judged-are-read l rows n others u e h =
     let c = tree-decoded l rows t (a .1) in
     let d = decoded l rows t u (c .length) (c .decodes) in
     let k : size t ≡ n = cc (a .2) in
-    (bytesOf t, reads-tree l t others (c .ranges) (d .1) e ∙ ap₂ (λ (k : ℕ) (x : List ℕ). (ok k, x)) k (sym (d .0)))
+    let s : Whole = record { version = newest; term = t } in
+    let allowed : Allowed l s = record { version = newest-known; kinds = version-most t; term = d .1 } in
+    (bytesOf s, reads-tree l newest s others (c .ranges) allowed (omega arith) e ∙ ap₂ (λ (k : ℕ) (x : List ℕ). (ok (newest, k), x)) k (sym (d .0)))

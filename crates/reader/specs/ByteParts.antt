@@ -8,30 +8,29 @@ use lib.Seq.{sets}
 use lib.Dec.{leb, ltb, eqb}
 use Rattle.reader.specs.Result.{Result, ok, err, Refusal, pick}
 use Rattle.reader.specs.Limits.{Limits, inRanges, rowNumbers}
-use Rattle.reader.specs.Script.{Term, Terms}
-use Rattle.reader.specs.Kinds.{Field, word, until}
-use Rattle.reader.specs.Layout.{inBytes, zeros}
-use Rattle.reader.specs.Reader.{Cursor, term, several, start, leading, script, _>>_}
+use Rattle.reader.specs.Script.{Term, Terms, Whole}
+use Rattle.reader.specs.Kinds.{knows, Field, word, until}
+use Rattle.reader.specs.Layout.{inBytes, inRows, lay, zeros}
+use Rattle.reader.specs.Reader.{Cursor, term, several, start, wholeScript}
 use Rattle.reader.specs.Within.{Under}
-use Rattle.reader.specs.Parts.{cursor}
+use Rattle.reader.specs.Parts.{cursor, knownIn}
 use Rattle.reader.specs.declared.operands.Fields.{Fields}
 use Rattle.reader.specs.declared.operands.Fields.the-variants as fields
 
 -- The number of the refusal at the kind byte that begins t; 0 where there is none.
-unfoldable pub openingNumber : Limits → ℕ → Bool → List ℕ → ℕ → ℕ → ℕ
-openingNumber l levels outer t terms boxes =
+unfoldable pub openingNumber : Limits → ℕ → ℕ → Bool → List ℕ → ℕ → ℕ → ℕ
+openingNumber l v levels outer t terms boxes =
     pick (eqb (length t) 0) 12
-    (pick (eqb (getD t 0 0) 0) 13
-    (pick (ltb 11 (getD t 0 0)) 13
+    (pick (not (knownIn v (getD t 0 0))) 13
     (pick (outer && not (eqb (getD t 0 0) 11)) 18
     (pick (leb (l .terms) terms) 16
     (pick (eqb levels 0) 15
     (pick (eqb (getD t 0 0) 7 && leb (l .boxes) boxes) 17
-    0))))))
+    0)))))
 
 -- The outermost term's kind byte is a known kind's, and not a block's.
-unfoldable pub noBlockByte : List ℕ → Bool
-noBlockByte t = ltb 0 (length t) && (ltb 0 (getD t 0 0) && ltb (getD t 0 0) 11)
+unfoldable pub noBlockByte : ℕ → List ℕ → Bool
+noBlockByte v t = ltb 0 (length t) && (knownIn v (getD t 0 0) && not (eqb (getD t 0 0) 11))
 
 -- What is wrong with the byte at j as a number from low to below high; 0 where nothing is.
 unfoldable pub fieldNumber : List ℕ → ℕ → ℕ → ℕ → ℕ
@@ -107,11 +106,11 @@ RowsAfter laid (err e) n before after = Unit {0}
 abbrev pub Reading : {A : Type 0} → (A → List ℕ) → Result Refusal (A × Cursor) → ℕ → List ℕ → List ℕ → Got → Type 0
 Reading laid o n before after r = (r ≡ gotOf o) × RowsAfter laid o n before after
 
-abbrev pub readTerm : Limits → ℕ → Bool → List ℕ → ℕ → ℕ → ℕ → Result Refusal (Term × Cursor)
-readTerm l levels outer tail at terms boxes = term l 1 inBytes levels outer (cursor tail at terms boxes)
+abbrev pub readTerm : Limits → ℕ → ℕ → Bool → List ℕ → ℕ → ℕ → ℕ → Result Refusal (Term × Cursor)
+readTerm l v levels outer tail at terms boxes = term l v inBytes levels outer (cursor tail at terms boxes)
 
-abbrev pub readBlock : Limits → ℕ → ℕ → List ℕ → ℕ → ℕ → ℕ → Result Refusal (Terms × Cursor)
-readBlock l levels count tail at terms boxes = several (term l 1 inBytes levels false) (count - 1) (cursor tail at terms boxes)
+abbrev pub readBlock : Limits → ℕ → ℕ → ℕ → List ℕ → ℕ → ℕ → ℕ → Result Refusal (Terms × Cursor)
+readBlock l v levels count tail at terms boxes = several (term l v inBytes levels false) (count - 1) (cursor tail at terms boxes)
 
 -- ---- a whole script
 
@@ -119,14 +118,30 @@ readBlock l levels count tail at terms boxes = several (term l 1 inBytes levels 
 unfoldable pub markNumber : List ℕ → ℕ → ℕ → ℕ
 markNumber t j byte = pick (leb (length t) j) 12 (pick (eqb (getD t j 0) byte) 0 10)
 
--- Mark and version from offset at on: where they end, or the refusal.
-unfoldable pub leadJudged : List ℕ → ℕ → Fields
-leadJudged t at =
+-- The version in the bytes at j and j + 1.
+abbrev pub versionAt : List ℕ → ℕ → ℕ
+versionAt t j = getD t j 0 * 256 + getD t (j + 1) 0
+
+-- Mark and version from offset at on, for a reader whose newest known version is n: where they end, or the refusal.
+unfoldable pub leadJudged : ℕ → List ℕ → ℕ → Fields
+leadJudged n t at =
     onNumber (markNumber t at 0x52) at
     (onNumber (markNumber t (at + 1) 0x43) (at + 1)
     (onNumber (markNumber t (at + 2) 0x53) (at + 2)
     (pick (ltb (length t) (at + 5)) (fields.Refused 12 (length t))
-    (pick (eqb (getD t (at + 3) 0 * 256 + getD t (at + 4) 0) 1) (fields.Fine (at + 5)) (fields.Refused 11 (at + 3))))))
+    (pick (knows n (versionAt t (at + 3))) (fields.Fine (at + 5)) (fields.Refused 11 (at + 3))))))
 
-abbrev pub readScript : Limits → List ℕ → Result Refusal (Term × Cursor)
-readScript l bytes = (leading >> script l 1 inBytes) (start bytes)
+abbrev pub readScript : Limits → ℕ → List ℕ → Result Refusal (Whole × Cursor)
+readScript l n bytes = wholeScript l n (start bytes)
+
+-- The answer for a whole script, with its version in place of the boxes.
+unfoldable pub wholeGot : Result Refusal (Whole × Cursor) → Got
+wholeGot (ok o) = Fine (o .1 .at) (o .1 .terms) (o .0 .version)
+wholeGot (err e) = Refused (e .0) (e .1)
+
+abbrev pub laidWhole : Whole → List ℕ
+laidWhole s = lay inRows (s .term)
+
+-- That answer, and the rows that it leaves.
+abbrev pub ScriptRead : Limits → ℕ → List ℕ → List ℕ → List ℕ → Got → Type 0
+ScriptRead l n bytes before after r = (r ≡ wholeGot (readScript l n bytes)) × RowsAfter laidWhole (readScript l n bytes) 0 before after

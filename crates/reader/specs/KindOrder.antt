@@ -1,5 +1,5 @@
 -- The definition tried on the order of refusals at a kind byte (LANGUAGE 5.10): under limits so small that several are due at once,
--- it gives the first.
+-- it gives the first; and on a kind of a later version (2.3).
 use Prim.Native.Nat.{ℕ}
 use mathlib.Core.Path.{_≡_, refl}
 use mathlib.Core.List.{List, [], _∷_}
@@ -14,25 +14,27 @@ use Rattle.reader.specs.Reader.{parse}
 abbrev few : ℕ → ℕ → Limits
 few terms levels = record { terms = terms; variables = 1; boxes = 0; levels = levels }
 
--- Mark, version, and a kind byte.
-abbrev outermost : ℕ → List ℕ
-outermost kind = 0x52 ∷ 0x43 ∷ 0x53 ∷ 0 ∷ 1 ∷ kind ∷ []
+-- Mark, version v, and a kind byte.
+abbrev outermost : ℕ → ℕ → List ℕ
+outermost v kind = 0x52 ∷ 0x43 ∷ 0x53 ∷ 0 ∷ v ∷ kind ∷ []
 
--- Mark, version, and a block of one term, of which these bytes are there.
+-- Mark, version 1, and a block of one term, of which these bytes are there.
 abbrev blockOf : List ℕ → List ℕ
 blockOf bytes = 0x52 ∷ 0x43 ∷ 0x53 ∷ 0 ∷ 1 ∷ 0x0B ∷ 1 ∷ bytes
 
--- No byte; an unknown kind, and a box, as the outermost term; and a box inside where a term, a level and a box are too many, each without
--- the one before.
+-- No byte; an unknown kind, a sum in version 1 and in version 2, and a box, as the outermost term; and a box inside where a term, a level and
+-- a box are too many, each without the one before.
 pub order :
-    (parse (few 1 1) (blockOf []) ≡ err (12, 7))
-    × (parse (few 0 0) (outermost 0x0C) ≡ err (13, 5))
-    × (parse (few 0 0) (outermost 0x07) ≡ err (18, 5))
-    × (parse (few 1 1) (blockOf (0x07 ∷ [])) ≡ err (16, 7))
-    × (parse (few 2 1) (blockOf (0x07 ∷ [])) ≡ err (15, 7))
-    × (parse (few 2 2) (blockOf (0x07 ∷ [])) ≡ err (17, 7))
+    (parse (few 1 1) 2 (blockOf []) ≡ err (12, 7))
+    × (parse (few 0 0) 2 (outermost 2 0x0C) ≡ err (13, 5))
+    × (parse (few 0 0) 2 (outermost 1 0x0D) ≡ err (13, 5))
+    × (parse (few 0 0) 2 (outermost 2 0x0D) ≡ err (18, 5))
+    × (parse (few 0 0) 2 (outermost 1 0x07) ≡ err (18, 5))
+    × (parse (few 1 1) 2 (blockOf (0x07 ∷ [])) ≡ err (16, 7))
+    × (parse (few 2 1) 2 (blockOf (0x07 ∷ [])) ≡ err (15, 7))
+    × (parse (few 2 2) 2 (blockOf (0x07 ∷ [])) ≡ err (17, 7))
 unfolding
     need Result._>>=_
-    Kinds.byteOf Kinds.kinds Kinds.among Kinds.kindOf Kinds.fields
-    Reader._>>=_ Reader.done Reader.placeIn Reader.expect Reader.first Reader.peek Reader.skip Reader.next Reader.ranged Reader.field Reader.operands Reader.restOfRow Reader.is Reader.boxesOf Reader.ended Reader.known Reader.kind Reader.opening Reader.counted Reader.several Reader.built Reader.term Reader.nothingLeft Reader.over Reader.script Reader.mark Reader.version Reader.leading Reader.answer Reader.parse
-order = (refl, refl, refl, refl, refl, refl)
+    Kinds.newest Kinds.knows Kinds.byteOf Kinds.kinds Kinds.among Kinds.kindOf Kinds.fields
+    Reader._>>=_ Reader.done Reader.placeIn Reader.expect Reader.first Reader.peek Reader.skip Reader.next Reader.ranged Reader.field Reader.operands Reader.restOfRow Reader.is Reader.boxesOf Reader.ended Reader.known Reader.kind Reader.opening Reader.counted Reader.several Reader.built Reader.term Reader.nothingLeft Reader.over Reader.script Reader.mark Reader.version Reader.leading Reader.wholeScript Reader.answer Reader.parse
+order = (refl, refl, refl, refl, refl, refl, refl, refl)

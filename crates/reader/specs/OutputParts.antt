@@ -16,7 +16,8 @@ rowBytes k a b c d =
     (pick (eqb k 8) (a % 256 ∷ [])
     (pick (eqb k 10) (a % 256 ∷ b % 256 ∷ c % 256 ∷ d % 256 ∷ [])
     (pick (eqb k 11) (a % 256 ∷ [])
-    (a % 256 ∷ b % 256 ∷ []))))))
+    (pick (eqb k 13) (a % 256 ∷ b % 256 ∷ c % 256 ∷ d % 256 ∷ [])
+    (a % 256 ∷ b % 256 ∷ [])))))))
 
 -- The bytes of row i.
 unfoldable pub bytesAt : List ℕ → ℕ → List ℕ
@@ -27,6 +28,6 @@ unfoldable pub flat : ℕ → List ℕ → List ℕ
 flat zero rs = []
 flat (suc n) rs = bytesAt rs 0 ++ flat n (drop 5 rs)
 
--- The mark, the version and the bytes of the first n rows.
-abbrev pub scriptFrom : ℕ → List ℕ → List ℕ
-scriptFrom n rs = 0x52 ∷ 0x43 ∷ 0x53 ∷ 0 ∷ 1 ∷ flat n rs
+-- The mark, version v and the bytes of the first n rows.
+abbrev pub scriptFrom : ℕ → ℕ → List ℕ → List ℕ
+scriptFrom v n rs = 0x52 ∷ 0x43 ∷ 0x53 ∷ v / 256 % 256 ∷ v % 256 ∷ flat n rs

@@ -6,13 +6,14 @@ use mathlib.Core.List.{List, [], _∷_}
 use lib.ListN.{length, getD, drop}
 use lib.Dec.{leb, ltb, eqb}
 use lib.Bits.{bitOr}
-use Rattle.reader.specs.Result.{Result, ok, err, Refusal, pick}
+use Rattle.reader.specs.Result.{Result, ok, err, Refusal, pick, _>>=_}
 use Rattle.reader.specs.Limits.{Limits, inRanges, rowNumbers}
 use Rattle.reader.specs.Script.{Term, Terms}
 use Rattle.reader.specs.Kinds.{Field, word, until}
 use Rattle.reader.specs.Layout.{inRows}
-use Rattle.reader.specs.Reader.{Cursor, term, several}
-use Rattle.reader.specs.Parts.{cursor, fieldsOf}
+use Rattle.reader.specs.Reader.{Cursor, term, several, decodeIn}
+use Rattle.reader.specs.Measures.{size}
+use Rattle.reader.specs.Parts.{cursor, knownIn, fieldsOf}
 
 -- Field k of row i.
 abbrev pub fieldAt : List ℕ → ℕ → ℕ → ℕ
@@ -34,16 +35,16 @@ fieldsFit (f ∷ fs) [] = false
 fieldsFit (f ∷ fs) (v ∷ vs) = fieldFits f v && fieldsFit fs vs
 
 -- The first row is a term's, and not a block's.
-unfoldable pub noBlock : List ℕ → Bool
-noBlock rows = ltb 0 (fieldAt rows 0 0) && ltb (fieldAt rows 0 0) 11
+unfoldable pub noBlock : ℕ → List ℕ → Bool
+noBlock v rows = knownIn v (fieldAt rows 0 0) && not (eqb (fieldAt rows 0 0) 11)
 
 -- The number of the refusal at row i; 0 where there is none.
-unfoldable pub rowNumber : Limits → ℕ → Bool → List ℕ → ℕ → ℕ → ℕ
-rowNumber l levels outer rows i boxes =
+unfoldable pub rowNumber : Limits → ℕ → ℕ → Bool → List ℕ → ℕ → ℕ → ℕ
+rowNumber l v levels outer rows i boxes =
     let kind = fieldAt rows i 0 in
     pick (leb (l .terms) i) 12
     (pick (eqb kind 0) 12
-    (pick (ltb 11 kind) 13
+    (pick (not (knownIn v kind)) 13
     (pick (outer && not (eqb kind 11)) 18
     (pick (eqb levels 0) 15
     (pick (eqb kind 7 && leb (l .boxes) boxes) 17
@@ -61,11 +62,15 @@ pub record RowsReady (l : Limits) (rows : List ℕ) (i boxes : ℕ) : Type 0 whe
 abbrev pub rowCursor : List ℕ → ℕ → ℕ → Cursor
 rowCursor rows i boxes = cursor (drop (5 * i) rows) (5 * i) i boxes
 
-abbrev pub termRows : Limits → ℕ → Bool → List ℕ → ℕ → ℕ → Result Refusal (Term × Cursor)
-termRows l levels outer rows i boxes = term l 1 inRows levels outer (rowCursor rows i boxes)
+abbrev pub termRows : Limits → ℕ → ℕ → Bool → List ℕ → ℕ → ℕ → Result Refusal (Term × Cursor)
+termRows l v levels outer rows i boxes = term l v inRows levels outer (rowCursor rows i boxes)
 
-abbrev pub blockRows : Limits → ℕ → ℕ → List ℕ → ℕ → ℕ → Result Refusal (Terms × Cursor)
-blockRows l levels count rows i boxes = several (term l 1 inRows levels false) (count - 1) (rowCursor rows i boxes)
+abbrev pub blockRows : Limits → ℕ → ℕ → ℕ → List ℕ → ℕ → ℕ → Result Refusal (Terms × Cursor)
+blockRows l v levels count rows i boxes = several (term l v inRows levels false) (count - 1) (rowCursor rows i boxes)
+
+-- The number of terms of rows with the kinds of version v.
+unfoldable pub judgedIn : Limits → ℕ → List ℕ → Result Refusal ℕ
+judgedIn l v rows = decodeIn l v rows >>= λ t. ok (size t)
 
 -- The row past what was judged, with the boxes met so far; or the refusal and its row.
 pub data Span : Type 0 where

@@ -7,8 +7,8 @@ use mathlib.Core.Option.{Option, none, some}
 use mathlib.Core.List.{List}
 use lib.Dec.{leb, ltb}
 use lib.ListN.{length}
-use Rattle.reader.specs.Script.{Place, Term, Terms, number, reading, copy, move, borrowShared, borrowExclusive, box, declare, assign, below, block, last, more}
-use Rattle.reader.specs.Kinds.{Kind, kNumber, kReading, kCopy, kMove, kShared, kExclusive, kBox, kLet, kAssign, kBelow, kBlock, kindOf}
+use Rattle.reader.specs.Script.{Place, Term, Terms, number, reading, copy, move, borrowShared, borrowExclusive, box, declare, assign, below, block, sum, last, more}
+use Rattle.reader.specs.Kinds.{Kind, kNumber, kReading, kCopy, kMove, kShared, kExclusive, kBox, kLet, kAssign, kBelow, kBlock, kSum, newest, kindOf}
 use Rattle.reader.specs.RowParts.{fieldAt}
 
 -- The place in fields k and k + 1 of row i.
@@ -68,8 +68,9 @@ kindAt (some kLet) nv term rows i = onlyIf (ltb (fieldAt rows i 1) nv) (around (
 kindAt (some kAssign) nv term rows i = onlyIf (ltb (fieldAt rows i 1) nv) (around (assign i (placeAt rows i 1)) (term (i + 1)))
 kindAt (some kBelow) nv term rows i = onlyIf (ltb (fieldAt rows i 1) nv) (leaf (ltb (fieldAt rows i 3) nv) (below i (placeAt rows i 1) (placeAt rows i 3)) i)
 kindAt (some kBlock) nv term rows i = around (block i) (termsAt term (fieldAt rows i 1) (i + 1))
+kindAt (some kSum) nv term rows i = onlyIf (ltb (fieldAt rows i 1) nv) (leaf (ltb (fieldAt rows i 3) nv) (sum i (placeAt rows i 1) (placeAt rows i 3)) i)
 
 -- The term at row i, with the levels that are left.
 unfoldable pub treeAt : ℕ → ℕ → List ℕ → ℕ → RowTree Term
 treeAt nv zero rows i = none
-treeAt nv (suc levels) rows i = onlyIf (leb (5 * i + 5) (length rows)) (kindAt (kindOf 1 (fieldAt rows i 0)) nv (treeAt nv levels rows) rows i)
+treeAt nv (suc levels) rows i = onlyIf (leb (5 * i + 5) (length rows)) (kindAt (kindOf newest (fieldAt rows i 0)) nv (treeAt nv levels rows) rows i)

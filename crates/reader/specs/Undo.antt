@@ -6,24 +6,28 @@ use mathlib.Core.List.{List, _++_}
 use lib.ListN.{length, take, drop}
 use Rattle.reader.specs.Result.{ok}
 use Rattle.reader.specs.Limits.{Limits, rowNumbers}
+use Rattle.reader.specs.Kinds.{newest}
 use Rattle.reader.specs.Within.{Under}
 use Rattle.reader.specs.Answers.{readOf, judgedOf, writtenOf}
 
--- What `write` wrote is read as the rows that it was given, and as the number of terms that these rows have.
+-- What `write` wrote is read, wherever the version is known, as the version and the rows that it was given, and as the number of terms that
+-- these rows have.
 abbrev pub ReadAfterWrite : Limits → Type 0
 ReadAfterWrite l =
-    (rows output : List ℕ) (n : ℕ) (output′ others : List ℕ) → Under 4294967296 rows → length others ≡ rowNumbers l → writtenOf l rows output ≡ (ok n, output′)
-    → (m : ℕ) × (judgedOf l rows ≡ ok m) × (readOf l (take n output′) others ≡ (ok m, rows))
+    (v known : ℕ) (rows output : List ℕ) (n : ℕ) (output′ others : List ℕ)
+    → Under 4294967296 rows → length others ≡ rowNumbers l → v ≤ known → writtenOf l v rows output ≡ (ok n, output′)
+    → (m : ℕ) × (judgedOf l rows ≡ ok m) × (readOf l known (take n output′) others ≡ (ok (v, m), rows))
 
--- The rows that `read` left have the number of terms that it told, and are written as the script that it was given, wherever the output
--- has room for it.
+-- The rows that `read` left have the number of terms that it told, and are written in the version that it told as the script that it was
+-- given, wherever the output has room for it.
 abbrev pub WriteAfterRead : Limits → Type 0
 WriteAfterRead l =
-    (script rows : List ℕ) (n : ℕ) (rows′ output : List ℕ) → Under 256 script → readOf l script rows ≡ (ok n, rows′) → length script ≤ length output
-    → (judgedOf l rows′ ≡ ok n) × (writtenOf l rows′ output ≡ (ok (length script), script ++ drop (length script) output))
+    (known : ℕ) (script rows : List ℕ) (v n : ℕ) (rows′ output : List ℕ)
+    → Under 256 script → readOf l known script rows ≡ (ok (v, n), rows′) → length script ≤ length output
+    → (judgedOf l rows′ ≡ ok n) × (writtenOf l v rows′ output ≡ (ok (length script), script ++ drop (length script) output))
 
--- Rows that `judge_rows` accepts are those that `read` leaves for some script.
+-- Rows that `judge_rows` accepts are those that `read` leaves for some script of the newest version.
 abbrev pub JudgedAreRead : Limits → Type 0
 JudgedAreRead l =
     (rows : List ℕ) (n : ℕ) (others : List ℕ) → Under 4294967296 rows → length others ≡ rowNumbers l → judgedOf l rows ≡ ok n
-    → (script : List ℕ) × (readOf l script others ≡ (ok n, rows))
+    → (script : List ℕ) × (readOf l newest script others ≡ (ok (newest, n), rows))

@@ -3,10 +3,10 @@ use Prim.Native.Nat.{ℕ, suc, _+_, _≤_, _<_}
 use mathlib.Core.Path.{_≡_}
 use mathlib.Core.List.{List, [], _∷_, _++_}
 use Rattle.reader.specs.Limits.{Limits}
-use Rattle.reader.specs.Script.{Term, Terms, number, reading, copy, move, borrowShared, borrowExclusive, box, declare, assign, below, block, last, more}
-use Rattle.reader.specs.Kinds.{kNumber, kReading, kCopy, kMove, kShared, kExclusive, kBox, kLet, kAssign, kBelow, kBlock, Field, word, until, fields}
+use Rattle.reader.specs.Script.{Term, Terms, Whole, number, reading, copy, move, borrowShared, borrowExclusive, box, declare, assign, below, block, sum, last, more}
+use Rattle.reader.specs.Kinds.{kNumber, kReading, kCopy, kMove, kShared, kExclusive, kBox, kLet, kAssign, kBelow, kBlock, kSum, newest, Field, word, until, fields}
 use Rattle.reader.specs.Layout.{placeOf, others}
-use Rattle.reader.specs.Measures.{size, boxesIn, depth, kindIn}
+use Rattle.reader.specs.Measures.{size, boxesIn, depth, versionIn, kindIn}
 
 -- What an operand may be (LANGUAGE 2.4).
 abbrev pub InRange : Field → ℕ → Type 0
@@ -34,6 +34,7 @@ unfoldable mutual
   Formed l i (assign j p t) = (j ≡ i) × Ranges (fields l kAssign) (placeOf p) × Formed l (suc i) t
   Formed l i (below j p q) = (j ≡ i) × Ranges (fields l kBelow) (placeOf p ++ placeOf q)
   Formed l i (block j ts) = (j ≡ i) × Ranges (fields l kBlock) (suc (others ts) ∷ []) × FormedAll l (suc i) ts
+  Formed l i (sum j p q) = (j ≡ i) × Ranges (fields l kSum) (placeOf p ++ placeOf q)
 
   pub FormedAll : Limits → ℕ → Terms → Type 0
   FormedAll l i (last t) = Formed l i t
@@ -46,6 +47,12 @@ pub record Within (l : Limits) (t : Term) : Type 0 where
   pub boxes : boxesIn t ≤ l .boxes
   pub formed : Formed l 0 t
   pub outermost : kindIn t ≡ kBlock
+
+-- A whole script that is allowed (LANGUAGE 2.1): of a version that there is, with the kinds of that version (2.3).
+pub record Allowed (l : Limits) (s : Whole) : Type 0 where
+  pub version : (1 ≤ s .version) × (s .version ≤ newest)
+  pub kinds : versionIn (s .term) ≤ s .version
+  pub term : Within l (s .term)
 
 -- Every number is below n: what the type of a slice says of its elements.
 abbrev pub Under : ℕ → List ℕ → Type 0

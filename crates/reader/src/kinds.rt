@@ -1,7 +1,9 @@
-// The kinds of terms (LANGUAGE 2.3), as they stand in kind bytes and in term rows, and what the layers above ask of a
-// kind too.
+// The versions (LANGUAGE 2.1), and the kinds of terms (2.3), as they stand in kind bytes and in term rows, and what the
+// layers above ask of a kind too.
 ghost use mathlib.Core.Path.{_≡_};
-ghost use Rattle.reader.specs.Kinds.{wrapsOf};
+ghost use Prim.Native.Nat.{ℕ, _≤_};
+ghost use Rattle.reader.specs.Kinds.{knows, wrapsOf};
+ghost use Rattle.reader.specs.Parts.{knownIn};
 
 pub const NUMBER: u32 = 1;
 
@@ -24,6 +26,45 @@ pub const ASSIGN: u32 = 9;
 pub const BELOW: u32 = 10;
 
 pub const BLOCK: u32 = 11;
+
+pub const SUM: u32 = 13;
+
+// The newest version there is (LANGUAGE 2.1).
+pub const NEWEST: u32 = 2;
+
+// The version that added the sum (LANGUAGE 2.3).
+pub const SUM_SINCE: usize = 2;
+
+// A version that a reader knows whose newest known version is `newest` (LANGUAGE 6.2); any other is refused with 11 (5.4).
+pub fn knows_version(newest: u32, version: u32) -> bool
+    ensures { λ r. ⌜ r ≡ knows newest version ⌝ }
+{
+    if version < 1 {
+        return false;
+    }
+    version <= newest && version <= NEWEST
+}
+
+// The newest version that a reader knows which is told any number (LANGUAGE 6.2): it knows none that there is not.
+pub fn newest_known(newest: u32) -> usize
+    ensures { λ r. ⌜ (r ≤ 2) × ((v : ℕ) → knows r v ≡ knows newest v) ⌝ }
+{
+    if NEWEST < newest {
+        NEWEST as usize
+    } else {
+        newest as usize
+    }
+}
+
+// A kind of this version (LANGUAGE 2.3); any other is refused with 13 (5.4).
+pub fn known(version: usize, kind: u32) -> bool
+    ensures { λ r. ⌜ r ≡ knownIn version kind ⌝ }
+{
+    if kind <= BLOCK {
+        return 0 < kind;
+    }
+    kind == SUM && SUM_SINCE <= version
+}
 
 // Box, let and assign have one inner term (LANGUAGE 2.3), which is in the next row.
 pub fn wraps(kind: u32) -> bool

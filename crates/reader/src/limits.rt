@@ -2,7 +2,8 @@
 // caller (5.3) and the carrier (5.4).
 ghost use mathlib.Core.Path.{_≡_};
 ghost use mathlib.Core.Bool.{true};
-ghost use Rattle.reader.specs.Limits.{inRanges, rowNumbers, storeNumbers, unpacked};
+ghost use Rattle.reader.specs.Limits.{inRanges, rowNumbers, storeNumbers, unpacked, versionOf};
+ghost use Prim.Native.Nat.{_<_};
 
 // The set that the caller hands in: the most terms, variables, boxes and levels of a script (LANGUAGE 2.8).
 #[repr(C)]
@@ -39,8 +40,9 @@ pub const FOLLOWS: u32 = 9;
 // One more than the terms of a block can be.
 pub const BLOCK: u32 = 256;
 
-// A set in one number (`packed`): the variables are its remainder by VARIABLES_MODULUS; boxes, levels and terms are its
-// quotients by the units, those of boxes and levels taken by their moduli.
+// A set in one number (`packed`), and a version (`with_version`): the variables are its remainder by
+// VARIABLES_MODULUS; boxes, levels, terms and version are its quotients by the units, those of boxes, levels and terms
+// taken by their moduli.
 pub const VARIABLES_MODULUS: usize = 256;
 
 pub const BOXES_UNIT: usize = 256;
@@ -52,6 +54,10 @@ pub const LEVELS_UNIT: usize = 65536;
 pub const LEVELS_MODULUS: usize = 64;
 
 pub const TERMS_UNIT: usize = 4194304;
+
+pub const TERMS_MODULUS: usize = 8192;
+
+pub const VERSION_UNIT: usize = 34359738368;
 
 // By the caller (LANGUAGE 5.3).
 pub const SCRIPT_TOO_LONG: u32 = 1;
@@ -70,6 +76,8 @@ pub const SET_OUTSIDE: u32 = 74;
 pub const MARK: u32 = 10;
 
 pub const VERSION: u32 = 11;
+// Where it is refused in a script's bytes, whichever of the two differs (LANGUAGE 5.4).
+pub const VERSION_PLACE: usize = 3;
 
 pub const ENDED: u32 = 12;
 
@@ -136,4 +144,12 @@ pub fn packed(set: Limits) -> usize
     let levels = set.levels as usize * LEVELS_UNIT;
     let boxes = set.boxes as usize * BOXES_UNIT;
     terms + levels + boxes + set.variables as usize
+}
+
+// The same number with a version (LANGUAGE 2.1): what is read and judged term by term has the kinds of one version (2.3).
+pub fn with_version(sizes: usize, version: usize) -> usize
+    requires { ⌜ version < 8192 ⌝ }
+    ensures { λ r. ⌜ (unpacked r ≡ unpacked sizes) × (versionOf r ≡ version) ⌝ }
+{
+    version * VERSION_UNIT + sizes % VERSION_UNIT
 }

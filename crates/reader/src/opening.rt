@@ -2,7 +2,7 @@
 ghost use mathlib.Core.Path.{_≡_};
 ghost use mathlib.Core.Bool.{false};
 ghost use Prim.Native.Nat.{_≤_};
-ghost use Rattle.reader.specs.Limits.{unpacked};
+ghost use Rattle.reader.specs.Limits.{unpacked, versionOf};
 ghost use Rattle.reader.specs.Parts.{boxesWith};
 ghost use Rattle.reader.specs.ByteParts.{openingNumber, noBlockByte};
 use crate::kinds;
@@ -10,30 +10,27 @@ use crate::limits;
 
 // 18 (LANGUAGE 5.10): the outermost term's kind byte is a known kind's, and not a block's. No other term can meet that,
 // and nothing but 12 and 13 comes before it, so it is asked once, before the terms are read one after the other.
-pub fn no_block_byte(tail: &[u8]) -> bool
-    ensures { λ r. ⌜ r ≡ noBlockByte (now (tail .entry)) ⌝ }
+pub fn no_block_byte(version: usize, tail: &[u8]) -> bool
+    ensures { λ r. ⌜ r ≡ noBlockByte version (now (tail .entry)) ⌝ }
 {
     if tail.len() == 0 {
         return false;
     }
     let kind = tail[0] as u32;
-    0 < kind && kind < kinds::BLOCK
+    kinds::known(version, kind) && kind != kinds::BLOCK
 }
 
 // The number of the refusal at a kind byte, in the order 12, 13, 16, 15, 17 (LANGUAGE 5.10); 0 where there is none.
 pub fn opening_number(sizes: usize, tail: &[u8], levels: usize, terms: usize, boxes: usize) -> u32
-    ensures { λ r. ⌜ r ≡ openingNumber (unpacked sizes) levels false (now (tail .entry)) terms boxes ⌝ }
+    ensures { λ r. ⌜ r ≡ openingNumber (unpacked sizes) (versionOf sizes) levels false (now (tail .entry)) terms boxes ⌝ }
 {
-    let most_terms = sizes / limits::TERMS_UNIT;
+    let most_terms = sizes / limits::TERMS_UNIT % limits::TERMS_MODULUS;
     let most_boxes = sizes / limits::BOXES_UNIT % limits::BOXES_MODULUS;
     if tail.len() == 0 {
         return limits::ENDED;
     }
     let kind = tail[0] as u32;
-    if kind == 0 {
-        return limits::UNKNOWN_KIND;
-    }
-    if kinds::BLOCK < kind {
+    if !kinds::known(sizes / limits::VERSION_UNIT, kind) {
         return limits::UNKNOWN_KIND;
     }
     if most_terms <= terms {

@@ -123,10 +123,17 @@ pub fn read_place(
     place
 }
 
-// The operands of a below (LANGUAGE 2.3): two places.
-pub fn read_two_places(variables: u32, tail: &[u8], at: usize, n: usize, rows: &mut [u32]) -> Fields
+// The operands of a below and a sum (LANGUAGE 2.3): two places.
+pub fn read_two_places(
+    variables: u32,
+    tail: &[u8],
+    at: usize,
+    kind: u32,
+    n: usize,
+    rows: &mut [u32],
+) -> Fields
     requires { ⌜ (at + length (now tail) ≤ 32768) × (n * 5 + 5 ≤ length (now rows)) ⌝ }
-    ensures { λ r. ⌜ Filled (twoPlaceFields variables) 10 (now (tail .entry)) at n (now (rows .entry)) (now (rows .exit)) r ⌝ }
+    ensures { λ r. ⌜ Filled (twoPlaceFields variables) kind (now (tail .entry)) at n (now (rows .entry)) (now (rows .exit)) r ⌝ }
 {
     let first = judge_place(variables, tail, at, 1);
     let Fields::Fine(used) = first else {
@@ -139,7 +146,7 @@ pub fn read_two_places(variables: u32, tail: &[u8], at: usize, n: usize, rows: &
     put_row(
         rows,
         n,
-        kinds::BELOW,
+        kind,
         wide(tail[1]),
         wide(tail[2]),
         wide(tail[3]),
@@ -169,7 +176,7 @@ pub fn read_operands(
             Fields::Fine(1)
         }
         kinds::LET => read_one(tail, at, kind, 0, variables, n, rows),
-        kinds::BELOW => read_two_places(variables, tail, at, n, rows),
+        kinds::BELOW | kinds::SUM => read_two_places(variables, tail, at, kind, n, rows),
         kinds::BLOCK => read_one(tail, at, kind, 1, limits::BLOCK, n, rows),
         _ => read_place(variables, tail, at, kind, n, rows),
     }

@@ -14,7 +14,7 @@ fn row_length(kind: u32) -> usize
     ensures { λ r. ⌜ ((a b c d : ℕ) → length (rowBytes kind a b c d) ≡ r) × (r ≤ 5) ⌝ }
 {
     match kind {
-        kinds::NUMBER | kinds::BELOW => 5,
+        kinds::NUMBER | kinds::BELOW | kinds::SUM => 5,
         kinds::READING | kinds::LET | kinds::BLOCK => 2,
         kinds::BOX => 1,
         _ => 3,
@@ -24,7 +24,7 @@ fn row_length(kind: u32) -> usize
 // The bytes of the whole script, mark and version included (LANGUAGE 2.1).
 pub fn script_bytes(rows: &[u32], terms: usize) -> usize
     requires { ⌜ terms * 5 ≤ length (now rows) ⌝ }
-    ensures { λ r. ⌜ r ≡ length (scriptFrom terms (now (rows .entry))) ⌝ }
+    ensures { λ r. ⌜ ((v : ℕ) → r ≡ length (scriptFrom v terms (now (rows .entry)))) ⌝ }
 {
     let mut bytes: usize = 5;
     let mut i = 0;
@@ -68,7 +68,7 @@ fn put_three(output: &mut [u8], at: usize, a: u32, b: u32, c: u32) -> usize
     at + 3
 }
 
-// A number, a below (LANGUAGE 2.3); mark and version (2.1).
+// A number, a below, a sum (LANGUAGE 2.3); mark and version (2.1).
 fn put_five(output: &mut [u8], at: usize, a: u32, b: u32, c: u32, d: u32, e: u32) -> usize
     requires { ⌜ at + 5 ≤ length (now output) ⌝ }
     ensures { λ r. ⌜ (r ≡ at + 5) × (now (output .exit) ≡ sets (now (output .entry)) at (a % 256 ∷ b % 256 ∷ c % 256 ∷ d % 256 ∷ e % 256 ∷ [])) ⌝ }
@@ -95,7 +95,7 @@ fn put_row_bytes(rows: &[u32], i: usize, output: &mut [u8], at: usize) -> usize
         }
         kinds::READING | kinds::LET | kinds::BLOCK => put_two(output, at, kind, rows[row + 1]),
         kinds::BOX => put_one(output, at, kind),
-        kinds::BELOW => put_five(
+        kinds::BELOW | kinds::SUM => put_five(
             output,
             at,
             kind,
@@ -108,12 +108,12 @@ fn put_row_bytes(rows: &[u32], i: usize, output: &mut [u8], at: usize) -> usize
     }
 }
 
-// The script at the front of the output (LANGUAGE 2.1, 6.4): the mark `RCS`, version 1, and each row's bytes.
-pub fn put_script(rows: &[u32], terms: usize, output: &mut [u8])
-    requires { ⌜ (terms * 5 ≤ length (now rows)) × (length (scriptFrom terms (now rows)) ≤ length (now output)) ⌝ }
-    ensures { λ _. ⌜ now (output .exit) ≡ sets (now (output .entry)) 0 (scriptFrom terms (now (rows .entry))) ⌝ }
+// The script at the front of the output (LANGUAGE 2.1, 6.4): the mark `RCS`, the version, and each row's bytes.
+pub fn put_script(version: u32, rows: &[u32], terms: usize, output: &mut [u8])
+    requires { ⌜ (terms * 5 ≤ length (now rows)) × (length (scriptFrom version terms (now rows)) ≤ length (now output)) ⌝ }
+    ensures { λ _. ⌜ now (output .exit) ≡ sets (now (output .entry)) 0 (scriptFrom version terms (now (rows .entry))) ⌝ }
 {
-    let mut at = put_five(output, 0, 0x52, 0x43, 0x53, 0, 1);
+    let mut at = put_five(output, 0, 0x52, 0x43, 0x53, version / 256, version);
     let mut i = 0;
     let mut left = terms;
     while 0 < left {

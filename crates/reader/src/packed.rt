@@ -5,7 +5,8 @@ ghost use Prim.Native.Nat.{_+_, _*_, _-_, _/_, _%_, _<_, _≤_};
 
 // Terms, or rows, and boxes: the boxes times this, and the terms.
 pub const TERMS: usize = 8192;
-// An offset with terms and boxes: those times this, and the offset.
+// An offset with terms and boxes: those times this, and the offset. The answers for mark and version, and for a whole
+// script, have the version in place of the boxes.
 pub const OFFSETS: usize = 65536;
 // A refusal: its number times this, its place, and REFUSED, which every other answer is below.
 pub const PLACES: usize = 65536;
@@ -14,7 +15,7 @@ pub const REFUSED: usize = 1099511627776;
 
 // So many terms, or rows, and boxes met, for their limits (LANGUAGE 2.8).
 pub fn counted(terms: usize, boxes: usize) -> usize
-    requires { ⌜ (terms < 8192) × (boxes < 256) ⌝ }
+    requires { ⌜ (terms < 8192) × (boxes < 2048) ⌝ }
     ensures { λ r. ⌜ r ≡ boxes * 8192 + terms ⌝ }
 {
     boxes * TERMS + terms
@@ -22,7 +23,7 @@ pub fn counted(terms: usize, boxes: usize) -> usize
 
 // The next offset too, where bytes are read (LANGUAGE 5.2).
 pub fn fine(next: usize, terms: usize, boxes: usize) -> usize
-    requires { ⌜ (next < 65536) × (terms < 8192) × (boxes < 256) ⌝ }
+    requires { ⌜ (next < 65536) × (terms < 8192) × (boxes < 2048) ⌝ }
     ensures { λ r. ⌜ r ≡ (boxes * 8192 + terms) * 65536 + next ⌝ }
 {
     counted(terms, boxes) * OFFSETS + next

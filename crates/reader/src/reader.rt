@@ -3,13 +3,15 @@
 // number, and has no branch. An answer is one number, as the term reader's is; where the answer so far is a refusal, it is
 // answered again.
 ghost use mathlib.Core.Path.{_≡_};
-ghost use Prim.Native.Nat.{_≤_};
+ghost use Prim.Native.Nat.{_+_, _<_, _≤_};
 ghost use lib.ListN.{length};
-ghost use Rattle.reader.specs.Limits.{unpacked};
+ghost use Rattle.reader.specs.Limits.{unpacked, versionOf};
+ghost use Rattle.reader.specs.Kinds.{newest};
 ghost use Rattle.reader.specs.Within.{Under};
-ghost use Rattle.reader.specs.ByteParts.{found, markNumber, leadJudged};
-ghost use Rattle.reader.specs.Lent.{begun, reached, advanced, Inside, RowsFor, LeadRead, OutermostRead, endJudged};
+ghost use Rattle.reader.specs.ByteParts.{found, markNumber, versionAt, leadJudged};
+ghost use Rattle.reader.specs.Lent.{begun, reached, advanced, Inside, RowsFor, LeadRead, OutermostRead, endJudged, withVersion};
 use crate::fields::wide;
+use crate::kinds;
 use crate::limits;
 use crate::opening::no_block_byte;
 use crate::operands::Fields;
@@ -37,10 +39,19 @@ fn mark_number(script: &[u8], j: usize, byte: u8) -> u32
     0
 }
 
-// Mark and version from offset `at` on (LANGUAGE 2.1, 5.9): where they end, or the refusal.
+// The version (LANGUAGE 2.1): the bytes at j and j + 1, high byte first (1.4).
+fn version_at(script: &[u8], j: usize) -> u32
+    requires { ⌜ j + 2 ≤ length (now script) ⌝ }
+    ensures { λ r. ⌜ r ≡ versionAt (now (script .entry)) j ⌝ }
+{
+    wide(script[j]) * 256 + wide(script[j + 1])
+}
+
+// Mark and version from offset `at` on (LANGUAGE 2.1, 5.9): where they end, or the refusal. Any version that there is
+// will do here.
 fn judge_lead(script: &[u8], at: usize) -> Fields
     requires { ⌜ Inside (now script) at ⌝ }
-    ensures { λ r. ⌜ (r ≡ leadJudged (now (script .entry)) at) × Under 256 (now (script .entry)) ⌝ }
+    ensures { λ r. ⌜ (r ≡ leadJudged newest (now (script .entry)) at) × Under 256 (now (script .entry)) ⌝ }
 {
     let first = mark_number(script, at, 0x52);
     if first != 0 {
@@ -57,20 +68,20 @@ fn judge_lead(script: &[u8], at: usize) -> Fields
     if script.len() < at + 5 {
         return Fields::Refused(limits::ENDED, script.len());
     }
-    let version = wide(script[at + 3]) * 256 + wide(script[at + 4]);
-    if version != 1 {
+    if !kinds::knows_version(kinds::NEWEST, version_at(script, at + 3)) {
         return Fields::Refused(limits::VERSION, at + 3);
     }
     Fields::Fine(at + 5)
 }
 
-// The same in one number: 10, 11 or 12 and its place, or the offset after both.
+// The same in one number: 10, 11 or 12 and its place, or the offset after both, with the version where other answers
+// have the boxes.
 fn lead_answer(script: &[u8], at: usize) -> usize
     requires { ⌜ Inside (now script) at ⌝ }
     ensures { λ r. ⌜ LeadRead (now (script .entry)) at r ⌝ }
 {
     match judge_lead(script, at) {
-        Fields::Fine(next) => packed::fine(next, 0, 0),
+        Fields::Fine(next) => packed::fine(next, 0, version_at(script, at + 3) as usize),
         Fields::Refused(number, place) => packed::refused(number, place),
     }
 }
@@ -86,20 +97,42 @@ fn offset_after(at: usize, answer: usize) -> usize
     }
 }
 
-// The outermost term (LANGUAGE 2.1), read from the part of the script that begins at its kind byte (2.2), as a block of
-// one term is: with one caller only, the term reader becomes part of the block reader.
+// The answer for a script tells its version where other answers have the boxes (LANGUAGE 6.2); a refusal stays.
+fn tell_version(version: usize, got: usize) -> usize
+    requires { ⌜ version < 2048 ⌝ }
+    ensures { λ r. ⌜ found r ≡ withVersion version (found got) ⌝ }
+{
+    if packed::REFUSED <= got {
+        return got;
+    }
+    packed::fine(
+        got % packed::OFFSETS,
+        got / packed::OFFSETS % packed::TERMS,
+        version,
+    )
+}
+
+// The outermost term (LANGUAGE 2.1), with the kinds of the version that `lead` tells (2.3), which is 11 where it is newer
+// than the one in `sizes` (5.4, 6.2). It is read from the part of the script that begins at its kind byte (2.2), as a
+// block of one term is: with one caller only, the term reader becomes part of the block reader.
 fn outermost_answer(sizes: usize, script: &[u8], at: usize, lead: usize, rows: &mut [u32]) -> usize
     requires { ⌜ Inside (now script) at × RowsFor (unpacked sizes) (now rows) ⌝ }
-    ensures { λ r. ⌜ OutermostRead (unpacked sizes) (found lead) (now (script .entry)) at (now (rows .entry)) (now (rows .exit)) (found r) ⌝ }
+    ensures { λ r. ⌜ OutermostRead (unpacked sizes) (versionOf sizes) (found lead) (now (script .entry)) at (now (rows .entry)) (now (rows .exit)) (found r) ⌝ }
 {
     if packed::REFUSED <= lead {
         return lead;
     }
-    if no_block_byte(&script[at..]) {
+    let version = lead / packed::OFFSETS / packed::TERMS;
+    if sizes / limits::VERSION_UNIT < version {
+        return packed::refused(limits::VERSION, limits::VERSION_PLACE);
+    }
+    if no_block_byte(version, &script[at..]) {
         return packed::refused(limits::NO_BLOCK, at);
     }
     let levels = sizes / limits::LEVELS_UNIT % limits::LEVELS_MODULUS;
-    read_block(sizes, &script[at..], at, 1, levels, 0, 0, rows)
+    let own_sizes = limits::with_version(sizes, version);
+    let got = read_block(own_sizes, &script[at..], at, 1, levels, 0, 0, rows);
+    tell_version(version, got)
 }
 
 // What is left after the outermost term (LANGUAGE 5.9): 19 at the first byte left.
@@ -151,7 +184,7 @@ pub fn read_outermost<'a, 'b>(
     rows: &'b mut [u32],
 ) -> usize
     requires { ⌜ Inside (now (reader .script)) (reader .at) × RowsFor (unpacked sizes) (now rows) ⌝ }
-    ensures { λ r. ⌜ OutermostRead (unpacked sizes) (found lead) (now (reader .entry .script)) (reader .entry .at) (now (rows .entry)) (now (rows .exit)) (found r) ⌝ }
+    ensures { λ r. ⌜ OutermostRead (unpacked sizes) (versionOf sizes) (found lead) (now (reader .entry .script)) (reader .entry .at) (now (rows .entry)) (now (rows .exit)) (found r) ⌝ }
 {
     outermost_answer(sizes, reader.script, reader.at, lead, rows)
 }

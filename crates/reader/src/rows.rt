@@ -6,7 +6,7 @@ ghost use mathlib.Core.List.{_∷_, []};
 ghost use Prim.Native.Nat.{_<_, _≤_};
 ghost use lib.ListN.{length, drop};
 ghost use Rattle.reader.specs.Kinds.{until};
-ghost use Rattle.reader.specs.Limits.{rowNumbers, unpacked};
+ghost use Rattle.reader.specs.Limits.{rowNumbers, unpacked, versionOf};
 ghost use Rattle.reader.specs.Parts.{IsKind, placeFields, fieldsOf};
 ghost use Rattle.reader.specs.RowParts.{fieldsFit, noBlock, rowNumber, RowsReady, termRows, blockRows, spanOf, spanned, bitsOf, firstUsed};
 use crate::fields::field_at;
@@ -56,7 +56,7 @@ fn fields_fit(sizes: usize, kind: u32, a: u32, b: u32, c: u32, d: u32) -> bool
         kinds::READING => one_fits(0, limits::READINGS, a, b, c, d),
         kinds::BOX => all_zero(a, b, c, d),
         kinds::LET => one_fits(0, variables, a, b, c, d),
-        kinds::BELOW => place_fits(variables, a, b) && place_fits(variables, c, d),
+        kinds::BELOW | kinds::SUM => place_fits(variables, a, b) && place_fits(variables, c, d),
         kinds::BLOCK => one_fits(1, limits::BLOCK, a, b, c, d),
         _ => place_fits(variables, a, b) && all_zero(0, 0, c, d),
     }
@@ -64,28 +64,28 @@ fn fields_fit(sizes: usize, kind: u32, a: u32, b: u32, c: u32, d: u32) -> bool
 
 // 18 (LANGUAGE 5.4): the first row is a term's, and not a block's. No other row can meet that, so it is asked once,
 // before the rows are judged one after the other.
-pub fn no_block(rows: &[u32]) -> bool
+pub fn no_block(version: usize, rows: &[u32]) -> bool
     requires { ⌜ 5 ≤ length (now rows) ⌝ }
-    ensures { λ r. ⌜ r ≡ noBlock (now (rows .entry)) ⌝ }
+    ensures { λ r. ⌜ r ≡ noBlock version (now (rows .entry)) ⌝ }
 {
     let kind = field_at(rows, 0, 0);
-    0 < kind && kind < kinds::BLOCK
+    kinds::known(version, kind) && kind != kinds::BLOCK
 }
 
 // The number of the refusal at row i, in the order 12, 13, 15, 17, 14 (LANGUAGE 5.12); 0 where there is none.
 // 16 cannot be met, since the rows hold no more terms than the set has.
 fn row_number(sizes: usize, rows: &[u32], i: usize, levels: usize, boxes: usize) -> u32
     requires { ⌜ (length (now rows) ≡ rowNumbers (unpacked sizes)) × (i < 8192) ⌝ }
-    ensures { λ r. ⌜ r ≡ rowNumber (unpacked sizes) levels false (now (rows .entry)) i boxes ⌝ }
+    ensures { λ r. ⌜ r ≡ rowNumber (unpacked sizes) (versionOf sizes) levels false (now (rows .entry)) i boxes ⌝ }
 {
-    if sizes / limits::TERMS_UNIT <= i {
+    if sizes / limits::TERMS_UNIT % limits::TERMS_MODULUS <= i {
         return limits::ENDED;
     }
     let kind = field_at(rows, i, 0);
     if kind == 0 {
         return limits::ENDED;
     }
-    if kinds::BLOCK < kind {
+    if !kinds::known(sizes / limits::VERSION_UNIT, kind) {
         return limits::UNKNOWN_KIND;
     }
     if levels == 0 {
@@ -110,7 +110,7 @@ fn row_number(sizes: usize, rows: &[u32], i: usize, levels: usize, boxes: usize)
 // judged as their inner term is, one row on and one level deeper (2.7).
 fn judge_term(sizes: usize, rows: &[u32], i: usize, levels: usize, boxes: usize) -> usize
     requires { ⌜ RowsReady (unpacked sizes) (now rows) i boxes ⌝ }
-    ensures { λ r. ⌜ spanned r ≡ spanOf (termRows (unpacked sizes) levels false (now (rows .entry)) i boxes) ⌝ }
+    ensures { λ r. ⌜ spanned r ≡ spanOf (termRows (unpacked sizes) (versionOf sizes) levels false (now (rows .entry)) i boxes) ⌝ }
 {
     let mut at = i;
     let mut left = levels;
@@ -126,7 +126,7 @@ fn judge_term(sizes: usize, rows: &[u32], i: usize, levels: usize, boxes: usize)
         if kind < kinds::BOX {
             return packed::counted(next, boxed);
         }
-        if kind == kinds::BELOW {
+        if kind == kinds::BELOW || kind == kinds::SUM {
             return packed::counted(next, boxed);
         }
         left -= 1;
@@ -149,7 +149,7 @@ pub fn judge_block(
     boxes: usize,
 ) -> usize
     requires { ⌜ RowsReady (unpacked sizes) (now rows) i boxes × (0 < count) ⌝ }
-    ensures { λ r. ⌜ spanned r ≡ spanOf (blockRows (unpacked sizes) levels count (now (rows .entry)) i boxes) ⌝ }
+    ensures { λ r. ⌜ spanned r ≡ spanOf (blockRows (unpacked sizes) (versionOf sizes) levels count (now (rows .entry)) i boxes) ⌝ }
 {
     let mut next = i;
     let mut boxed = boxes;

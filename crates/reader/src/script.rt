@@ -4,9 +4,9 @@ ghost use mathlib.Core.Path.{_≡_};
 ghost use mathlib.Core.List.{_++_};
 ghost use Prim.Native.Nat.{_-_, _≤_};
 ghost use lib.ListN.{length, take};
-ghost use Rattle.reader.specs.Limits.{unpacked};
-ghost use Rattle.reader.specs.Layout.{lay, inRows, zeros};
-ghost use Rattle.reader.specs.ByteParts.{found, Reading, readScript};
+ghost use Rattle.reader.specs.Limits.{unpacked, versionOf};
+ghost use Rattle.reader.specs.Layout.{zeros};
+ghost use Rattle.reader.specs.ByteParts.{found, ScriptRead};
 ghost use Rattle.reader.specs.Lent.{RowsFor};
 use crate::reader::advance;
 use crate::reader::new;
@@ -14,10 +14,11 @@ use crate::reader::read_end;
 use crate::reader::read_lead;
 use crate::reader::read_outermost;
 
-// Reads mark, version and outermost term in this order (LANGUAGE 5.9): one reader, moved past each.
+// Reads mark, version and outermost term in this order (LANGUAGE 5.9): one reader, moved past each. The version in
+// `sizes` is the newest that it knows (6.2).
 pub fn read_script(sizes: usize, script: &[u8], rows: &mut [u32]) -> usize
     requires { ⌜ (length (now script) ≤ 32768) × RowsFor (unpacked sizes) (now rows) ⌝ }
-    ensures { λ r. ⌜ Reading (lay inRows) (readScript (unpacked sizes) (now (script .entry))) 0 (now (rows .entry)) (now (rows .exit)) (found r) ⌝ }
+    ensures { λ r. ⌜ ScriptRead (unpacked sizes) (versionOf sizes) (now (script .entry)) (now (rows .entry)) (now (rows .exit)) (found r) ⌝ }
 {
     let start = new(script);
     let lead = read_lead(start);

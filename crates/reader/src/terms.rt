@@ -2,7 +2,7 @@
 // (LANGUAGE 2.2).
 ghost use mathlib.Core.Bool.{false};
 ghost use Prim.Native.Nat.{_<_};
-ghost use Rattle.reader.specs.Limits.{unpacked};
+ghost use Rattle.reader.specs.Limits.{unpacked, versionOf};
 ghost use Rattle.reader.specs.Layout.{lay, lays, inRows};
 ghost use Rattle.reader.specs.ByteParts.{Ready, found, Reading, readTerm, readBlock};
 use crate::kinds;
@@ -25,7 +25,7 @@ fn read_term(
     rows: &mut [u32],
 ) -> usize
     requires { ⌜ Ready (unpacked sizes) (now tail) at boxes (now rows) ⌝ }
-    ensures { λ r. ⌜ Reading (lay inRows) (readTerm (unpacked sizes) levels false (now (tail .entry)) at terms boxes) terms (now (rows .entry)) (now (rows .exit)) (found r) ⌝ }
+    ensures { λ r. ⌜ Reading (lay inRows) (readTerm (unpacked sizes) (versionOf sizes) levels false (now (tail .entry)) at terms boxes) terms (now (rows .entry)) (now (rows .exit)) (found r) ⌝ }
 {
     let mut next = at;
     let mut left = levels;
@@ -50,7 +50,7 @@ fn read_term(
                 if kind < kinds::BOX {
                     return packed::fine(next, met, boxed);
                 }
-                if kind == kinds::BELOW {
+                if kind == kinds::BELOW || kind == kinds::SUM {
                     return packed::fine(next, met, boxed);
                 }
                 left -= 1;
@@ -85,7 +85,7 @@ pub fn read_block(
     rows: &mut [u32],
 ) -> usize
     requires { ⌜ Ready (unpacked sizes) (now tail) at boxes (now rows) × (0 < count) × (terms < 8192) ⌝ }
-    ensures { λ r. ⌜ Reading (lays inRows) (readBlock (unpacked sizes) levels count (now (tail .entry)) at terms boxes) terms (now (rows .entry)) (now (rows .exit)) (found r) ⌝ }
+    ensures { λ r. ⌜ Reading (lays inRows) (readBlock (unpacked sizes) (versionOf sizes) levels count (now (tail .entry)) at terms boxes) terms (now (rows .entry)) (now (rows .exit)) (found r) ⌝ }
 {
     let mut next = at;
     let mut met = terms;

@@ -10,9 +10,10 @@ use lib.Dec.{leb, ltb, eqb}
 use borrow.Author.Tests.{ltb-true, ltb-false, le-leb, lt-leb}
 use Rattle.reader.specs.Result.{ok, err, need, pick, _>>=_}
 use Rattle.reader.specs.Limits.{Limits, inRanges, maxBytes, rowNumbers}
-use Rattle.reader.specs.Answers.{told, Answered, lengthsFit, readOf}
-use Rattle.reader.specs.declared.Outcome.{Outcome}
-use Rattle.reader.specs.declared.Outcome.the-variants as read
+use Rattle.reader.specs.Kinds.{newest}
+use Rattle.reader.specs.Answers.{Told, toldRead, Answered, lengthsFit, readOf}
+use Rattle.reader.specs.declared.ReadOutcome.{ReadOutcome}
+use Rattle.reader.specs.declared.ReadOutcome.the-variants as read
 use Rattle.machine.specs.Answers.{runFits}
 use Rattle.machine.specs.Parts as machine
 use Rattle.machine.proofs.FitLaws.{Fit, unfit, all-fit}
@@ -77,22 +78,22 @@ module _ (l : Limits) (script : List ℕ) (readings : List ℤ) (rows store : Li
     fit-run = fits .1
 
     -- What reading answered.
-    module _ (o : Outcome) (rows₁ : List ℕ) (q : (told o, rows₁) ≡ readOf l script rows) where
-      call-is : readCalled l readings store (told o) rows₁ ≡ callOf l script readings rows store
+    module _ (o : ReadOutcome) (rows₁ : List ℕ) (q : (toldRead o, rows₁) ≡ readOf l newest script rows) where
+      call-is : readCalled l readings store (toldRead o) rows₁ ≡ callOf l script readings rows store
       unfolding Says callOf fitCalled
       call-is =
           let f : callFits l script readings rows store ≡ ok tt = fits .0 in
-          rw f (ap (λ (x : Answered). readCalled l readings store (x .0) (x .1)) q)
+          rw f (ap (λ (x : Answered Told). readCalled l readings store (x .0) (x .1)) q)
 
       pub call-unread : (m p : ℕ) → o ≡ read.Refused m p → (toldCall (room.Refused m p), (rows₁, store)) ≡ callOf l script readings rows store
-      unfolding told toldCall readCalled
-      call-unread m p r = ap (λ (x : Outcome). readCalled l readings store (told x) rows₁) (sym r) ∙ call-is
+      unfolding toldRead toldCall readCalled
+      call-unread m p r = ap (λ (x : ReadOutcome). readCalled l readings store (toldRead x) rows₁) (sym r) ∙ call-is
 
-      pub call-read : (terms : ℕ) → o ≡ read.Count terms → (r : RunOutcome) (store₁ : List ℕ) → (toldRun r, store₁) ≡ runOf l rows₁ readings store
+      pub call-read : (v terms : ℕ) → o ≡ read.Script v terms → (r : RunOutcome) (store₁ : List ℕ) → (toldRun r, store₁) ≡ runOf l rows₁ readings store
           → (a : Called) → toldCall a ≡ withTerms terms (toldRun r) → (toldCall a, (rows₁, store₁)) ≡ callOf l script readings rows store
-      unfolding told readCalled
-      call-read terms c r store₁ v a w =
+      unfolding toldRead readCalled
+      call-read version terms c r store₁ v a w =
           ap (λ (x : CallAnswer). (x, (rows₁, store₁))) w
           ∙ ap (runCalled terms rows₁) v
-          ∙ ap (λ (x : Outcome). readCalled l readings store (told x) rows₁) (sym c)
+          ∙ ap (λ (x : ReadOutcome). readCalled l readings store (toldRead x) rows₁) (sym c)
           ∙ call-is

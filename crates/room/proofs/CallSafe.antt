@@ -9,11 +9,12 @@ use mir.Val.{toZ}
 use Rattle.reader.specs.Result.{Result, ok, err, Refusal, _>>=_}
 use Rattle.reader.specs.Limits.{Limits, rowNumbers}
 use Rattle.reader.specs.Layout.{rowsOf, zeros}
-use Rattle.reader.specs.Script.{Term}
+use Rattle.reader.specs.Script.{Term, Whole}
+use Rattle.reader.specs.Kinds.{newest}
 use Rattle.reader.specs.Reader.{parse}
 use Rattle.reader.specs.Within.{Under}
 use Rattle.reader.specs.Measures.{size}
-use Rattle.reader.specs.Answers.{Answered, lengthsFit, parsedInto, onFit, readOf}
+use Rattle.reader.specs.Answers.{Told, Answered, lengthsFit, parsedInto, onFit, readOf}
 use Rattle.reader.proofs.Answers.{then}
 use Rattle.reader.proofs.RoundTrip.{parsed}
 use Rattle.rules.specs.Judge.{judgeScript}
@@ -38,8 +39,8 @@ module _ (l : Limits) (script : List ℕ) (readings : List ℤ) (rows store : Li
   abbrev Left : CallMade → Type 0
   Left m = SafeCall l script readings rows (m .0) store (m .1 .1)
 
-  accepted-safe : (t : Term) → parse l script ≡ ok t → judgeScript (l .variables) t ≡ ok tt → (earlier : Store) → Safe l t (bitsOf readings) earlier
-  accepted-safe t w j earlier = demand-three l t (parsed l script t u w .1) j (bitsOf readings) earlier
+  accepted-safe : (w : Whole) → parse l newest script ≡ ok w → judgeScript (l .variables) (w .term) ≡ ok tt → (earlier : Store) → Safe l (w .term) (bitsOf readings) earlier
+  accepted-safe w e j earlier = demand-three l (w .term) (parsed l newest script w u e .1 .term) j (bitsOf readings) earlier
 
   unchanged : (e : Refusal) (after : List ℕ) → readFirst l script readings rows store ≡ err e → Left (refused (e .0) (e .1), (after, store))
   unchanged e after h = record {
@@ -79,37 +80,40 @@ module _ (l : Limits) (script : List ℕ) (readings : List ℤ) (rows store : Li
     f : Fit l rows readings store
     f = fit-says l rows readings store tt (halves .2)
 
-    read-is : readOf l script rows ≡ parsedInto l (parse l script)
+    read-is : readOf l newest script rows ≡ parsedInto l (parse l newest script)
     unfolding readOf onFit
     read-is = rw (halves .1)
 
-    -- The script t was read.
-    module _ (t : Term) (w : parse l script ≡ ok t) where
+    -- The script was read.
+    module _ (whole : Whole) (w : parse l newest script ≡ ok whole) where
+      abbrev t : Term
+      t = whole .term
+
       judged-left : (j : Result Refusal (Unit {0})) → judgeScript (l .variables) t ≡ j → Left (runCalled (size t) (rowsOf l t) (runOf l (rowsOf l t) readings store))
       unfolding readFirst withTerms _>>=_
       judged-left (ok v) j =
-          let within = parsed l script t u w .1 in
-          let s = accepted-safe t w j (λ x. closed) in
+          let within = parsed l newest script whole u w .1 .term in
+          let s = accepted-safe whole w j (λ x. closed) in
           let h : readFirst l script readings rows store ≡ ok t = rw (fits, w, j) in
           subst (λ (x : RunMade). Left (runCalled (size t) (rowsOf l t) x)) (sym (run-safe l t (f .ranges) within readings store (f .eight) (f .size) s j)) (ran t (size t) (rowsOf l t) h refl s)
       judged-left (err e) j =
-          let within = parsed l script t u w .1 in
+          let within = parsed l newest script whole u w .1 .term in
           let h : readFirst l script readings rows store ≡ err e = rw (fits, w, j) in
           subst (λ (x : RunMade). Left (runCalled (size t) (rowsOf l t) x))
           (sym (check-refuses l (rowsOf l t) readings store (f .eight) (f .size) e (checks-tree l t (f .ranges) within ∙ rw j)))
           (unchanged e (rowsOf l t) h)
 
-    read-left : (p : Result Refusal Term) → parse l script ≡ p → Left (readCalled l readings store (parsedInto l p .0) (parsedInto l p .1))
+    read-left : (p : Result Refusal Whole) → parse l newest script ≡ p → Left (readCalled l readings store (parsedInto l p .0) (parsedInto l p .1))
     unfolding readFirst readCalled parsedInto _>>=_
-    read-left (ok t) w = judged-left t w (judgeScript (l .variables) t) refl
+    read-left (ok x) w = judged-left x w (judgeScript (l .variables) (x .term)) refl
     read-left (err e) w = let h : readFirst l script readings rows store ≡ err e = rw (fits, w) in unchanged e (zeros (rowNumbers l)) h
 
   left : Left (callOf l script readings rows store)
   unfolding callOf fitCalled readFirst _>>=_
   left = fit (callFits l script readings rows store) refl
     where
-      fit : (f : Result Refusal (Unit {0})) → callFits l script readings rows store ≡ f → Left (fitCalled f rows store (readCalled l readings store (readOf l script rows .0) (readOf l script rows .1)))
-      fit (ok x) h = subst (λ (r : Answered). Left (readCalled l readings store (r .0) (r .1))) (sym (read-is h)) (read-left h (parse l script) refl)
+      fit : (f : Result Refusal (Unit {0})) → callFits l script readings rows store ≡ f → Left (fitCalled f rows store (readCalled l readings store (readOf l newest script rows .0) (readOf l newest script rows .1)))
+      fit (ok x) h = subst (λ (r : Answered Told). Left (readCalled l readings store (r .0) (r .1))) (sym (read-is h)) (read-left h (parse l newest script) refl)
       fit (err e) h = let k : readFirst l script readings rows store ≡ err e = rw h in unchanged e rows k
 
   pub safe-call : (r : CallAnswer) (rows₁ store₁ : List ℕ) → (r, (rows₁, store₁)) ≡ callOf l script readings rows store → SafeCall l script readings rows r store store₁

@@ -28,15 +28,15 @@ use Rattle.room.specs.ExampleLines.{LinesHold}
 
 pub lines-hold : LinesHold
 unfolding
-    ExampleLines.lineIn ExampleLines.printed ExampleLines.e1Readings ExampleLines.on ExampleLines.examples
+    ExampleLines.lineIn ExampleLines.printed ExampleLines.someReadings ExampleLines.bytesIn ExampleLines.on ExampleLines.examples
     Line.digitsBy Line.decimal Line.signed Line.lineOf Line.shortLine Line.readingsOf Line.inFront Line.reported Line.reportCall Line.reportOf
     Calling.callFits Calling.withTerms Calling.readCalled Calling.fitCalled Calling.callOf Calling.readingAt
     Running.checkedFirst Running.endedInto Running.checkedInto Running.runOf
     Result._>>=_ Result.need
     Limits.base Limits.inRanges Limits.maxBytes Limits.rowNumbers Limits.storeNumbers
-    Kinds.byteOf Kinds.kinds Kinds.among Kinds.kindOf Kinds.fields
+    Kinds.newest Kinds.knows Kinds.byteOf Kinds.kinds Kinds.among Kinds.kindOf Kinds.fields
     Layout.bytesOf Layout.lay Layout.head Layout.wordOf Layout.unused Layout.zeros Layout.others Layout.rowsOf
-    Reader._>>=_ Reader.done Reader.placeIn Reader.expect Reader.first Reader.peek Reader.skip Reader.next Reader.ranged Reader.field Reader.operands Reader.restOfRow Reader.is Reader.boxesOf Reader.ended Reader.known Reader.kind Reader.opening Reader.counted Reader.several Reader.built Reader.term Reader.nothingLeft Reader.over Reader.script Reader.mark Reader.version Reader.leading Reader.answer Reader.parse Reader.decode Reader.zeroFields
+    Reader._>>=_ Reader.done Reader.placeIn Reader.expect Reader.first Reader.peek Reader.skip Reader.next Reader.ranged Reader.field Reader.operands Reader.restOfRow Reader.is Reader.boxesOf Reader.ended Reader.known Reader.kind Reader.opening Reader.counted Reader.several Reader.built Reader.term Reader.nothingLeft Reader.over Reader.script Reader.mark Reader.version Reader.leading Reader.wholeScript Reader.answer Reader.parse Reader.decodeIn Reader.decode Reader.zeroFields
     Measures.size
     Reading.lengthsFit Reading.parsedInto Reading.onFit Reading.readOf
     Links.leadingBoxes Links.maxLinks Links.noShared Links.isNumber Links.copies Links.sameLink Links.sameLinks
@@ -48,8 +48,8 @@ unfolding
     Store.sameLocation Store.put Store.isOpen
     Locate.followed Locate.locateFrom Locate.locate Locate.filled Locate.numberIn
     Drop.giveBack Drop.dropStep Drop.isGivenBack Drop.cellsGivenBack Drop.cellsLeft Drop.dropAlong Drop.dropValue Drop.closeAll
-    Signed.less Signed.compared
+    Signed.less Signed.compared Signed.held Signed.heldSum
     Run.runCopy Run.runMove Run.runBorrow Run.runNumber Run.runPair Run.runBox Run.runLet Run.runAssign Run.runBlockEnd Run.run Run.runScript
     Answers.runFits Answers.runnable Answers.bitsOf
-    Examples.boxed Examples.e1Bytes Examples.e2 Examples.e3 Examples.e4 Examples.e5 Examples.e6 Examples.e7 Examples.e9 Examples.nine Examples.eight Examples.e11
+    Examples.boxed Examples.e1Bytes Examples.e2 Examples.e3 Examples.e4 Examples.e5 Examples.e6 Examples.e7 Examples.e9 Examples.nine Examples.eight Examples.e11 Examples.sums
 lines-hold = refl

@@ -17,10 +17,11 @@ use Rattle.reader.specs.Script.{Term}
 use Rattle.reader.specs.Layout.{zeros, rowsOf}
 use Rattle.reader.specs.Measures.{size}
 use Rattle.reader.specs.Within.{Within}
-use Rattle.reader.specs.Answers.{lengthsFit, readOf, rowsTree, judgedOf}
+use Rattle.reader.specs.Kinds.{newest}
+use Rattle.reader.specs.Answers.{Told, lengthsFit, readOf, rowsTree, judgedOf}
 use Rattle.reader.proofs.Answers.{then, needed}
 use Rattle.reader.proofs.RoundTrip.{decoded}
-use Rattle.reader.proofs.MoreLimits.{within-more, rows-more}
+use Rattle.reader.proofs.MoreLimits.{within-more, allowed-more, rows-more}
 use Rattle.reader.proofs.Undo.{read-says, reads-tree}
 use Rattle.reader.proofs.Promise.{tree-decoded}
 use Rattle.rules.specs.Judge.{judgeScript}
@@ -44,8 +45,9 @@ use Rattle.room.proofs.CallSafe.{called-refused}
 record Answers (l : Limits) (script : List ℕ) (readings : List ℤ) (rows store : List ℕ) (n : ℕ) (a : ℤ) (c : ℕ) : Type 0 where
   pub few : length script ≤ maxBytes
   pub fit : Fit l rows readings store
-  pub read : readOf l script rows .0 ≡ ok n
-  pub ran : runOf l (readOf l script rows .1) readings store .0 ≡ answered a c
+  pub version : ℕ
+  pub read : readOf l newest script rows .0 ≡ ok (version, n)
+  pub ran : runOf l (readOf l newest script rows .1) readings store .0 ≡ answered a c
 
 module _ (l : Limits) (script : List ℕ) (readings : List ℤ) (rows store : List ℕ) (n : ℕ) (a : ℤ) (c : ℕ) where
   -- The lengths that no set changes, and those that a run asks.
@@ -66,16 +68,16 @@ module _ (l : Limits) (script : List ℕ) (readings : List ℤ) (rows store : Li
   unfolding callOf fitCalled readCalled
   call-says = fit (callFits l script readings rows store) refl
     where
-      read : (length script ≤ maxBytes) × Fit l rows readings store → (r : Result Refusal ℕ) → readOf l script rows .0 ≡ r
-          → readCalled l readings store r (readOf l script rows .1) .0 ≡ called n a c → Answers l script readings rows store n a c
+      read : (length script ≤ maxBytes) × Fit l rows readings store → (r : Result Refusal Told) → readOf l newest script rows .0 ≡ r
+          → readCalled l readings store r (readOf l newest script rows .1) .0 ≡ called n a c → Answers l script readings rows store n a c
       read f (ok k) e h =
-          let s = terms-say k (runOf l (readOf l script rows .1) readings store .0) h in
-          record { few = f .0; fit = f .1; read = e ∙ ap ok (s .0); ran = s .1 }
+          let s = terms-say (k .1) (runOf l (readOf l newest script rows .1) readings store .0) h in
+          record { few = f .0; fit = f .1; version = k .0; read = e ∙ ap (λ (m : ℕ). ok (k .0, m)) (s .0); ran = s .1 }
       read f (err x) e h = called-refused (sym h)
 
       fit : (f : Result Refusal (Unit {0})) → callFits l script readings rows store ≡ f
-          → fitCalled f rows store (readCalled l readings store (readOf l script rows .0) (readOf l script rows .1)) .0 ≡ called n a c → Answers l script readings rows store n a c
-      fit (ok x) g h = read (fits-say x g) (readOf l script rows .0) refl h
+          → fitCalled f rows store (readCalled l readings store (readOf l newest script rows .0) (readOf l newest script rows .1)) .0 ≡ called n a c → Answers l script readings rows store n a c
+      fit (ok x) g h = read (fits-say x g) (readOf l newest script rows .0) refl h
       fit (err e) g h = called-refused (sym h)
 
 -- A call whose lengths fit answers what reading and running answer.
@@ -86,10 +88,10 @@ module _ (l : Limits) (script : List ℕ) (readings : List ℤ) (rows store : Li
   all-fit r few full long eight =
       rw (r, le-leb (length script) maxBytes few, eq-eqb (length rows) (rowNumbers l) full, eq-eqb (length store) (storeNumbers l) long, eq-eqb (length readings) 8 eight)
 
-  call-answers : callFits l script readings rows store ≡ ok tt → (n : ℕ) (again : List ℕ) → readOf l script rows ≡ (ok n, again) → (a : ℤ) (c : ℕ) → runOf l again readings store .0 ≡ answered a c
+  call-answers : callFits l script readings rows store ≡ ok tt → (v n : ℕ) (again : List ℕ) → readOf l newest script rows ≡ (ok (v, n), again) → (a : ℤ) (c : ℕ) → runOf l again readings store .0 ≡ answered a c
       → callOf l script readings rows store .0 ≡ called n a c
   unfolding callOf fitCalled readCalled withTerms
-  call-answers f n again e a c r = rw (f, e, r)
+  call-answers f v n again e a c r = rw (f, e, r)
 
 -- ---- the statements
 
@@ -125,16 +127,17 @@ module _ (l m : Limits) (le : NoSmaller l m) (r : inRanges m ≡ true) where
   again-rows t rows laid within = ap (λ (x : List ℕ). x ++ zeros (rowNumbers m - rowNumbers l)) laid ∙ sym (rows-more l m le t within)
 
   scripts : LargerScripts l m
-  scripts script before n rows others k u full h e =
-      let q = read-says l script before n rows u h in
-      let t = q .1 in
-      let c = then (judgeScript (l .variables) t) (λ _. ok (size t)) k (sym (checks-tree l t (q .0) (q .2)) ∙ ap (checkOf l) (sym (q .5)) ∙ e) in
+  scripts known script before v n rows others k u full h e =
+      let q = read-says l known script before (v, n) rows u h in
+      let t = q .1 .term in
+      let within = q .2 .term in
+      let c = then (judgeScript (l .variables) t) (λ _. ok (size t)) k (sym (checks-tree l t (q .0) within) ∙ ap (checkOf l) (sym (q .6)) ∙ e) in
       let s : size t ≡ k = cc (c .2) in
-      let w = trees.larger-sets l m le .stays t (q .2) (c .1) .within in
-      let reads : readOf m script others ≡ (ok n, rowsOf m t) =
-      ap (λ (x : List ℕ). readOf m x others) (q .3) ∙ reads-tree m t others r w full ∙ ap (λ (k : ℕ). (ok k, rowsOf m t)) (sym (q .4))
+      let count : n ≡ size t = ap (λ (x : Told). x .1) (q .5) in
+      let reads : readOf m known script others ≡ (ok (v, n), rowsOf m t) =
+      ap (λ (x : List ℕ). readOf m known x others) (q .4) ∙ reads-tree m known (q .1) others r (allowed-more l m le (q .1) (q .2)) (q .3) full ∙ ap (λ (x : Told). (ok x, rowsOf m t)) (sym (q .5))
       in
-      (sym s ∙ sym (q .4), rowsOf m t, reads, of-known t rows n (rowsOf m t) (q .5) (q .4) refl (q .0) (q .2) (c .1))
+      (sym s ∙ sym count, rowsOf m t, reads, of-known t rows n (rowsOf m t) (q .6) count refl (q .0) within (c .1))
 
   of-rows : LargerRows l m
   of-rows rows n u e =
@@ -165,11 +168,11 @@ module _ (l m : Limits) (le : NoSmaller l m) (r : inRanges m ≡ true) where
   calls script readings rows store rows′ store′ n a c u full long h =
       let A = call-says l script readings rows store n a c h in
       let f = A .fit in
-      let K = ran-accepted (readOf l script rows .1) readings store (f .eight) (f .size) a c (A .ran) in
-      let S = scripts script rows n (readOf l script rows .1) rows′ (K .0) u full (λ i. (A .read i, readOf l script rows .1)) (K .1) in
+      let K = ran-accepted (readOf l newest script rows .1) readings store (f .eight) (f .size) a c (A .ran) in
+      let S = scripts newest script rows (A .version) n (readOf l newest script rows .1) rows′ (K .0) u full (λ i. (A .read i, readOf l newest script rows .1)) (K .1) in
       let R = S .3 .runs readings store store′ (f .eight) (f .size) long in
       let same : answered (R .answer) (R .cells) ≡ answered a c = sym (R .smaller) ∙ A .ran in
-      call-answers m script readings rows′ store′ (all-fit m script readings rows′ store′ r (A .few) full long (f .eight)) n (S .1) (S .2) a c (R .larger ∙ same)
+      call-answers m script readings rows′ store′ (all-fit m script readings rows′ store′ r (A .few) full long (f .eight)) (A .version) n (S .1) (S .2) a c (R .larger ∙ same)
 
 pub larger-sets : LargerSets
 larger-sets l m le r = record { scripts = scripts l m le r; rows = of-rows l m le r; verdicts = verdicts l m le r; calls = calls l m le r }

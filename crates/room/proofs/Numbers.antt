@@ -10,6 +10,7 @@ use lib.Dec.{T, leb, eqb}
 use Rattle.reader.specs.Result.{Result, ok, err, Refusal, need, _>>=_}
 use Rattle.reader.specs.Limits.{Limits, inRanges, maxBytes, rowNumbers, storeNumbers}
 use Rattle.reader.specs.Script.{Term}
+use Rattle.reader.specs.Kinds.{newest}
 use Rattle.reader.specs.Reader.{parse, decode}
 use Rattle.reader.specs.Answers.{rowsFit, lengthsFit}
 use Rattle.reader.proofs.Answers.{err-ok}
@@ -69,6 +70,6 @@ module _ (l : Limits) (readings : List ℤ) (rows store : List ℕ) (e : Refusal
     unfolding readFirst
     call-number h =
         ⊎-elim call-fits
-        (λ x. ⊎-elim (λ y. inr (inr (inl (read-numbers l script e y)))) (λ y. inr (inr (inr (judged-number (l .variables) (y .0) e (y .2)))))
-        (halts (parse l script) (λ t. judgeScript (l .variables) t >>= λ _. ok t) e (x .2)))
-        (halts (callFits l script readings rows store) (λ _. parse l script >>= λ t. judgeScript (l .variables) t >>= λ _. ok t) e h)
+        (λ x. ⊎-elim (λ y. inr (inr (inl (read-numbers l newest script e y)))) (λ y. inr (inr (inr (judged-number (l .variables) (y .0 .term) e (y .2)))))
+        (halts (parse l newest script) (λ w. judgeScript (l .variables) (w .term) >>= λ _. ok (w .term)) e (x .2)))
+        (halts (callFits l script readings rows store) (λ _. parse l newest script >>= λ w. judgeScript (l .variables) (w .term) >>= λ _. ok (w .term)) e h)

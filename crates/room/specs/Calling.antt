@@ -10,10 +10,11 @@ use mir.Syntax.{w32}
 use mir.Val.{toZ}
 use Rattle.reader.specs.Result.{Result, ok, err, Refusal, pick, _>>=_}
 use Rattle.reader.specs.Limits.{Limits}
-use Rattle.reader.specs.Script.{Term}
+use Rattle.reader.specs.Kinds.{newest}
+use Rattle.reader.specs.Script.{Term, Whole}
 use Rattle.reader.specs.Reader.{parse}
 use Rattle.reader.specs.Measures.{size}
-use Rattle.reader.specs.Answers.{lengthsFit, readOf}
+use Rattle.reader.specs.Answers.{Told, lengthsFit, readOf}
 use Rattle.rules.specs.Judge.{judgeScript}
 use Rattle.machine.specs.Values.{closed}
 use Rattle.machine.specs.Store.{Store}
@@ -55,8 +56,8 @@ runCalled n rows made = (withTerms n (made .0), (rows, made .1))
 
 -- What reading answered and left in the rows (LANGUAGE 6.2), and then `run` on these (6.6), which leaves them as they are, also where it refuses
 -- them. A script that is not read does not run, and the store is as it was.
-unfoldable pub readCalled : Limits → List ℤ → List ℕ → Result Refusal ℕ → List ℕ → CallMade
-readCalled l readings store (ok n) rows = runCalled n rows (runOf l rows readings store)
+unfoldable pub readCalled : Limits → List ℤ → List ℕ → Result Refusal Told → List ℕ → CallMade
+readCalled l readings store (ok t) rows = runCalled (t .1) rows (runOf l rows readings store)
 readCalled l readings store (err e) rows = (refused (e .0) (e .1), (rows, store))
 
 -- 74 and 1 to 4 change no lent memory (LANGUAGE 5.3).
@@ -64,19 +65,19 @@ unfoldable pub fitCalled : Result Refusal (Unit {0}) → List ℕ → List ℕ �
 fitCalled (ok u) rows store made = made
 fitCalled (err e) rows store made = (refused (e .0) (e .1), (rows, store))
 
--- `call` is `read` and then `run`, once all lengths fit: the answer, the rows and the store.
+-- `call` is `read`, of every version that there is, and then `run`, once all lengths fit: the answer, the rows and the store.
 unfoldable pub callOf : Limits → List ℕ → List ℤ → List ℕ → List ℕ → CallMade
 callOf l script readings rows store =
     fitCalled (callFits l script readings rows store) rows store
-    (readCalled l readings store (readOf l script rows .0) (readOf l script rows .1))
+    (readCalled l readings store (readOf l newest script rows .0) (readOf l newest script rows .1))
 
 -- What is judged before the run of a call (LANGUAGE 5.7), with the script that is to run: 74 and 1 to 4, then 10 to 19, then 30 to 43.
 unfoldable pub readFirst : Limits → List ℕ → List ℤ → List ℕ → List ℕ → Result Refusal Term
 readFirst l script readings rows store =
     callFits l script readings rows store >>= λ _.
-    parse l script >>= λ t.
-    judgeScript (l .variables) t >>= λ _.
-    ok t
+    parse l newest script >>= λ w.
+    judgeScript (l .variables) (w .term) >>= λ _.
+    ok (w .term)
 
 -- The numbers of a call's refusals (LANGUAGE 6.1): none is one of 60 to 63.
 abbrev pub CallNumber : ℕ → Type 0
@@ -84,7 +85,7 @@ CallNumber n = (n ≡ 74) ⊎ ((1 ≤ n) × (n ≤ 4)) ⊎ ((10 ≤ n) × (n ≤
 
 -- The safety of accepted scripts (LANGUAGE 7.4), from the bytes on, on every input: as for a run, with the terms of the script that was read.
 pub record SafeCall (l : Limits) (script : List ℕ) (readings : List ℤ) (rows : List ℕ) (r : CallAnswer) (before after : List ℕ) : Type 0 where
-  pub safe : (t : Term) → parse l script ≡ ok t → judgeScript (l .variables) t ≡ ok tt → (earlier : Store) → Safe l t (bitsOf readings) earlier
+  pub safe : (w : Whole) → parse l newest script ≡ ok w → judgeScript (l .variables) (w .term) ≡ ok tt → (earlier : Store) → Safe l (w .term) (bitsOf readings) earlier
   pub answers : (n : ℕ) (a : ℤ) (c : ℕ) → r ≡ called n a c
       → (t : Term) × (readFirst l script readings rows before ≡ ok t) × (n ≡ size t) × (s : Safe l t (bitsOf readings) (λ x. closed)) × (a ≡ toZ w32 (s .answer)) × (c ≡ s .final .taken)
   pub tidy : (n : ℕ) (a : ℤ) (c : ℕ) → r ≡ called n a c → after ≡ tidyStore l c

@@ -1,5 +1,5 @@
--- E1 to E11 (LANGUAGE 8.4) as the program is given them and as it prints them: the bytes of an input, and the line. E8 and the second half of E9
--- are runs without a check, which the program does not do.
+-- E1 to E11 (LANGUAGE 8.4) and a sum, in version 2 and in version 1, as the program is given them and as it prints them: the bytes of an input, and
+-- the line. E8 and the second half of E9 are runs without a check, which the program does not do.
 use Prim.Native.Nat.{ℕ}
 use Prim.Native.String.{String}
 use mathlib.Core.Path.{_≡_}
@@ -8,7 +8,7 @@ use lib.ListN.{take}
 use Rattle.reader.specs.Limits.{base, rowNumbers, storeNumbers}
 use Rattle.reader.specs.Script.{Term}
 use Rattle.reader.specs.Layout.{zeros, bytesOf}
-use Rattle.safety.specs.Examples.{e1Bytes, e2, e3, e4, e5, e6, e7, e9, nine, eight, e11}
+use Rattle.safety.specs.Examples.{e1Bytes, e2, e3, e4, e5, e6, e7, e9, nine, eight, e11, sums}
 use Rattle.room.specs.Line.{ascii, Reported, reportOf}
 
 -- The bytes that go out: as many of the buffer's as the answer says.
@@ -19,17 +19,21 @@ lineIn r = take (r .0) (r .1 .1 .1)
 unfoldable pub printed : List ℕ → List ℕ
 printed input = lineIn (reportOf base input (zeros (rowNumbers base)) (zeros (storeNumbers base)) (zeros 80))
 
--- Readings 185 and 200 for E1, the others 0; no other example has a reading.
-unfoldable pub e1Readings : List ℕ
-e1Readings = (0 ∷ 0 ∷ 0 ∷ 185 ∷ 0 ∷ 0 ∷ 0 ∷ 200 ∷ []) ++ zeros 24
+-- Readings 185 and 200 for E1 and for the sum, the others 0; no other example has a reading.
+unfoldable pub someReadings : List ℕ
+someReadings = (0 ∷ 0 ∷ 0 ∷ 185 ∷ 0 ∷ 0 ∷ 0 ∷ 200 ∷ []) ++ zeros 24
+
+-- The script in version v.
+unfoldable pub bytesIn : ℕ → Term → List ℕ
+bytesIn v t = bytesOf (record { version = v; term = t })
 
 unfoldable pub on : Term → List ℕ
-on t = zeros 32 ++ bytesOf t
+on t = zeros 32 ++ bytesIn 1 t
 
 -- Each input with its line. E1's script is given by its bytes (LANGUAGE 8.2).
 unfoldable pub examples : List (List ℕ × String)
 examples =
-    (e1Readings ++ e1Bytes, "accepted 8 call 1 cells 0\n")
+    (someReadings ++ e1Bytes, "accepted 8 call 1 cells 0\n")
     ∷ (on e2, "refused 34 at 5\n")
     ∷ (on e3, "refused 33 at 6\n")
     ∷ (on e4, "accepted 9 call 8 cells 1\n")
@@ -40,6 +44,8 @@ examples =
     ∷ (on nine, "refused 42 at 2\n")
     ∷ (on eight, "accepted 12 call 0 cells 8\n")
     ∷ (on e11, "refused 40 at 8\n")
+    ∷ (someReadings ++ bytesIn 2 sums, "accepted 6 call 385 cells 0\n")
+    ∷ (on sums, "refused 13 at 15\n")
     ∷ []
 
 abbrev pub LinesHold : Type 0

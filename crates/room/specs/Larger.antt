@@ -32,13 +32,13 @@ pub record SameAgain (l m : Limits) (rows : List ℕ) (n : ℕ) (again : List �
   pub runs : (readings : List ℤ) (store store′ : List ℕ) → length readings ≡ 8 → length store ≡ storeNumbers l → length store′ ≡ storeNumbers m
       → SameRun l m rows again readings store store′
 
--- From bytes: what is read and accepted under l is read and accepted under m, into any rows of m's length. Reading and the check count the same
--- number of terms.
+-- From bytes, whatever versions are known: what is read and accepted under l is read, as of the same version, and accepted under m, into any rows
+-- of m's length. Reading and the check count the same number of terms.
 abbrev pub LargerScripts : Limits → Limits → Type 0
 LargerScripts l m =
-    (script before : List ℕ) (n : ℕ) (rows others : List ℕ) (k : ℕ) → Under 256 script → length others ≡ rowNumbers m
-    → readOf l script before ≡ (ok n, rows) → checkOf l rows ≡ ok k
-    → (k ≡ n) × (again : List ℕ) × (readOf m script others ≡ (ok n, again)) × SameAgain l m rows n again
+    (known : ℕ) (script before : List ℕ) (v n : ℕ) (rows others : List ℕ) (k : ℕ) → Under 256 script → length others ≡ rowNumbers m
+    → readOf l known script before ≡ (ok (v, n), rows) → checkOf l rows ≡ ok k
+    → (k ≡ n) × (again : List ℕ) × (readOf m known script others ≡ (ok (v, n), again)) × SameAgain l m rows n again
 
 -- From rows, whether or not they were read, laid out again for m.
 abbrev pub LargerRows : Limits → Limits → Type 0

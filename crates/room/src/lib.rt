@@ -14,8 +14,9 @@ ghost use Rattle.room.specs.Parts.{fitNumber};
 use machine::UncheckedOutcome;
 use machine::signed::number_of;
 use ownership::Checked;
-use reader::Outcome;
+use reader::ReadOutcome;
 use reader::fields::word_at;
+use reader::kinds;
 use reader::limits;
 use reader::limits::Limits;
 
@@ -121,10 +122,10 @@ pub fn call(
     if number != 0 {
         return Called::Refused(number, 0);
     }
-    let read = reader::read(set, script, rows);
+    let read = reader::read(set, kinds::NEWEST, script, rows);
     match read {
-        Outcome::Refused(number, place) => Called::Refused(number, place),
-        Outcome::Count(terms) => {
+        ReadOutcome::Refused(number, place) => Called::Refused(number, place),
+        ReadOutcome::Script(version, terms) => {
             let checked = ownership::check_judged(set, rows, terms);
             with_terms(terms, run_checked(set, checked, rows, readings, store))
         }

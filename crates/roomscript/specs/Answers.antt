@@ -5,10 +5,12 @@ use mathlib.Core.List.{List}
 use lib.IntN.{ℤ, pos}
 use Rattle.reader.specs.Result.{Result, ok, err, Refusal}
 use Rattle.reader.specs.Limits.{Limits}
+use Rattle.reader.specs.Answers.{Told}
 use Rattle.machine.specs.Answers as unchecked
 use Rattle.room.specs.Running as run
 use Rattle.room.specs.Calling as call
 use Rattle.roomscript.specs.declared.Answer.{Answer}
+use Rattle.roomscript.specs.declared.Script.{Script}
 use Rattle.roomscript.specs.declared.Run.{Run}
 use Rattle.roomscript.specs.declared.RunUnchecked.{RunUnchecked}
 use Rattle.roomscript.specs.declared.Call.{Call}
@@ -16,6 +18,10 @@ use Rattle.roomscript.specs.declared.Call.{Call}
 unfoldable pub answerIn : Result Refusal ℕ → Answer
 answerIn (ok n) = record { refused = 0; number = 0; value = n }
 answerIn (err e) = record { refused = 1; number = e .0; value = e .1 }
+
+unfoldable pub scriptIn : Result Refusal Told → Script
+scriptIn (ok t) = record { refused = 0; number = 0; version = t .0; place = 0; terms = t .1 }
+scriptIn (err e) = record { refused = 1; number = e .0; version = 0; place = e .1; terms = 0 }
 
 unfoldable pub ranIn : run.RunAnswer → Run
 ranIn (run.answered a c) = record { refused = 0; number = 0; answer = a; place = 0; cells = c }

@@ -1,15 +1,16 @@
 // The C interface: the set of limits (LANGUAGE 2.8) by value, numbers and slices. `bindings/` has the header, and a
 // safe Rust wrapper.
 ghost use mathlib.Core.Path.{_≡_};
-ghost use Rattle.reader.specs.Answers.{told, readOf, judgedOf, writtenOf};
+ghost use Rattle.reader.specs.Answers.{told, toldRead, readOf, judgedOf, writtenOf};
 ghost use Rattle.ownership.specs.Answers.{toldChecked, checkOf};
 ghost use Rattle.machine.specs.Answers.{toldUnchecked, uncheckedOf};
 ghost use Rattle.room.specs.Running.{toldRun, runOf};
 ghost use Rattle.room.specs.Calling.{toldCall, callOf};
-ghost use Rattle.roomscript.specs.Answers.{answerIn, ranIn, uncheckedIn, calledIn, inC, SafeRunInC, SafeCallInC};
+ghost use Rattle.roomscript.specs.Answers.{answerIn, scriptIn, ranIn, uncheckedIn, calledIn, inC, SafeRunInC, SafeCallInC};
 use machine::UncheckedOutcome;
 use ownership::Checked;
 use reader::Outcome;
+use reader::ReadOutcome;
 use reader::limits::Limits;
 use room::Called;
 use room::RunOutcome;
@@ -40,11 +41,47 @@ fn c_answer(outcome: Outcome) -> Answer
     }
 }
 
-#[no_mangle]
-pub extern "C" fn roomscript_read(limits: Limits, script: &[u8], rows: &mut [u32]) -> Answer
-    ensures { λ r. ⌜ (r, now (rows .exit)) ≡ inC answerIn (readOf limits (now (script .entry)) (now (rows .entry))) ⌝ }
+// refused is 0 or 1. Where it is 1, number and place say why, and the others are 0; else number and place are 0.
+#[repr(C)]
+pub struct Script {
+    pub refused: u32,
+    pub number: u32,
+    pub version: u32,
+    pub place: u64,
+    pub terms: u64,
+}
+
+fn c_script(read: ReadOutcome) -> Script
+    ensures { λ r. ⌜ r ≡ scriptIn (toldRead read) ⌝ }
 {
-    c_answer(reader::read(limits, script, rows))
+    match read {
+        ReadOutcome::Script(version, terms) => Script {
+            refused: 0,
+            number: 0,
+            version: version,
+            place: 0,
+            terms: terms as u64,
+        },
+        ReadOutcome::Refused(number, offset) => Script {
+            refused: 1,
+            number: number,
+            version: 0,
+            place: offset as u64,
+            terms: 0,
+        },
+    }
+}
+
+#[no_mangle]
+pub extern "C" fn roomscript_read(
+    limits: Limits,
+    newest: u32,
+    script: &[u8],
+    rows: &mut [u32],
+) -> Script
+    ensures { λ r. ⌜ (r, now (rows .exit)) ≡ inC scriptIn (readOf limits newest (now (script .entry)) (now (rows .entry))) ⌝ }
+{
+    c_script(reader::read(limits, newest, script, rows))
 }
 
 #[no_mangle]
@@ -55,10 +92,15 @@ pub extern "C" fn roomscript_judge_rows(limits: Limits, rows: &[u32]) -> Answer
 }
 
 #[no_mangle]
-pub extern "C" fn roomscript_write(limits: Limits, rows: &[u32], output: &mut [u8]) -> Answer
-    ensures { λ r. ⌜ (r, now (output .exit)) ≡ inC answerIn (writtenOf limits (now (rows .entry)) (now (output .entry))) ⌝ }
+pub extern "C" fn roomscript_write(
+    limits: Limits,
+    version: u32,
+    rows: &[u32],
+    output: &mut [u8],
+) -> Answer
+    ensures { λ r. ⌜ (r, now (output .exit)) ≡ inC answerIn (writtenOf limits version (now (rows .entry)) (now (output .entry))) ⌝ }
 {
-    c_answer(reader::write(limits, rows, output))
+    c_answer(reader::write(limits, version, rows, output))
 }
 
 #[no_mangle]

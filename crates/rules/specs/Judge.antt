@@ -3,7 +3,7 @@ use Prim.Native.Nat.{ℕ, suc}
 use mathlib.Core.Bool.{Bool, false}
 use mathlib.Core.Option.{Option, none, some}
 use Rattle.reader.specs.Result.{ok, need, _>>=_}
-use Rattle.reader.specs.Script.{Term, Terms, number, reading, copy, move, borrowShared, borrowExclusive, box, declare, assign, below, block, last, more}
+use Rattle.reader.specs.Script.{Term, Terms, number, reading, copy, move, borrowShared, borrowExclusive, box, declare, assign, below, block, sum, last, more}
 use Rattle.rules.specs.Links.{isNumber}
 use Rattle.rules.specs.Environment.{Environment, free, used, Ty, update, isFree}
 use Rattle.rules.specs.Rules.{Judged, Out, numberTy, judgeCopy, judgeMove, judgeShared, judgeExclusive, judgeBox, judgeLet, judgeAssign, judgeBelow, judgeBlockEnd}
@@ -28,6 +28,7 @@ module _ (nv : ℕ) where
     -- Assign (LANGUAGE 3.25): the right side first.
     judge (assign i p t) level Γ = judge t level Γ >>= λ o. judgeAssign nv (o .0) i p (o .1)
     judge (below i p q) level Γ = judgeBelow nv Γ i p q
+    judge (sum i p q) level Γ = judgeBelow nv Γ i p q
     judge (block i ts) level Γ = judges ts (suc level) Γ >>= λ o. judgeBlockEnd nv level (o .0) i (o .1)
 
     -- A block's terms in order (LANGUAGE 3.28), and the last one's value for the block's (3.4).

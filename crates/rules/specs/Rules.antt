@@ -20,7 +20,7 @@ Judged A = Result Refusal A
 abbrev pub Out : Type 0
 Out = Environment × Option Ty
 
--- The value of a number, a reading and a below (LANGUAGE 3.18, 3.27).
+-- The value of a number, a reading, a below and a sum (LANGUAGE 3.18, 3.27).
 abbrev pub numberTy : Ty
 numberTy = record { links = []; borrow = noBorrow }
 
@@ -54,7 +54,8 @@ module _ (nv : ℕ) where
       reached (follow nv Γ (p .root) (p .follows)) (33, i) >>= λ q.
       ok (record { root = v; to = q })
 
-  -- The place of a copy, a shared borrow and a below (LANGUAGE 3.19, 3.21, 3.27): judged, its value whole (33), reading not barred (34).
+  -- The place of a copy, a shared borrow, a below and a sum (LANGUAGE 3.19, 3.21, 3.27): judged, its value whole (33), reading not barred
+  -- (34).
   unfoldable pub judgeReadable : Environment → ℕ → Place → Judged Located
   judgeReadable Γ i p =
       judgePlace Γ i p >>= λ l.
@@ -126,13 +127,13 @@ module _ (nv : ℕ) where
       need (not (writeBarred nv Γ′ (p .root))) (35, i) >>= λ _.
       ok (Γ′, none)
 
-  -- A place of a below (LANGUAGE 3.27): readable, then a number (39).
+  -- A place of a below or a sum (LANGUAGE 3.27): readable, then a number (39).
   unfoldable pub judgeNumber : Environment → ℕ → Place → Judged (Unit {0})
   judgeNumber Γ i p =
       judgeReadable Γ i p >>= λ l.
       need (isNumber (drop (p .follows) (l .root .chain))) (39, i)
 
-  -- Below (LANGUAGE 3.27): the first place, then the second.
+  -- Below and sum (LANGUAGE 3.27): the first place, then the second.
   unfoldable pub judgeBelow : Environment → ℕ → Place → Place → Judged Out
   judgeBelow Γ i p q =
       judgeNumber Γ i p >>= λ _.

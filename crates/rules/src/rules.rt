@@ -77,7 +77,7 @@ pub fn judge_place(env: &[u32], variables: usize, term: usize, place: Place) -> 
     Located::At(state.links, rest, variable, link)
 }
 
-// The place of a copy, a shared borrow and a below (LANGUAGE 3.19, 3.21, 3.27): judged, its value whole (33), reading
+// The place of a copy, a shared borrow, a below and a sum (LANGUAGE 3.19, 3.21, 3.27): judged, its value whole (33), reading
 // not barred (34).
 pub fn judge_readable(env: &[u32], variables: usize, term: usize, place: Place) -> Located
     requires { ⌜ TableFor (now env) variables ⌝ }
@@ -267,7 +267,7 @@ pub fn judge_assign(
     }
 }
 
-// A place of a below (LANGUAGE 3.27): readable, then a number (39).
+// A place of a below or a sum (LANGUAGE 3.27): readable, then a number (39).
 pub fn judge_number(env: &[u32], variables: usize, term: usize, place: Place) -> Requirement
     requires { ⌜ TableFor (now env) variables ⌝ }
     ensures { λ r. ⌜ asRequirement r ≡ judgeNumber variables (environmentOf (now (env .entry))) term (asPlace place) ⌝ }
@@ -285,7 +285,7 @@ pub fn judge_number(env: &[u32], variables: usize, term: usize, place: Place) ->
     }
 }
 
-// Below (LANGUAGE 3.27): the first place, then the second.
+// Below and sum (LANGUAGE 3.27): the first place, then the second.
 pub fn judge_below(
     env: &[u32],
     variables: usize,

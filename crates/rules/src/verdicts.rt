@@ -49,7 +49,7 @@ pub fn value_of(links: u32, end: BorrowEnd) -> Verdict
     Verdict::Fine(value)
 }
 
-// The value of a number, a reading (LANGUAGE 3.18) and a below (3.27).
+// The value of a number, a reading (LANGUAGE 3.18), a below and a sum (3.27).
 pub fn number_value() -> Verdict
     ensures { λ r. ⌜ Answers r (valueOf numberTy) ⌝ }
 {

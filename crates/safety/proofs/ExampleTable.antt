@@ -22,7 +22,7 @@ use Rattle.machine.specs.Run
 use Rattle.safety.specs.Examples.{e1, e1Bytes, Line, lines, table}
 use Rattle.safety.specs.Examples
 
-pub examples : _≡_ {A = List ℕ × List Line} (bytesOf e1, lines) (e1Bytes, table)
+pub examples : _≡_ {A = List ℕ × List Line} (bytesOf (record { version = 1; term = e1 }), lines) (e1Bytes, table)
 unfolding
     lines table Examples.e1Bytes Examples.checked Examples.unchecked Examples.verdict Examples.ranTo Examples.readings Examples.boxed Examples.e1 Examples.e2 Examples.e3 Examples.e4 Examples.e5 Examples.e6 Examples.e7 Examples.e9 Examples.nine Examples.eight Examples.e11
     Result._>>=_ Result.need

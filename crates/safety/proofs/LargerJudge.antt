@@ -6,7 +6,7 @@ use mathlib.Core.Option.{Option, none, some}
 use Rattle.reader.specs.Result.{Refusal, need}
 use Rattle.reader.specs.Limits.{Limits}
 use Rattle.reader.specs.Larger.{NoSmaller}
-use Rattle.reader.specs.Script.{Place, Term, number, reading, copy, move, borrowShared, borrowExclusive, box, declare, assign, below, block, Terms, last, more}
+use Rattle.reader.specs.Script.{Place, Term, number, reading, copy, move, borrowShared, borrowExclusive, box, declare, assign, below, block, sum, Terms, last, more}
 use Rattle.rules.specs.Environment.{used, Environment, Ty, update}
 use Rattle.rules.specs.Rules.{Out, judgeBox, judgeLet, judgeBlockEnd}
 use Rattle.rules.specs.Judge.{judge, judges, isAnswer, nothingTaken, judgeScript}
@@ -108,6 +108,7 @@ module _ (nv nv′ : ℕ) (le : nv ≤ nv′) where
     same (declare i x t) = of-let i x t (same t)
     same (assign i p t) = of-assign i p t (same t)
     same (below i p q) = of-leaf (below i p q) (λ level Γ N. below-same nv nv′ le N i p q)
+    same (sum i p q) = of-leaf (sum i p q) (λ level Γ N. below-same nv nv′ le N i p q)
     same (block i ts) = of-block i ts (same-all ts)
 
     same-all : (ts : Terms) → SameAll ts

@@ -3,7 +3,7 @@ use Prim.Native.Nat.{ℕ, suc, _+_, _<_}
 use native.Mathlib.Omega.{arith}
 use mathlib.Core.Path.{_≡_, refl}
 use Rattle.reader.specs.Limits.{Limits}
-use Rattle.reader.specs.Script.{Term, number, reading, copy, move, borrowShared, borrowExclusive, box, declare, assign, below, block, Terms, last, more}
+use Rattle.reader.specs.Script.{Term, number, reading, copy, move, borrowShared, borrowExclusive, box, declare, assign, below, block, sum, Terms, last, more}
 use Rattle.reader.specs.Kinds.{kBlock, fields}
 use Rattle.reader.specs.Measures.{size, kindIn}
 use Rattle.reader.specs.Within.{Formed, FormedAll}
@@ -21,6 +21,7 @@ unfoldable mutual
   Ranged nv (declare i x t) = (x < nv) × Ranged nv t
   Ranged nv (assign i p t) = Ranged nv t
   Ranged nv (below i p q) = Unit {0}
+  Ranged nv (sum i p q) = Unit {0}
   Ranged nv (block i ts) = Rangeds nv ts
 
   pub Rangeds : ℕ → Terms → Type 0
@@ -41,6 +42,7 @@ mutual
   formed-ranged l i (declare j x t) f = (f .1 .0 .1, formed-ranged l (suc i) t (f .2))
   formed-ranged l i (assign j p t) f = formed-ranged l (suc i) t (f .2)
   formed-ranged l i (below j p q) f = tt
+  formed-ranged l i (sum j p q) f = tt
   formed-ranged l i (block j ts) f = formed-all-ranged l (suc i) ts (f .2)
 
   formed-all-ranged : (l : Limits) (i : ℕ) (ts : Terms) → FormedAll l i ts → Rangeds (l .variables) ts
@@ -59,4 +61,5 @@ is-block (box i t) e = let z : _≡_ {A = ℕ} 0 1 = cc in absurd (omega arith)
 is-block (declare i x t) e = let z : _≡_ {A = ℕ} 0 1 = cc in absurd (omega arith)
 is-block (assign i p t) e = let z : _≡_ {A = ℕ} 0 1 = cc in absurd (omega arith)
 is-block (below i p q) e = let z : _≡_ {A = ℕ} 0 1 = cc in absurd (omega arith)
+is-block (sum i p q) e = let z : _≡_ {A = ℕ} 0 1 = cc in absurd (omega arith)
 is-block (block i ts) e = (i, ts, refl)

@@ -8,10 +8,10 @@ use mathlib.Core.List.{List, [], _∷_}
 use lib.Dec.{T, leb, leb→le}
 use Rattle.reader.specs.Result.{Result, ok, err, Refusal, need, _>>=_}
 use Rattle.reader.specs.Limits.{Limits}
-use Rattle.reader.specs.Script.{Place, Term, number, reading, copy, move, borrowShared, borrowExclusive, box, declare, assign, below, block, Terms, last, more}
-use Rattle.reader.specs.Kinds.{Kind, kNumber, kReading, kCopy, kMove, kShared, kExclusive, kBox, kLet, kAssign, kBelow, kBlock, Field, word, until}
+use Rattle.reader.specs.Script.{Place, Term, number, reading, copy, move, borrowShared, borrowExclusive, box, declare, assign, below, block, sum, Terms, last, more}
+use Rattle.reader.specs.Kinds.{Kind, kNumber, kReading, kCopy, kMove, kShared, kExclusive, kBox, kLet, kAssign, kBelow, kBlock, kSum, Field, word, until}
 use Rattle.reader.specs.Layout.{Form, inBytes, inRows}
-use Rattle.reader.specs.Reader.{Cursor, Reads, _>>=_ as _&_, done, expect, first, peek, skip, next, ranged, field, operands, zeroFields, restOfRow, known, kind, opening, counted, several, built, term, nothingLeft, over, script, mark, version, leading, answer, parse, decode}
+use Rattle.reader.specs.Reader.{Cursor, Reads, _>>=_ as _&_, done, expect, first, peek, skip, next, ranged, field, operands, zeroFields, restOfRow, known, kind, opening, counted, several, built, term, nothingLeft, over, script, mark, version, leading, wholeScript, answer, parse, decodeIn, decode}
 use Rattle.rules.specs.Environment.{Slot, free, used, live, Environment, Ty}
 use Rattle.rules.specs.Rules.{inScope, reached, valued, judgePlace, judgeReadable, judgeCopy, judgeMove, judgeShared, judgeExclusive, judgeBox, judgeLet, judgeAssign, judgeNumber, judgeBelow, judgeBlockEnd}
 use Rattle.rules.specs.Judge.{judge, judges, judgeScript}
@@ -109,6 +109,7 @@ module _ (inner : Bool → Reads Term) (h : (o : Bool) (s : Cursor) → Only 12 
   built-only kLet i vs = search of-reading
   built-only kAssign i vs = search of-reading
   built-only kBelow i vs = search of-reading
+  built-only kSum i vs = search of-reading
   built-only kBlock i vs = search (of-reading, several-only)
 
 opening-only : (l : Limits) (v : ℕ) (w : Form) (outer : Bool) (s : Cursor) → Only 12 19 (opening l v w outer s)
@@ -128,22 +129,26 @@ nothing-left inBytes k (x ∷ xs) = search steps
 nothing-left inRows k [] = search steps
 nothing-left inRows k (x ∷ xs) = onward (search steps) (λ u. nothing-left inRows (suc k) xs)
 
-tree-only : (l : Limits) (w : Form) (s : Cursor) → Only 12 19 (script l 1 w s)
+tree-only : (l : Limits) (v : ℕ) (w : Form) (s : Cursor) → Only 12 19 (script l v w s)
 unfolding script over done
-tree-only l w = search (steps, nothing-left, term-only)
+tree-only l v w = search (steps, nothing-left, term-only)
 
 decode-only : (l : Limits) (rows : List ℕ) → Only 12 19 (decode l rows)
-unfolding decode answer
+unfolding decode decodeIn answer
 decode-only l rows = search (steps, tree-only)
 
 -- Bytes have the mark (10) and the version (11) before the term.
-parse-only : (l : Limits) (bs : List ℕ) → Only 10 19 (parse l bs)
-unfolding parse answer leading mark version next peek expect skip done
-parse-only l bs = onward (reads (search (steps, first-only) depth 8) (λ u s. wider (tree-only l inBytes s) tt tt) _) (search steps)
+whole-only : (l : Limits) (n : ℕ) (s : Cursor) → Only 10 19 (wholeScript l n s)
+unfolding wholeScript leading mark version next peek expect skip done
+whole-only l n = reads (search (steps, first-only) depth 8) (λ v. reads (λ s. wider (tree-only l v inBytes s) tt tt) (λ t. search steps))
+
+parse-only : (l : Limits) (n : ℕ) (bs : List ℕ) → Only 10 19 (parse l n bs)
+unfolding parse answer
+parse-only l n bs = search (steps, whole-only)
 
 -- The numbers that reading can answer (LANGUAGE 5.4): 10 to 19.
-pub read-numbers : (l : Limits) (bs : List ℕ) (e : Refusal) → parse l bs ≡ err e → (10 ≤ e .0) × (e .0 ≤ 19)
-read-numbers l bs = parse-only l bs .number-in
+pub read-numbers : (l : Limits) (n : ℕ) (bs : List ℕ) (e : Refusal) → parse l n bs ≡ err e → (10 ≤ e .0) × (e .0 ≤ 19)
+read-numbers l n bs = parse-only l n bs .number-in
 
 -- The numbers that judging rows can answer (LANGUAGE 5.4): 12 to 19.
 pub form-numbers : (l : Limits) (rows : List ℕ) (e : Refusal) → decode l rows ≡ err e → (12 ≤ e .0) × (e .0 ≤ 19)
@@ -185,6 +190,7 @@ module _ (nv : ℕ) where
     judge-only (declare i x t) level Γ = onward (search of-rules) (λ u. onward (judge-only t level _) (λ o. search of-rules))
     judge-only (assign i p t) level Γ = onward (judge-only t level Γ) (λ o. search of-rules depth 8)
     judge-only (below i p q) level Γ = search of-rules depth 8
+    judge-only (sum i p q) level Γ = search of-rules depth 8
     judge-only (block i ts) level Γ = onward (judges-only ts (suc level) Γ) (λ o. search of-rules)
 
     judges-only : (ts : Terms) (level : ℕ) (Γ : Environment) → Only 30 43 (judges nv ts level Γ)

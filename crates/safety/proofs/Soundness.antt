@@ -5,15 +5,15 @@ use mathlib.Core.Path.{_≡_, refl, sym, ap, _∙_, subst}
 use mathlib.Core.Logic.{_≢_}
 use mathlib.Core.Option.{none, some}
 use Rattle.reader.specs.Result.{Result, ok, Refusal, _>>=_, need}
-use Rattle.reader.specs.Script.{Place, Term, number, reading, copy, move, borrowShared, borrowExclusive, box, declare, assign, below, block, Terms, last, more}
+use Rattle.reader.specs.Script.{Place, Term, number, reading, copy, move, borrowShared, borrowExclusive, box, declare, assign, below, block, sum, Terms, last, more}
 use Rattle.rules.specs.Environment.{Variable, Slot, free, used, live, Environment, update, isFree, livesAt, leaveSlot, leave}
 use Rattle.rules.specs.Rules.{Out, numberTy, judgeNumber, judgeBelow, borrowIn, judgeBlockEnd}
 use Rattle.rules.specs.Judge.{judge, judges}
 use Rattle.machine.specs.Values.{empty, num}
 use Rattle.machine.specs.Store.{State}
 use Rattle.machine.specs.Drop.{dropValue}
-use Rattle.machine.specs.Signed.{compared}
-use Rattle.machine.specs.Run.{runBlockEnd, entered, run, runs}
+use Rattle.machine.specs.Signed.{compared, heldSum}
+use Rattle.machine.specs.Run.{runPair, runBlockEnd, entered, run, runs}
 use Rattle.safety.proofs.Apart.{free≢live, used≢live}
 use Rattle.machine.proofs.Results.{then, after, needed}
 use Rattle.safety.proofs.Inversion.{was-free, update-same, update-other}
@@ -135,13 +135,15 @@ module _ (nv : ℕ) (readings : ℕ → ℕ) where
         lives = λ x k e. let a = R .lives x k e in let b = Q .lives x (a .0) (a .1) in (b .0, b .1, b .2 ∙ a .2, b .3 ∙ a .3);
       }
 
-  sound-below : (i : ℕ) (p q : Place) → Sound (below i p q)
-  unfolding Sound Ranged judge judgeBelow run
-  sound-below i p q lv Γ s out w h I =
-      let a = then (judgeNumber nv Γ i p) _ out h in
+  -- Below and sum: f is what the run makes of the two numbers.
+  sound-pair : (t : Term) (f : ℕ → ℕ → ℕ) (i : ℕ) (p q : Place) → ((s : State) → run readings t s ≡ runPair f s i p q)
+      → ((lv : ℕ) (Γ : Environment) → judge nv t lv Γ ≡ judgeBelow nv Γ i p q) → Sound t
+  unfolding Sound judgeBelow
+  sound-pair t f i p q e g lv Γ s out w h I =
+      let a = then (judgeNumber nv Γ i p) _ out (sym (g lv Γ) ∙ h) in
       let b = then (judgeNumber nv Γ i q) _ out (a .2) in
       let z : (Γ, some numberTy) ≡ out = let k = b .2 in cc in
-      subst (λ (k : Out). Progress nv Γ (k .0) (k .1) lv (run readings (below i p q) s)) z (case-pair I compared i p q (a .0) (b .0) (a .1) (b .1))
+      subst (λ (k : Out). Progress nv Γ (k .0) (k .1) lv (run readings t s)) z (subst (Progress nv Γ Γ (some numberTy) lv) (sym (e s)) (case-pair I f i p q (a .0) (b .0) (a .1) (b .1)))
 
   sound-number : (t : Term) (n : ℕ) → ((s : State) → run readings t s ≡ ok (s, num n))
       → ((lv : ℕ) (Γ : Environment) → judge nv t lv Γ ≡ ok (Γ, some numberTy)) → Sound t
@@ -163,7 +165,8 @@ module _ (nv : ℕ) (readings : ℕ → ℕ) where
     sound (box i t) = sound-box i t (sound t)
     sound (declare i x t) = sound-let i x t (sound t)
     sound (assign i p t) = sound-assign i p t (sound t)
-    sound (below i p q) = sound-below i p q
+    sound (below i p q) = sound-pair (below i p q) compared i p q (λ s. refl) (λ lv Γ. refl)
+    sound (sum i p q) = sound-pair (sum i p q) heldSum i p q (λ s. refl) (λ lv Γ. refl)
     sound (block i ts) = sound-block i ts (sounds ts)
 
     pub sounds : (ts : Terms) → Sounds ts

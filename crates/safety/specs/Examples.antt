@@ -3,7 +3,7 @@ use Prim.Native.Nat.{ℕ, zero, suc}
 use mathlib.Core.List.{List, [], _∷_}
 use Rattle.reader.specs.Result.{Result, ok, err, Refusal}
 use Rattle.reader.specs.Limits.{base}
-use Rattle.reader.specs.Script.{Place, Term, number, reading, copy, move, borrowShared, borrowExclusive, box, declare, assign, below, block, Terms, last, more}
+use Rattle.reader.specs.Script.{Place, Term, number, reading, copy, move, borrowShared, borrowExclusive, box, declare, assign, below, block, sum, Terms, last, more}
 use Rattle.reader.specs.Measures.{size}
 use Rattle.rules.specs.Judge.{judgeScript}
 use Rattle.machine.specs.Values.{closed}
@@ -34,6 +34,14 @@ unfoldable pub e1Bytes : List ℕ
 e1Bytes =
     0x52 ∷ 0x43 ∷ 0x53 ∷ 0x00 ∷ 0x01 ∷ 0x0b ∷ 0x04 ∷ 0x08 ∷ 0x00 ∷ 0x02 ∷ 0x00 ∷ 0x08 ∷ 0x01
     ∷ 0x02 ∷ 0x01 ∷ 0x08 ∷ 0x02 ∷ 0x05 ∷ 0x00 ∷ 0x00 ∷ 0x0a ∷ 0x02 ∷ 0x01 ∷ 0x01 ∷ 0x00 ∷ []
+
+-- `v0=reading 0; v1=reading 1; sum v0, v1`
+unfoldable pub sums : Term
+sums =
+    block 0 (
+    declare 1 0 (reading 2 0)
+    ⨾ declare 3 1 (reading 4 1)
+    ⨾ last (sum 5 (v 0) (v 1)))
 
 -- `let v0=5; let v1=&mut v0; copy v0`
 unfoldable pub e2 : Term

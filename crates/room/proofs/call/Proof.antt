@@ -1,4 +1,5 @@
 -- `room::call` meets its contract. Assumes nothing.
+use Rattle.reader.specs.Kinds.{newest}
 use Rattle.reader.proofs.Lists.{under-bytes}
 use Rattle.reader.proofs.Promise.{read-judged}
 use Rattle.room.proofs.CallLaws.{call-unfit, fit-run, call-unread, call-read}
@@ -25,7 +26,8 @@ enum-known-read-2 : tie.Need-enum-known-read-2
 enum-known-read-2 c = search needs
 
 check-judged-requires : tie.Need-check-judged-requires
-check-judged-requires c κs = read-judged _ _ (under-bytes (c .before .before .before .before .before .before .before .before .before .before .before .before .before .args .script .now) (c .before .before .before .before .before .before .before .before .before .before .before .before .shared-slice-known .given)) _ _ _ _ (c .before .before .before .before .before .before .read .ensures) (c .before .before .read3 .given .1)
+unfolding newest
+check-judged-requires c κs = read-judged _ _ _ (under-bytes (c .before .before .before .before .before .before .before .before .before .before .before .before .before .args .script .now) (c .before .before .before .before .before .before .before .before .before .before .before .before .shared-slice-known .given)) _ _ _ _ _ (c .before .before .before .before .before .before .read .ensures) (c .before .before .read3 .given .1)
 
 run-checked-requires : tie.Need-run-checked-requires
 run-checked-requires c κs =
@@ -39,6 +41,7 @@ same-length : tie.Need-same-length
 same-length c = search needs
 
 returns-2 : tie.Need-returns-2
+unfolding newest
 returns-2 c =
     let e = call-unread _ _ (c .before .before .before .before .before .before .before .before .before .before .before .before .args .readings .now) _ _ _ (c .before .before .before .before .before .before .before .before .fit-number .ensures) (c .before .before .before .before .before .before .before .if1 .left) _ _ (c .before .before .before .before .before .read .ensures) _ _ (c .before .read2 .given .1) in
     (e, safe-call _ _ _ _ _ (under-bytes (c .before .before .before .before .before .before .before .before .before .before .before .before .args .script .now) (c .before .before .before .before .before .before .before .before .before .before .before .shared-slice-known .given)) _ _ _ e)
@@ -50,8 +53,9 @@ same-length-3 : tie.Need-same-length-3
 same-length-3 c = search needs
 
 returns-3 : tie.Need-returns-3
+unfolding newest
 returns-3 c =
-    let e = call-read _ _ (c .before .before .before .before .before .before .before .before .before .before .before .before .before .before .before .before .before .before .before .before .args .readings .now) _ _ _ (c .before .before .before .before .before .before .before .before .before .before .before .before .before .before .before .before .fit-number .ensures) (c .before .before .before .before .before .before .before .before .before .before .before .before .before .before .before .if1 .left) _ _ (c .before .before .before .before .before .before .before .before .before .before .before .before .before .read .ensures) _ (c .before .before .before .before .before .before .before .before .before .read3 .given .1) _ _ (c .before .before .before .run-checked .ensures) _ (c .with-terms .ensures) in
+    let e = call-read _ _ (c .before .before .before .before .before .before .before .before .before .before .before .before .before .before .before .before .before .before .before .before .args .readings .now) _ _ _ (c .before .before .before .before .before .before .before .before .before .before .before .before .before .before .before .before .fit-number .ensures) (c .before .before .before .before .before .before .before .before .before .before .before .before .before .before .before .if1 .left) _ _ (c .before .before .before .before .before .before .before .before .before .before .before .before .before .read .ensures) _ _ (c .before .before .before .before .before .before .before .before .before .read3 .given .1) _ _ (c .before .before .before .run-checked .ensures) _ (c .with-terms .ensures) in
     (e, safe-call _ _ _ _ _ (under-bytes (c .before .before .before .before .before .before .before .before .before .before .before .before .before .before .before .before .before .before .before .before .args .script .now) (c .before .before .before .before .before .before .before .before .before .before .before .before .before .before .before .before .before .before .before .shared-slice-known .given)) _ _ _ e)
 
 pub call-spec : {M : Type 1} → statement M

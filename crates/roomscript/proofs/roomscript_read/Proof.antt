@@ -1,21 +1,21 @@
 -- `roomscript::roomscript_read` meets its contract. Assumes nothing.
 use mathlib.Core.Path.{ap}
 use borrow.Author.Needs.{needs}
-use Rattle.roomscript.specs.Answers.{answerIn, inC}
+use Rattle.roomscript.specs.Answers.{scriptIn, inC}
 use Rattle.roomscript.proofs.roomscript_read.Statement.{statement}
 use Rattle.roomscript.proofs.roomscript_read.Tie as tie
 
 read-requires : tie.Need-read-requires
 read-requires c κs = search needs
 
-c-answer-requires : tie.Need-c-answer-requires
-c-answer-requires c κs = search needs
+c-script-requires : tie.Need-c-script-requires
+c-script-requires c κs = search needs
 
 same-length : tie.Need-same-length
 same-length c = search needs
 
 returns : tie.Need-returns
-returns c = rw (c .c-answer .ensures) (ap (inC answerIn) (c .before .before .before .read .ensures))
+returns c = rw (c .c-script .ensures) (ap (inC scriptIn) (c .before .before .before .read .ensures))
 
 pub roomscript-read-spec : {M : Type 1} → statement M
-roomscript-read-spec = tie.close (tie.spec read-requires c-answer-requires same-length returns)
+roomscript-read-spec = tie.close (tie.spec read-requires c-script-requires same-length returns)

@@ -1,5 +1,5 @@
 -- `machine::plain::run_leaf` meets its contract. Assumes nothing.
-use Rattle.machine.proofs.RowLaws.{reading-leaf, copy-leaf, move-leaf, below-leaf, borrow-leaf, leaf-number, leaf-reading, leaf-copy, leaf-move, leaf-below, leaf-borrow}
+use Rattle.machine.proofs.RowLaws.{reading-leaf, copy-leaf, move-leaf, pair-roots, borrow-leaf, leaf-number, leaf-reading, leaf-copy, leaf-move, leaf-two, leaf-borrow}
 use borrow.Author.Needs.{needs}
 use native.Mathlib.Omega.{arith}
 use mathlib.Core.Path.{sym, _∙_}
@@ -49,7 +49,7 @@ index-of-requires-4 : tie.Need-index-of-requires-4
 index-of-requires-4 c κs = search needs
 
 run-pair-requires : tie.Need-run-pair-requires
-run-pair-requires c κs = ((c .before .before .before .before .before .before .before .before .before .before .before .before .before .pre .tidy), omega (arith, c .before .before .before .before .before .before .before .before .index-of .ensures, c .before .before .before .before .before .before .before .before .before .field-at2 .ensures, below-leaf _ _ _ (c .before .before .before .before .before .before .before .before .before .before .before .before .before .pre .leaf) (sym (c .before .before .before .before .before .before .before .before .before .before .field-at .ensures) ∙ c .before .before .before .before .before .match .keys5) .0), omega (arith, c .before .before .before .index-of3 .ensures, c .before .before .before .before .field-at4 .ensures, below-leaf _ _ _ (c .before .before .before .before .before .before .before .before .before .before .before .before .before .pre .leaf) (sym (c .before .before .before .before .before .before .before .before .before .before .field-at .ensures) ∙ c .before .before .before .before .before .match .keys5) .1))
+run-pair-requires c κs = ((c .before .before .before .before .before .before .before .before .before .before .before .before .before .pre .tidy), omega (arith, c .before .before .before .before .before .before .before .before .index-of .ensures, c .before .before .before .before .before .before .before .before .before .field-at2 .ensures, pair-roots _ _ _ (c .before .before .before .before .before .before .before .before .before .before .before .before .before .pre .leaf) _ (c .before .before .before .before .before .before .before .before .before .before .field-at .ensures) (c .before .before .before .before .before .match .keys5) .0), omega (arith, c .before .before .before .index-of3 .ensures, c .before .before .before .before .field-at4 .ensures, pair-roots _ _ _ (c .before .before .before .before .before .before .before .before .before .before .before .before .before .pre .leaf) _ (c .before .before .before .before .before .before .before .before .before .before .field-at .ensures) (c .before .before .before .before .before .match .keys5) .1))
 
 run-borrow-requires : tie.Need-run-borrow-requires
 run-borrow-requires c κs =
@@ -78,7 +78,7 @@ same-length-3 : tie.Need-same-length-3
 same-length-3 c = search needs
 
 returns-5 : tie.Need-returns-5
-returns-5 c = leaf-below _ _ _ (c .before .before .before .before .before .before .before .before .before .before .before .before .before .before .pre .leaf) _ _ _ _ (c .before .before .before .before .before .before .before .before .before .index-of .ensures ∙ c .before .before .before .before .before .before .before .before .before .before .field-at2 .ensures) (c .before .before .before .before .before .before .before .index-of2 .ensures ∙ c .before .before .before .before .before .before .before .before .field-at3 .ensures) _ (c .before .before .before .before .before .before .before .before .before .before .before .field-at .ensures) (c .before .before .before .before .before .before .match .keys5) (c .before .before .before .before .before .before .before .before .before .before .before .before .before .before .pre .tidy) _ _ (c .before .before .before .before .index-of3 .ensures ∙ c .before .before .before .before .before .field-at4 .ensures) (c .before .before .index-of4 .ensures ∙ c .before .before .before .field-at5 .ensures) _ (c .run-pair .ensures)
+returns-5 c = leaf-two _ _ _ (c .before .before .before .before .before .before .before .before .before .before .before .before .before .before .pre .leaf) _ _ _ _ (c .before .before .before .before .before .before .before .before .before .index-of .ensures ∙ c .before .before .before .before .before .before .before .before .before .before .field-at2 .ensures) (c .before .before .before .before .before .before .before .index-of2 .ensures ∙ c .before .before .before .before .before .before .before .before .field-at3 .ensures) _ (c .before .before .before .before .before .before .before .before .before .before .before .field-at .ensures) (c .before .before .before .before .before .before .match .keys5) (c .before .before .before .before .before .before .before .before .before .before .before .before .before .before .pre .tidy) _ _ (c .before .before .before .before .index-of3 .ensures ∙ c .before .before .before .before .before .field-at4 .ensures) (c .before .before .index-of4 .ensures ∙ c .before .before .before .field-at5 .ensures) _ (c .run-pair .ensures)
 
 same-length-4 : tie.Need-same-length-4
 same-length-4 c = search needs

@@ -1,7 +1,8 @@
 -- `ownership::judge::judge_leaf` meets its contract. Assumes nothing.
 use mathlib.Core.Path.{sym, _∙_}
+use mathlib.Core.Logic.{inl, inr, ⊎-elim}
 use borrow.Author.Needs.{needs}
-use Rattle.reader.specs.Kinds.{kindOf, among, kinds, byteOf}
+use Rattle.reader.specs.Kinds.{newest, kindOf, among, kinds, byteOf}
 use Rattle.ownership.specs.JudgeRows.{judgeLeaf}
 use Rattle.ownership.proofs.LeafLaws.{leaf-number}
 use Rattle.ownership.proofs.judge.judge_leaf.Statement.{statement}
@@ -29,41 +30,42 @@ same-length : tie.Need-same-length
 same-length c = search needs
 
 returns : tie.Need-returns
-unfolding judgeLeaf kindOf among kinds byteOf
+unfolding judgeLeaf newest kindOf among kinds byteOf
 returns c = (rw (c .before .before .match .keys1) (c .judge-copy .ensures), c .before .before .before .before .pre)
 
 same-length-2 : tie.Need-same-length-2
 same-length-2 c = search needs
 
 returns-2 : tie.Need-returns-2
-unfolding judgeLeaf kindOf among kinds byteOf
+unfolding judgeLeaf newest kindOf among kinds byteOf
 returns-2 c = (rw (c .before .before .before .before .match .keys2) (c .before .before .judge-move .ensures .0), c .before .before .judge-move .ensures .1)
 
 same-length-3 : tie.Need-same-length-3
 same-length-3 c = search needs
 
 returns-3 : tie.Need-returns-3
-unfolding judgeLeaf kindOf among kinds byteOf
+unfolding judgeLeaf newest kindOf among kinds byteOf
 returns-3 c = (rw (c .before .before .match .keys3) (c .judge-shared .ensures), c .before .before .before .before .pre)
 
 same-length-4 : tie.Need-same-length-4
 same-length-4 c = search needs
 
 returns-4 : tie.Need-returns-4
-unfolding judgeLeaf kindOf among kinds byteOf
+unfolding judgeLeaf newest kindOf among kinds byteOf
 returns-4 c = (rw (c .before .before .match .keys4) (c .judge-exclusive .ensures), c .before .before .before .before .pre)
 
 same-length-5 : tie.Need-same-length-5
 same-length-5 c = search needs
 
 returns-5 : tie.Need-returns-5
-unfolding judgeLeaf kindOf among kinds byteOf
-returns-5 c = (rw (c .before .before .match .keys5) (c .judge-below .ensures), c .before .before .before .before .pre)
+unfolding judgeLeaf newest kindOf among kinds byteOf
+returns-5 c =
+    ⊎-elim (λ k. (rw k (c .judge-below .ensures), c .before .before .before .before .pre)) (λ k. (rw k (c .judge-below .ensures), c .before .before .before .before .pre)) (c .before .before .match .keys5)
 
 returns-6 : tie.Need-returns-6
 returns-6 c =
     let r = c .before .match .rest in
-    (c .number-value .ensures _ ∙ sym (leaf-number _ _ _ _ _ _ (r .0 .0 .0 .0 .1) (r .0 .0 .0 .1) (r .0 .0 .1) (r .0 .1) (r .1)), c .before .before .before .pre)
+    (c .number-value .ensures _ ∙ sym (leaf-number _ _ _ _ _ _ (r .0 .0 .0 .0 .1) (r .0 .0 .0 .1) (r .0 .0 .1) (r .0 .1) (λ k. r .1 (inl k)) (λ k. r .1 (inr k))), c .before .before .before .pre)
 
 pub judge-leaf-spec : {M : Type 1} → statement M
 judge-leaf-spec =

@@ -1,8 +1,7 @@
--- `reader::opening::opening_number` meets its contract: each test of the code is the test of `openingNumber` in the same place.
--- Assumes nothing.
+-- `reader::opening::opening_number` meets its contract. Assumes nothing.
 use native.Mathlib.Omega.{arith}
-use borrow.Author.Tests.{eq-eqb, ne-eqb, lt-ltb, le-ltb, le-leb, lt-leb}
 use borrow.Author.Needs.{needs}
+use borrow.Author.Tests.{eq-eqb, ne-eqb, le-leb, lt-leb}
 use Rattle.reader.specs.Limits.{unpacked}
 use Rattle.reader.specs.ByteParts.{openingNumber}
 use Rattle.reader.proofs.opening.opening_number.Statement.{statement}
@@ -16,35 +15,34 @@ shared-slice-read-kind : tie.Need-shared-slice-read-kind
 shared-slice-read-kind c = search needs
 
 cast-kind : tie.Need-cast-kind
-cast-kind c = omega (arith, c .shared-slice-known .given 0)
+cast-kind c = omega (arith, c .shared-slice-known2 .given 0)
+
+known-requires : tie.Need-known-requires
+known-requires c κs = search needs
 
 returns-2 : tie.Need-returns-2
 unfolding openingNumber
-returns-2 c = rw (ne-eqb _ _ (c .before .before .if1 .left), eq-eqb _ _ (c .if2 .taken))
+returns-2 c = rw (ne-eqb _ _ (c .before .before .before .if1 .left), ← c .before .known .ensures, c .if2 .taken)
 
 returns-3 : tie.Need-returns-3
 unfolding openingNumber
-returns-3 c = rw (ne-eqb _ _ (c .before .before .before .if1 .left), ne-eqb _ _ (c .before .if2 .left), lt-ltb _ _ (c .if3 .taken))
+returns-3 c = rw (ne-eqb _ _ (c .before .before .before .before .if1 .left), ← c .before .before .known .ensures, c .before .if2 .left, le-leb (unpacked (c .before .before .before .before .before .before .args .sizes) .terms) (c .before .before .before .before .before .before .args .terms) (c .if3 .taken))
 
 returns-4 : tie.Need-returns-4
 unfolding openingNumber
-returns-4 c = rw (ne-eqb _ _ (c .before .before .before .before .if1 .left), ne-eqb _ _ (c .before .before .if2 .left), le-ltb _ _ (c .before .if3 .left), le-leb (unpacked (c .before .before .before .before .before .args .sizes) .terms) (c .before .before .before .before .before .args .terms) (c .if4 .taken))
+returns-4 c = rw (ne-eqb _ _ (c .before .before .before .before .before .if1 .left), ← c .before .before .before .known .ensures, c .before .before .if2 .left, lt-leb (unpacked (c .before .before .before .before .before .before .before .args .sizes) .terms) (c .before .before .before .before .before .before .before .args .terms) (c .before .if3 .left), eq-eqb (c .before .before .before .before .before .before .before .args .levels) 0 (c .if4 .taken))
 
 returns-5 : tie.Need-returns-5
 unfolding openingNumber
-returns-5 c = rw (ne-eqb _ _ (c .before .before .before .before .before .if1 .left), ne-eqb _ _ (c .before .before .before .if2 .left), le-ltb _ _ (c .before .before .if3 .left), lt-leb (unpacked (c .before .before .before .before .before .before .args .sizes) .terms) (c .before .before .before .before .before .before .args .terms) (c .before .if4 .left), eq-eqb (c .before .before .before .before .before .before .args .levels) 0 (c .if5 .taken))
+returns-5 c = rw (ne-eqb _ _ (c .before .before .before .before .before .before .before .if1 .left), ← c .before .before .before .before .before .known .ensures, c .before .before .before .before .if2 .left, lt-leb (unpacked (c .before .before .before .before .before .before .before .before .before .args .sizes) .terms) (c .before .before .before .before .before .before .before .before .before .args .terms) (c .before .before .before .if3 .left), ne-eqb (c .before .before .before .before .before .before .before .before .before .args .levels) 0 (c .before .before .if4 .left), eq-eqb _ _ (c .before .if5 .taken), le-leb _ _ (c .if6 .taken))
 
 returns-6 : tie.Need-returns-6
 unfolding openingNumber
-returns-6 c = rw (ne-eqb _ _ (c .before .before .before .before .before .before .before .if1 .left), ne-eqb _ _ (c .before .before .before .before .before .if2 .left), le-ltb _ _ (c .before .before .before .before .if3 .left), lt-leb (unpacked (c .before .before .before .before .before .before .before .before .args .sizes) .terms) (c .before .before .before .before .before .before .before .before .args .terms) (c .before .before .before .if4 .left), ne-eqb (c .before .before .before .before .before .before .before .before .args .levels) 0 (c .before .before .if5 .left), eq-eqb _ _ (c .before .if6 .taken), le-leb _ _ (c .if7 .taken))
+returns-6 c = rw (ne-eqb _ _ (c .before .before .before .before .before .before .before .if1 .left), ← c .before .before .before .before .before .known .ensures, c .before .before .before .before .if2 .left, lt-leb (unpacked (c .before .before .before .before .before .before .before .before .before .args .sizes) .terms) (c .before .before .before .before .before .before .before .before .before .args .terms) (c .before .before .before .if3 .left), ne-eqb (c .before .before .before .before .before .before .before .before .before .args .levels) 0 (c .before .before .if4 .left), eq-eqb _ _ (c .before .if5 .taken), lt-leb _ _ (c .if6 .left))
 
 returns-7 : tie.Need-returns-7
 unfolding openingNumber
-returns-7 c = rw (ne-eqb _ _ (c .before .before .before .before .before .before .before .if1 .left), ne-eqb _ _ (c .before .before .before .before .before .if2 .left), le-ltb _ _ (c .before .before .before .before .if3 .left), lt-leb (unpacked (c .before .before .before .before .before .before .before .before .args .sizes) .terms) (c .before .before .before .before .before .before .before .before .args .terms) (c .before .before .before .if4 .left), ne-eqb (c .before .before .before .before .before .before .before .before .args .levels) 0 (c .before .before .if5 .left), eq-eqb _ _ (c .before .if6 .taken), lt-leb _ _ (c .if7 .left))
-
-returns-8 : tie.Need-returns-8
-unfolding openingNumber
-returns-8 c = rw (ne-eqb _ _ (c .before .before .before .before .before .before .if1 .left), ne-eqb _ _ (c .before .before .before .before .if2 .left), le-ltb _ _ (c .before .before .before .if3 .left), lt-leb (unpacked (c .before .before .before .before .before .before .before .args .sizes) .terms) (c .before .before .before .before .before .before .before .args .terms) (c .before .before .if4 .left), ne-eqb (c .before .before .before .before .before .before .before .args .levels) 0 (c .before .if5 .left), ne-eqb _ _ (c .if6 .left))
+returns-7 c = rw (ne-eqb _ _ (c .before .before .before .before .before .before .if1 .left), ← c .before .before .before .before .known .ensures, c .before .before .before .if2 .left, lt-leb (unpacked (c .before .before .before .before .before .before .before .before .args .sizes) .terms) (c .before .before .before .before .before .before .before .before .args .terms) (c .before .before .if3 .left), ne-eqb (c .before .before .before .before .before .before .before .before .args .levels) 0 (c .before .if4 .left), ne-eqb _ _ (c .if5 .left))
 
 pub opening-number-spec : {M : Type 1} → statement M
 opening-number-spec =
@@ -53,10 +51,10 @@ opening-number-spec =
     returns
     shared-slice-read-kind
     cast-kind
+    known-requires
     returns-2
     returns-3
     returns-4
     returns-5
     returns-6
-    returns-7
-    returns-8)
+    returns-7)

@@ -1,9 +1,10 @@
 -- `reader::operands::read_operands` meets its contract: each arm reads the operands of its kind. The last has the kinds with one place.
 -- Assumes nothing.
 use mathlib.Core.Path.{refl}
+use mathlib.Core.Logic.{inl, inr}
 use Rattle.reader.specs.Layout.{zeros}
 use Rattle.reader.specs.ByteParts.{judgedFields, valuesAt}
-use Rattle.reader.proofs.KnownKinds.{fields-number, fields-reading, fields-box, fields-let, fields-below, fields-block, fields-place}
+use Rattle.reader.proofs.KnownKinds.{fields-number, fields-reading, fields-box, fields-let, fields-two, fields-block, fields-place}
 use borrow.Author.Needs.{needs}
 use Rattle.reader.proofs.operands.read_operands.Statement.{statement}
 use Rattle.reader.proofs.operands.read_operands.Tie as tie
@@ -58,7 +59,7 @@ same-length-5 : tie.Need-same-length-5
 same-length-5 c = search needs
 
 returns-5 : tie.Need-returns-5
-returns-5 c = rw (c .before .before .before .before .match .keys5, fields-below) (c .before .before .read-two-places .ensures)
+returns-5 c = rw (fields-two _ _ (c .before .before .before .before .match .keys5)) (c .before .before .read-two-places .ensures)
 
 same-length-6 : tie.Need-same-length-6
 same-length-6 c = search needs
@@ -72,7 +73,7 @@ same-length-7 c = search needs
 returns-7 : tie.Need-returns-7
 returns-7 c =
     let r = c .before .before .before .before .match .rest in
-    rw (fields-place _ (r .0 .0 .0 .0 .0 .1) (r .0 .0 .0 .0 .1) (r .0 .0 .0 .1) (r .0 .0 .1) (r .0 .1) (r .1) _ (c .before .before .before .before .before .before .before .pre .2)) (c .before .before .read-place .ensures)
+    rw (fields-place _ (r .0 .0 .0 .0 .0 .1) (r .0 .0 .0 .0 .1) (r .0 .0 .0 .1) (r .0 .0 .1) (λ e. r .0 .1 (inl e)) (r .1) (λ e. r .0 .1 (inr e)) _ (c .before .before .before .before .before .before .before .pre .2)) (c .before .before .read-place .ensures)
 
 cast-variables : tie.Need-cast-variables
 cast-variables c = search needs

@@ -10,10 +10,10 @@ use Rattle.reader.proofs.output.put_script.Statement.{statement}
 use Rattle.reader.proofs.output.put_script.Tie as tie
 
 abbrev Inv-loop : tie.InvT-loop
-Inv-loop rows terms output₀ at₀ i₀ left₀ output at i left = (i + left ≡ terms) × (at ≡ 5 + length (flat i rows)) × (output ≡ sets output₀ 5 (flat i rows))
+Inv-loop version rows terms output₀ at₀ i₀ left₀ output at i left = (i + left ≡ terms) × (at ≡ 5 + length (flat i rows)) × (output ≡ sets output₀ 5 (flat i rows))
 
 abbrev μ-loop : tie.MeasureT-loop
-μ-loop rows terms output₀ at₀ i₀ left₀ output at i left = left
+μ-loop version rows terms output₀ at₀ i₀ left₀ output at i left = left
 
 put-five-requires : tie.Need-put-five-requires Inv-loop μ-loop
 put-five-requires c κs = omega arith
@@ -48,7 +48,7 @@ same-length c = rows-kept _ _ _ _ (c .before .loop .inv .2) ∙ c .before .befor
 returns : tie.Need-returns Inv-loop μ-loop
 returns c =
     let loop = c .before .loop in
-    all-put _ _ _ (omega arith) (omega arith) (c .before .before .before .before .before .before .before .before .args .output .now) _ _ (c .before .before .before .before .put-five .ensures .1) (loop .inv .2)
+    all-put _ _ _ (omega arith) (omega arith) _ (c .before .before .before .before .before .before .before .before .args .output .now) _ _ (c .before .before .before .before .put-five .ensures .1) (loop .inv .2)
 
 pub put-script-spec : {M : Type 1} → statement M
 put-script-spec =

@@ -44,7 +44,7 @@ loop-again c =
     (omega arith, omega (arith, kind-counted (c .before .before .before .before .before .args .rows .now) (c .before .before .before .loop .i) (c .row-length .result) (c .row-length .ensures .0)), omega arith)
 
 returns : tie.Need-returns Inv-loop μ-loop
-returns c = all-counted _ _ _ (c .before .loop .inv .0) (c .loop-test .left) _ (c .before .loop .inv .1)
+returns c = λ v. all-counted _ _ _ (c .before .loop .inv .0) (c .loop-test .left) _ v (c .before .loop .inv .1)
 
 pub script-bytes-spec : {M : Type 1} → statement M
 script-bytes-spec =

@@ -48,7 +48,7 @@ use denote.Triple.Walked.{says, needs, Stays, stay-none, gave-slice, walkOf, goe
 use denote.Exit.{yes}
 use denote.Triple.Clauses.{ensured, lasts}
 use Rattle.reader.specs.ByteParts.{found}
-use Rattle.reader.specs.Limits.{unpacked}
+use Rattle.reader.specs.Limits.{unpacked, versionOf}
 use Rattle.reader.specs.Lent.{Inside, RowsFor, OutermostRead}
 use Rattle.reader.specs.declared.reader.Reader.{Reader}
 use Rattle.reader.proofs.reader.Reader as T
@@ -126,7 +126,7 @@ module _ {M : Type 1} (𝓤 : URA M) (H : Heap 𝓤) (A : Atoms 𝓤) (W : Given
 
   -- what is said of the rows' last list and of the answer
   abbrev Said : List ℕ → ℕ → Type 0
-  Said zs r = OutermostRead (unpacked z) (found n) (now (d .script)) (d .at) ys zs (found r)
+  Said zs r = OutermostRead (unpacked z) (versionOf z) (found n) (now (d .script)) (d .at) ys zs (found r)
 
   -- what the callee is passed
   abbrev Sent : Type 0

@@ -4,13 +4,15 @@
 use Prim.Native.Nat.{ℕ, _<_, _≤_, _+_, _*_}
 use native.Mathlib.Omega.{arith}
 use mathlib.Core.Path.{_≡_, refl, sym, _∙_}
+use mathlib.Core.Logic.{inl, inr, ⊎-elim}
 use mathlib.Core.Bool.{false}
 use borrow.Author.Needs.{needs}
-use Rattle.reader.specs.Limits.{rowNumbers, unpacked}
+use borrow.Author.Tests.{eqb-true, eqb-false}
+use Rattle.reader.specs.Limits.{rowNumbers, unpacked, versionOf}
 use Rattle.reader.specs.RowParts.{RowsReady, termRows, spanOf}
 use Rattle.reader.proofs.Ranges.{ranged}
 use Rattle.reader.proofs.PackedLaws.{spanned-refused, spanned-fine, refused-spanned, counted-spanned}
-use Rattle.reader.proofs.RowSpans.{refused-span, entered, boxed-few, leaf-spans, around-spans, block-spans, block-count, Words, restSpan, all-span, none-span, stop-span, rest-few, rest-span}
+use Rattle.reader.proofs.RowSpans.{refused-span, entered, boxed-few, leaf-spans, pair-spans, around-spans, block-spans, block-count, Words, restSpan, all-span, none-span, stop-span, rest-few, rest-span}
 use borrow.Fn.Kinds.{In}
 use borrow.Fn.PlainCycle.{Measures, is, falls, and}
 use Rattle.reader.proofs.rows.judge_block.Reads as judge-block
@@ -51,14 +53,14 @@ judge-term-below t =
 
 abbrev judge-block-Inv-loop : judge-block-lts.InvT-loop
 judge-block-Inv-loop sizes rows i count levels boxes next₀ boxed₀ left₀ next boxed left =
-    RowsReady (unpacked sizes) rows next boxed × (restSpan (unpacked sizes) levels rows left next boxed ≡ restSpan (unpacked sizes) levels rows count i boxes)
+    RowsReady (unpacked sizes) rows next boxed × (restSpan (unpacked sizes) (versionOf sizes) levels rows left next boxed ≡ restSpan (unpacked sizes) (versionOf sizes) levels rows count i boxes)
 
 abbrev judge-block-μ-loop : judge-block-lts.MeasureT-loop
 judge-block-μ-loop sizes rows i count levels boxes next₀ boxed₀ left₀ next boxed left = left
 
 abbrev judge-term-Inv-loop : judge-term-lts.InvT-loop
 judge-term-Inv-loop sizes rows i levels boxes at₀ left₀ boxed₀ row left boxed =
-    RowsReady (unpacked sizes) rows row boxed × (left ≤ levels) × (spanOf (termRows (unpacked sizes) left false rows row boxed) ≡ spanOf (termRows (unpacked sizes) levels false rows i boxes))
+    RowsReady (unpacked sizes) rows row boxed × (left ≤ levels) × (spanOf (termRows (unpacked sizes) (versionOf sizes) left false rows row boxed) ≡ spanOf (termRows (unpacked sizes) (versionOf sizes) levels false rows i boxes))
 
 abbrev judge-term-μ-loop : judge-term-lts.MeasureT-loop
 judge-term-μ-loop sizes rows i levels boxes at₀ left₀ boxed₀ row left boxed = left
@@ -78,7 +80,7 @@ judge-block-judge-term-requires t c κs = (omega (arith, c .before .before .befo
 judge-block-returns : (t : ℕ) → judge-block-lts.Need-returns (judge-block-claims t) (judge-block-at t) judge-block.Post judge-block-Inv-loop judge-block-μ-loop
 judge-block-returns t c =
     let q = spanned-refused _ (c .if1 .taken) in
-    q ∙ stop-span _ _ _ _ _ _ (c .before .before .loop-test .taken) _ _ (sym q ∙ c .before .judge-term .ensures) ∙ c .before .before .before .loop .inv .1 ∙ all-span _ _ _ _ _ _ (c .before .before .before .before .before .pre .1 .1)
+    q ∙ stop-span _ _ _ _ _ _ _ (c .before .before .loop-test .taken) _ _ (sym q ∙ c .before .judge-term .ensures) ∙ c .before .before .before .loop .inv .1 ∙ all-span _ _ _ _ _ _ _ (c .before .before .before .before .before .pre .1 .1)
 
 judge-block-sub-left : (t : ℕ) → judge-block-lts.Need-sub-left (judge-block-claims t) (judge-block-at t) judge-block.Post judge-block-Inv-loop judge-block-μ-loop
 judge-block-sub-left t c = omega arith
@@ -92,8 +94,8 @@ judge-block-loop-again t c =
     let l = c .before .before .before .loop in
     let words : Words (s .args .rows .now) = λ k. omega (arith, c .before .before .before .before .shared-slice-known .given k) in
     let q = sym (spanned-fine _ (c .if1 .left)) ∙ c .before .judge-term .ensures in
-    let few = rest-few _ (s .args .levels) _ (l .next) (l .boxed) words _ _ q in
-    (record { ranges = l .inv .0 .ranges; full = l .inv .0 .full; near = omega arith; few = few }, rest-span _ _ _ _ _ words _ _ q _ (c .before .before .loop-test .taken) ∙ l .inv .1)
+    let few = rest-few _ _ (s .args .levels) _ (l .next) (l .boxed) words _ _ q in
+    (record { ranges = l .inv .0 .ranges; full = l .inv .0 .full; near = omega arith; few = few }, rest-span _ _ _ _ _ _ words _ _ q _ (c .before .before .loop-test .taken) ∙ l .inv .1)
 
 judge-block-counted-requires : (t : ℕ) → judge-block-lts.Need-counted-requires (judge-block-claims t) (judge-block-at t) judge-block.Post judge-block-Inv-loop judge-block-μ-loop
 judge-block-counted-requires t c κs = (c .before .loop .inv .0 .near, omega (arith, c .before .loop .inv .0 .few, ranged _ (c .before .loop .inv .0 .ranges) .boxes))
@@ -101,7 +103,7 @@ judge-block-counted-requires t c κs = (c .before .loop .inv .0 .near, omega (ar
 judge-block-returns-2 : (t : ℕ) → judge-block-lts.Need-returns-2 (judge-block-claims t) (judge-block-at t) judge-block.Post judge-block-Inv-loop judge-block-μ-loop
 judge-block-returns-2 t c =
     let l = c .before .before .loop in
-    counted-spanned _ _ _ (l .inv .0 .near) (omega (arith, l .inv .0 .few, ranged _ (l .inv .0 .ranges) .boxes)) (c .counted .ensures) ∙ none-span _ _ _ _ _ _ (c .before .loop-test .left) ∙ l .inv .1 ∙ all-span _ _ _ _ _ _ (c .before .before .before .before .pre .1 .1)
+    counted-spanned _ _ _ (l .inv .0 .near) (omega (arith, l .inv .0 .few, ranged _ (l .inv .0 .ranges) .boxes)) (c .counted .ensures) ∙ none-span _ _ _ _ _ _ _ (c .before .loop-test .left) ∙ l .inv .1 ∙ all-span _ _ _ _ _ _ _ (c .before .before .before .before .pre .1 .1)
 
 judge-term-loop-holds : (t : ℕ) → judge-term-lts.Need-loop-holds (judge-term-claims t) (judge-term-at t) judge-term.Post judge-term-Inv-loop judge-term-μ-loop
 judge-term-loop-holds t c = (c .before .pre .1, omega arith, refl)
@@ -116,90 +118,90 @@ judge-term-returns : (t : ℕ) → judge-term-lts.Need-returns (judge-term-claim
 judge-term-returns t c =
     let l = c .before .before .before .loop in
     let n = c .before .before .row-number in
-    refused-spanned _ (n .result) (l .at) (omega (arith, l .inv .0 .near)) (c .refused .ensures) ∙ refused-span _ _ _ _ _ _ (l .inv .0) _ (n .ensures) (c .before .if1 .taken) ∙ l .inv .2
+    refused-spanned _ (n .result) (l .at) (omega (arith, l .inv .0 .near)) (c .refused .ensures) ∙ refused-span _ _ _ _ _ _ _ (l .inv .0) _ (n .ensures) (c .before .if1 .taken) ∙ l .inv .2
 
 judge-term-field-at-requires : (t : ℕ) → judge-term-lts.Need-field-at-requires (judge-term-claims t) (judge-term-at t) judge-term.Post judge-term-Inv-loop judge-term-μ-loop
 unfolding rowNumbers
 judge-term-field-at-requires t c κs =
     let l = c .before .before .loop in
-    (omega (arith, l .inv .0 .full, entered _ _ _ _ _ _ (l .inv .0) _ (c .before .row-number .ensures) (c .if1 .left) .room), omega arith)
+    (omega (arith, l .inv .0 .full, entered _ _ _ _ _ _ _ (l .inv .0) _ (c .before .row-number .ensures) (c .if1 .left) .room), omega arith)
 
 judge-term-add-next : (t : ℕ) → judge-term-lts.Need-add-next (judge-term-claims t) (judge-term-at t) judge-term.Post judge-term-Inv-loop judge-term-μ-loop
 judge-term-add-next t c =
     let l = c .before .before .before .loop in
-    let e = entered _ _ _ _ _ _ (l .inv .0) _ (c .before .before .row-number .ensures) (c .before .if1 .left) in
+    let e = entered _ _ _ _ _ _ _ (l .inv .0) _ (c .before .before .row-number .ensures) (c .before .if1 .left) in
     omega (arith, e .room, ranged _ (l .inv .0 .ranges) .terms)
 
 judge-term-counted-requires : (t : ℕ) → judge-term-lts.Need-counted-requires (judge-term-claims t) (judge-term-at t) judge-term.Post judge-term-Inv-loop judge-term-μ-loop
 judge-term-counted-requires t c κs =
     let l = c .before .before .before .before .loop in
-    let e = entered _ _ _ _ _ _ (l .inv .0) _ (c .before .before .before .row-number .ensures) (c .before .before .if1 .left) in
+    let e = entered _ _ _ _ _ _ _ (l .inv .0) _ (c .before .before .before .row-number .ensures) (c .before .before .if1 .left) in
     (omega (arith, e .room, ranged _ (l .inv .0 .ranges) .terms), omega (arith, l .inv .0 .few, ranged _ (l .inv .0 .ranges) .boxes))
 
 judge-term-returns-2 : (t : ℕ) → judge-term-lts.Need-returns-2 (judge-term-claims t) (judge-term-at t) judge-term.Post judge-term-Inv-loop judge-term-μ-loop
 judge-term-returns-2 t c =
     let l = c .before .before .before .before .before .loop in
-    let e = entered _ _ _ _ _ _ (l .inv .0) _ (c .before .before .before .before .row-number .ensures) (c .before .before .before .if1 .left) in
-    counted-spanned _ _ _ (omega (arith, e .room, ranged _ (l .inv .0 .ranges) .terms)) (omega (arith, l .inv .0 .few, ranged _ (l .inv .0 .ranges) .boxes)) (c .counted .ensures) ∙ leaf-spans _ _ _ _ _ _ e (c .before .before .field-at .result) (c .before .before .field-at .ensures) (λ z. omega arith) (λ z. omega arith) (λ z. omega arith) (λ z. omega arith) ∙ l .inv .2
+    let e = entered _ _ _ _ _ _ _ (l .inv .0) _ (c .before .before .before .before .row-number .ensures) (c .before .before .before .if1 .left) in
+    counted-spanned _ _ _ (omega (arith, e .room, ranged _ (l .inv .0 .ranges) .terms)) (omega (arith, l .inv .0 .few, ranged _ (l .inv .0 .ranges) .boxes)) (c .counted .ensures) ∙ leaf-spans _ _ _ _ _ _ _ e (c .before .before .field-at .result) (c .before .before .field-at .ensures) (λ z. omega arith) (λ z. omega arith) (λ z. omega arith) (λ z. omega arith) ∙ l .inv .2
 
 judge-term-counted-requires-2 : (t : ℕ) → judge-term-lts.Need-counted-requires-2 (judge-term-claims t) (judge-term-at t) judge-term.Post judge-term-Inv-loop judge-term-μ-loop
 judge-term-counted-requires-2 t c κs =
     let l = c .before .before .before .before .before .loop in
-    let e = entered _ _ _ _ _ _ (l .inv .0) _ (c .before .before .before .before .row-number .ensures) (c .before .before .before .if1 .left) in
+    let e = entered _ _ _ _ _ _ _ (l .inv .0) _ (c .before .before .before .before .row-number .ensures) (c .before .before .before .if1 .left) in
     (omega (arith, e .room, ranged _ (l .inv .0 .ranges) .terms), omega (arith, l .inv .0 .few, ranged _ (l .inv .0 .ranges) .boxes))
 
 judge-term-returns-3 : (t : ℕ) → judge-term-lts.Need-returns-3 (judge-term-claims t) (judge-term-at t) judge-term.Post judge-term-Inv-loop judge-term-μ-loop
 judge-term-returns-3 t c =
     let l = c .before .before .before .before .before .before .loop in
-    let e = entered _ _ _ _ _ _ (l .inv .0) _ (c .before .before .before .before .before .row-number .ensures) (c .before .before .before .before .if1 .left) in
-    counted-spanned _ _ _ (omega (arith, e .room, ranged _ (l .inv .0 .ranges) .terms)) (omega (arith, l .inv .0 .few, ranged _ (l .inv .0 .ranges) .boxes)) (c .counted2 .ensures) ∙ leaf-spans _ _ _ _ _ _ e (c .before .before .before .field-at .result) (c .before .before .before .field-at .ensures) (λ z. omega arith) (λ z. omega arith) (λ z. omega arith) (λ z. omega arith) ∙ l .inv .2
+    let e = entered _ _ _ _ _ _ _ (l .inv .0) _ (c .before .before .before .before .before .row-number .ensures) (c .before .before .before .before .if1 .left) in
+    counted-spanned _ _ _ (omega (arith, e .room, ranged _ (l .inv .0 .ranges) .terms)) (omega (arith, l .inv .0 .few, ranged _ (l .inv .0 .ranges) .boxes)) (c .counted2 .ensures) ∙ pair-spans _ _ _ _ _ _ _ e (c .before .before .before .field-at .result) (c .before .before .before .field-at .ensures) (⊎-elim (λ w. inl (w .taken)) (λ w. inr (eqb-true _ 13 (w .1 .taken))) (c .before .if3 .came)) ∙ l .inv .2
 
 judge-term-sub-left : (t : ℕ) → judge-term-lts.Need-sub-left (judge-term-claims t) (judge-term-at t) judge-term.Post judge-term-Inv-loop judge-term-μ-loop
 judge-term-sub-left t c =
-    let l = c .before .before .before .before .before .loop in
-    let e = entered _ _ _ _ _ _ (l .inv .0) _ (c .before .before .before .before .row-number .ensures) (c .before .before .before .if1 .left) in
+    let l = c .before .before .before .before .before .before .loop in
+    let e = entered _ _ _ _ _ _ _ (l .inv .0) _ (c .before .before .before .before .before .row-number .ensures) (c .before .before .before .before .if1 .left) in
     omega (arith, e .deep)
 
 judge-term-field-at-requires-2 : (t : ℕ) → judge-term-lts.Need-field-at-requires-2 (judge-term-claims t) (judge-term-at t) judge-term.Post judge-term-Inv-loop judge-term-μ-loop
 unfolding rowNumbers
 judge-term-field-at-requires-2 t c κs =
-    let l = c .before .before .before .before .before .before .loop in
-    (omega (arith, l .inv .0 .full, entered _ _ _ _ _ _ (l .inv .0) _ (c .before .before .before .before .before .row-number .ensures) (c .before .before .before .before .if1 .left) .room), omega arith)
+    let l = c .before .before .before .before .before .before .before .loop in
+    (omega (arith, l .inv .0 .full, entered _ _ _ _ _ _ _ (l .inv .0) _ (c .before .before .before .before .before .before .row-number .ensures) (c .before .before .before .before .before .if1 .left) .room), omega arith)
 
 judge-term-cast-count : (t : ℕ) → judge-term-lts.Need-cast-count (judge-term-claims t) (judge-term-at t) judge-term.Post judge-term-Inv-loop judge-term-μ-loop
 judge-term-cast-count t c = search needs
 
 judge-term-judge-block-requires : (t : ℕ) → judge-term-lts.Need-judge-block-requires (judge-term-claims t) (judge-term-at t) judge-term.Post judge-term-Inv-loop judge-term-μ-loop
 judge-term-judge-block-requires t c κs =
-    let l = c .before .before .before .before .before .before .before .loop in
-    let e = entered _ _ _ _ _ _ (l .inv .0) _ (c .before .before .before .before .before .before .row-number .ensures) (c .before .before .before .before .before .if1 .left) in
-    (omega (arith, c .before .before .before .before .before .before .before .before .before .pre .0, l .inv .1, e .deep), (record { ranges = l .inv .0 .ranges; full = l .inv .0 .full; near = omega (arith, e .room, ranged _ (l .inv .0 .ranges) .terms); few = l .inv .0 .few }, block-count _ _ _ _ _ _ e _ (c .before .before .before .before .field-at .ensures) (c .before .if4 .taken) _ (c .field-at2 .ensures)))
+    let l = c .before .before .before .before .before .before .before .before .loop in
+    let e = entered _ _ _ _ _ _ _ (l .inv .0) _ (c .before .before .before .before .before .before .before .row-number .ensures) (c .before .before .before .before .before .before .if1 .left) in
+    (omega (arith, c .before .before .before .before .before .before .before .before .before .before .pre .0, l .inv .1, e .deep), (record { ranges = l .inv .0 .ranges; full = l .inv .0 .full; near = omega (arith, e .room, ranged _ (l .inv .0 .ranges) .terms); few = l .inv .0 .few }, block-count _ _ _ _ _ _ _ e _ (c .before .before .before .before .before .field-at .ensures) (c .before .if5 .taken) _ (c .field-at2 .ensures)))
 
 judge-term-returns-4 : (t : ℕ) → judge-term-lts.Need-returns-4 (judge-term-claims t) (judge-term-at t) judge-term.Post judge-term-Inv-loop judge-term-μ-loop
 judge-term-returns-4 t c =
-    let l = c .before .before .before .before .before .before .before .before .loop in
-    let e = entered _ _ _ _ _ _ (l .inv .0) _ (c .before .before .before .before .before .before .before .row-number .ensures) (c .before .before .before .before .before .before .if1 .left) in
-    block-spans _ _ _ _ _ _ e _ (c .before .before .before .before .before .field-at .ensures) (c .before .before .if4 .taken) _ (c .before .field-at2 .ensures) _ (c .judge-block .ensures) ∙ l .inv .2
+    let l = c .before .before .before .before .before .before .before .before .before .loop in
+    let e = entered _ _ _ _ _ _ _ (l .inv .0) _ (c .before .before .before .before .before .before .before .before .row-number .ensures) (c .before .before .before .before .before .before .before .if1 .left) in
+    block-spans _ _ _ _ _ _ _ e _ (c .before .before .before .before .before .before .field-at .ensures) (c .before .before .if5 .taken) _ (c .before .field-at2 .ensures) _ (c .judge-block .ensures) ∙ l .inv .2
 
 judge-term-boxes-with-requires : (t : ℕ) → judge-term-lts.Need-boxes-with-requires (judge-term-claims t) (judge-term-at t) judge-term.Post judge-term-Inv-loop judge-term-μ-loop
 judge-term-boxes-with-requires t c κs =
-    let l = c .before .before .before .before .before .before .loop in
+    let l = c .before .before .before .before .before .before .before .loop in
     omega (arith, l .inv .0 .few, ranged _ (l .inv .0 .ranges) .boxes)
 
 judge-term-loop-less : (t : ℕ) → judge-term-lts.Need-loop-less (judge-term-claims t) (judge-term-at t) judge-term.Post judge-term-Inv-loop judge-term-μ-loop
 judge-term-loop-less t c =
-    let l = c .before .before .before .before .before .before .before .loop in
-    let e = entered _ _ _ _ _ _ (l .inv .0) _ (c .before .before .before .before .before .before .row-number .ensures) (c .before .before .before .before .before .if1 .left) in
+    let l = c .before .before .before .before .before .before .before .before .loop in
+    let e = entered _ _ _ _ _ _ _ (l .inv .0) _ (c .before .before .before .before .before .before .before .row-number .ensures) (c .before .before .before .before .before .before .if1 .left) in
     omega (arith, e .deep)
 
 judge-term-loop-again : (t : ℕ) → judge-term-lts.Need-loop-again (judge-term-claims t) (judge-term-at t) judge-term.Post judge-term-Inv-loop judge-term-μ-loop
 judge-term-loop-again t c =
-    let l = c .before .before .before .before .before .before .before .loop in
-    let e = entered _ _ _ _ _ _ (l .inv .0) _ (c .before .before .before .before .before .before .row-number .ensures) (c .before .before .before .before .before .if1 .left) in
-    let k = c .before .before .before .before .field-at in (
-      record { ranges = l .inv .0 .ranges; full = l .inv .0 .full; near = omega (arith, e .room, ranged _ (l .inv .0 .ranges) .terms); few = boxed-few _ _ _ _ _ _ e _ (k .ensures) _ (c .boxes-with .ensures) },
+    let l = c .before .before .before .before .before .before .before .before .loop in
+    let e = entered _ _ _ _ _ _ _ (l .inv .0) _ (c .before .before .before .before .before .before .before .row-number .ensures) (c .before .before .before .before .before .before .if1 .left) in
+    let k = c .before .before .before .before .before .field-at in (
+      record { ranges = l .inv .0 .ranges; full = l .inv .0 .full; near = omega (arith, e .room, ranged _ (l .inv .0 .ranges) .terms); few = boxed-few _ _ _ _ _ _ _ e _ (k .ensures) _ (c .boxes-with .ensures) },
       omega (arith, l .inv .1),
-      around-spans _ _ _ _ _ _ e _ (k .ensures) (c .before .before .before .if2 .left) (c .before .before .if3 .left) (c .before .if4 .left) _ (c .boxes-with .ensures) _ refl ∙ l .inv .2,
+      around-spans _ _ _ _ _ _ _ e _ (k .ensures) (c .before .before .before .before .if2 .left) (c .before .before .before .if3 .left) (c .before .if5 .left) (eqb-false _ 13 (c .before .before .if4 .left)) _ (c .boxes-with .ensures) _ refl ∙ l .inv .2,
     )
 
 pub +judge-block+judge-term-spec : {M : Type 1} → statement M

@@ -1,11 +1,12 @@
 -- `reader::rows::fields_fit` meets its contract: each arm tests the operands of its kinds, and the last arm those of the kinds with one place. Assumes nothing.
 use mathlib.Core.Path.{sym, _∙_}
+use mathlib.Core.Logic.{inl, inr}
 use mathlib.Core.List.{[], _∷_}
 use borrow.Author.Needs.{needs}
-use Rattle.reader.specs.Kinds.{byteOf, fields, kNumber, kReading, kBox, kLet, kBelow, kBlock}
+use Rattle.reader.specs.Kinds.{byteOf, fields, kNumber, kReading, kBox, kLet, kBlock}
 use Rattle.reader.specs.Parts.{placeFields}
 use Rattle.reader.specs.RowParts.{fieldFits, fieldsFit}
-use Rattle.reader.proofs.KnownKinds.{fields-place}
+use Rattle.reader.proofs.KnownKinds.{fields-two, fields-place}
 use Rattle.reader.proofs.RowFields.{place-then, place-else, fields-by}
 use Rattle.reader.proofs.rows.fields_fit.Statement.{statement}
 use Rattle.reader.proofs.rows.fields_fit.Tie as tie
@@ -55,11 +56,11 @@ returns-4 c = rw (fields-by _ kLet _ (c .before .match .keys4)) (c .one-fits2 .e
 
 returns-5 : tie.Need-returns-5
 unfolding byteOf fields
-returns-5 c = rw (fields-by _ kBelow _ (c .before .before .before .match .keys5)) (c .place-fits2 .ensures ∙ sym (place-then _ _ _ (placeFields _) _ (sym (c .before .before .place-fits .ensures) ∙ c .before .if1 .taken)))
+returns-5 c = rw (fields-two _ _ (c .before .before .before .match .keys5)) (c .place-fits2 .ensures ∙ sym (place-then _ _ _ (placeFields _) _ (sym (c .before .before .place-fits .ensures) ∙ c .before .if1 .taken)))
 
 returns-6 : tie.Need-returns-6
 unfolding byteOf fields
-returns-6 c = rw (fields-by _ kBelow _ (c .before .before .match .keys5)) (c .if1 .left ∙ sym (place-else _ _ _ (placeFields _) _ (sym (c .before .place-fits .ensures) ∙ c .if1 .left)))
+returns-6 c = rw (fields-two _ _ (c .before .before .match .keys5)) (c .if1 .left ∙ sym (place-else _ _ _ (placeFields _) _ (sym (c .before .place-fits .ensures) ∙ c .if1 .left)))
 
 returns-7 : tie.Need-returns-7
 unfolding byteOf fields fieldsFit fieldFits
@@ -71,14 +72,14 @@ returns-8 c =
     let m = c .before .before .before in
     let s = m .before in
     let n = m .match .rest in
-    rw (fields-place _ (n .0 .0 .0 .0 .0 .1) (n .0 .0 .0 .0 .1) (n .0 .0 .0 .1) (n .0 .0 .1) (n .0 .1) (n .1) _ (s .pre))
+    rw (fields-place _ (n .0 .0 .0 .0 .0 .1) (n .0 .0 .0 .0 .1) (n .0 .0 .0 .1) (n .0 .0 .1) (λ e. n .0 .1 (inl e)) (n .1) (λ e. n .0 .1 (inr e)) _ (s .pre))
     (c .all-zero3 .ensures ∙ sym (place-then _ _ _ [] (s .args .c ∷ s .args .d ∷ []) (sym (c .before .before .place-fits3 .ensures) ∙ c .before .if2 .taken)))
 
 returns-9 : tie.Need-returns-9
 returns-9 c =
     let m = c .before .before in
     let n = m .match .rest in
-    rw (fields-place _ (n .0 .0 .0 .0 .0 .1) (n .0 .0 .0 .0 .1) (n .0 .0 .0 .1) (n .0 .0 .1) (n .0 .1) (n .1) _ (m .before .pre))
+    rw (fields-place _ (n .0 .0 .0 .0 .0 .1) (n .0 .0 .0 .0 .1) (n .0 .0 .0 .1) (n .0 .0 .1) (λ e. n .0 .1 (inl e)) (n .1) (λ e. n .0 .1 (inr e)) _ (m .before .pre))
     (c .if2 .left ∙ sym (place-else _ _ _ [] _ (sym (c .before .place-fits3 .ensures) ∙ c .if2 .left)))
 
 cast-variables : tie.Need-cast-variables

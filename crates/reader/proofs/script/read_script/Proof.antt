@@ -46,9 +46,8 @@ use denote.Triple.Table.{entered, cited}
 use denote.Triple.Walked.{says, needs, Stays, stay-none, stay-none-slice, gave-slice, walkOf, goes-none, goes-none-slice, goes-gave-slice, Walks, ends-at, walked, walk-meets}
 use denote.Exit.{yes}
 use denote.Triple.Clauses.{ensured, lasts}
-use Rattle.reader.specs.Limits.{unpacked}
-use Rattle.reader.specs.Layout.{lay, inRows}
-use Rattle.reader.specs.ByteParts.{found, Reading, readScript}
+use Rattle.reader.specs.Limits.{unpacked, versionOf}
+use Rattle.reader.specs.ByteParts.{found, ScriptRead}
 use Rattle.reader.specs.Lent.{begun, advanced, RowsFor, LeadRead, OutermostRead, endJudged}
 use Rattle.reader.specs.declared.reader.Reader.{Reader}
 use Rattle.reader.proofs.WholeLaws.{lead-inside, whole-read}
@@ -192,10 +191,10 @@ module _ {M : Type 1} (𝓤 : URA M) (H : Heap 𝓤) (A : Atoms 𝓤) (W : Given
   Rest = ‵ Own ⊛ ‵ OwnRows ⊛ ‵ (flft κ′ q′) ⊛ ‵ ftrue
 
   abbrev SaidRows : ℕ → List ℕ → ℕ → Type 0
-  SaidRows n zs g = OutermostRead (unpacked z) (found n) (now s) (h₁ n .at) ys zs (found g)
+  SaidRows n zs g = OutermostRead (unpacked z) (versionOf z) (found n) (now s) (h₁ n .at) ys zs (found g)
 
   abbrev Said : List ℕ → ℕ → Type 0
-  Said zs r = Reading (lay inRows) (readScript (unpacked z) (now s)) 0 ys zs (found r)
+  Said zs r = ScriptRead (unpacked z) (versionOf z) (now s) ys zs (found r)
 
   typed : (h : Reader) (w : Val) → Is (T.the-row α) h (w ∷ []) → Holds (hasTy (T′.mir erased) w) × WT w
   typed h w is = LL.lawful (T.the-type αᵉ) (T′.the-laws αᵉ) 𝓤 H A W .typed h _ is .0
@@ -318,7 +317,7 @@ module _ {M : Type 1} (𝓤 : URA M) (H : Heap 𝓤) (A : Atoms 𝓤) (W : Given
         peeks ! usize (Is usize) (shows 𝓤 H A usize) r (w ∷ []) (λ is. land ! (from ! (stop !)) (init ! 36 refl (uint-lawful 𝓤 H A W w64 .typed r _ is .0)) $
         returns ! (look ! 36 refl) $ forget ! 6 refl $ forget ! 8 refl $ forget ! 10 refl $ forget ! 12 refl $ forget ! 14 refl $ forget ! 16 refl $ forget ! 18 refl $ forget ! 20 refl $ forget ! 22 refl $ forget ! 24 refl $ forget ! 26 refl $ forget ! 28 refl $ forget ! 30 refl $ forget ! 32 refl $ forget ! 34 refl $ forget ! 36 refl $
         move ! (36 ∷ 37 ∷ []) $ free1 ! $ move ! (34 ∷ 35 ∷ []) $ free1 ! $ move ! (32 ∷ 33 ∷ []) $ free1 ! $ move ! (30 ∷ 31 ∷ []) $ free1 ! $ move ! (28 ∷ 29 ∷ []) $ free1 ! $ move ! (26 ∷ 27 ∷ []) $ free1 ! $ move ! (24 ∷ 25 ∷ []) $ free1 ! $ move ! (22 ∷ 23 ∷ []) $ free1 ! $ move ! (20 ∷ 21 ∷ []) $ free1 ! $ move ! (18 ∷ 19 ∷ []) $ free1 ! $ move ! (16 ∷ 17 ∷ []) $ free1 ! $ move ! (14 ∷ 15 ∷ []) $ free1 ! $ move ! (12 ∷ 13 ∷ []) $ free1 ! $ move ! (10 ∷ 11 ∷ []) $ free1 ! $ move ! (8 ∷ 9 ∷ []) $ free1 ! $ move ! (6 ∷ 7 ∷ []) $ free1 ! $ free0 ! $
-        keep ! (1 ∷ 2 ∷ 3 ∷ 0 ∷ 5 ∷ []) $ by ! (exits r w (zs .1 .1 .1 .0) (whole-read (unpacked z) (now s) (e₁ .1) ys (zs .1 .1 .1 .0) (found n) (found g) (found r) (e₁ .0) e₃ e₅) l)))))))))))))))))))))))))))))))))))))))))))
+        keep ! (1 ∷ 2 ∷ 3 ∷ 0 ∷ 5 ∷ []) $ by ! (exits r w (zs .1 .1 .1 .0) (whole-read (unpacked z) (versionOf z) (now s) (e₁ .1) ys (zs .1 .1 .1 .0) (found n) (found g) (found r) (e₁ .0) e₃ e₅) l)))))))))))))))))))))))))))))))))))))))))))
 
 module _ {M : Type 1} (𝓤 : URA M) (H : Heap 𝓤) (A : Atoms 𝓤) (W : Given 𝓤 H A) (mem : Memory → SProp 𝓤) (run : Routine → Fun 𝓤) where
   script-walks : (C : Calls 𝓤 H) (Λ : Loops 𝓤 H) → FmC 𝓤 H (W .laws) C → Triple 𝓤 (C #reader·reader·new) (New 𝓤 H A mem run) → Triple 𝓤 (C #reader·reader·read-lead) (Lead 𝓤 H A mem run) → Triple 𝓤 (C #reader·reader·advance) (Advance 𝓤 H A mem run) → Triple 𝓤 (C #reader·reader·read-outermost) (Outermost 𝓤 H A mem run) → Triple 𝓤 (C #reader·reader·read-end) (End 𝓤 H A mem run)

@@ -3,13 +3,15 @@
 use Prim.Native.Nat.{ℕ, _<_, _+_, _-_, _*_}
 use native.Mathlib.Omega.{arith}
 use mathlib.Core.Path.{_≡_, refl, sym, _∙_}
+use mathlib.Core.Logic.{inl, inr, ⊎-elim}
 use borrow.Author.Needs.{needs}
+use borrow.Author.Tests.{eqb-true, eqb-false}
 use lib.ListN.{length}
-use Rattle.reader.specs.Limits.{rowNumbers, unpacked}
+use Rattle.reader.specs.Limits.{rowNumbers, unpacked, versionOf}
 use Rattle.reader.proofs.Ranges.{ranged}
 use Rattle.reader.proofs.PackedLaws.{found-refused, found-fine, refused-found, fine-found}
 use Rattle.reader.proofs.LoopLaws.{Going, going-start, going-ready, going-refused, going-on, going-end}
-use Rattle.reader.proofs.TermLoop.{Inner, inner-start, number-stops, clear, kind-within, kind-known, operand-stops, operand-near, rest-within, rest-near, leaf-stops, count-within, block-asks, block-stops, inner-on}
+use Rattle.reader.proofs.TermLoop.{Inner, inner-start, number-stops, clear, kind-within, kind-known, operand-stops, operand-near, rest-within, rest-near, leaf-stops, pair-stops, count-within, block-asks, block-stops, inner-on}
 use borrow.Fn.Kinds.{In}
 use borrow.Fn.PlainCycle.{Measures, is, falls, and}
 use Rattle.reader.proofs.terms.read_block.Reads as read-block
@@ -49,7 +51,7 @@ read-term-below t =
 
 abbrev read-block-Inv-loop : read-block-lts.InvT-loop
 read-block-Inv-loop sizes tail at count levels terms boxes rows₀ next₀ met₀ boxed₀ left₀ rows next met boxed left =
-    Going (unpacked sizes) levels count tail at terms boxes rows₀ rows next met boxed left × (met < 8192) × (length rows ≡ length rows₀)
+    Going (unpacked sizes) (versionOf sizes) levels count tail at terms boxes rows₀ rows next met boxed left × (met < 8192) × (length rows ≡ length rows₀)
 
 abbrev read-block-μ-loop : read-block-lts.MeasureT-loop
 read-block-μ-loop sizes tail at count levels terms boxes rows₀ next₀ met₀ boxed₀ left₀ rows next met boxed left = left
@@ -61,7 +63,7 @@ abbrev read-term-claims : ℕ → read-term-lts.Claims
 read-term-claims t = (opening-number-reads.Asked, opening-number-reads.Learnt, refused-reads.Asked, refused-reads.Learnt, read-operands-reads.Asked, read-operands-reads.Learnt, fine-reads.Asked, fine-reads.Learnt, read-block-below t, read-block.Post, boxes-with-reads.Asked, boxes-with-reads.Learnt)
 
 read-block-loop-holds : (t : ℕ) → read-block-lts.Need-loop-holds (read-block-claims t) (read-block-at t) read-block.Post read-block-Inv-loop read-block-μ-loop
-read-block-loop-holds t c = (going-start _ _ _ _ _ _ _ _ (c .before .before .pre .1 .0) (c .before .before .pre .1 .1), c .before .before .pre .1 .2, refl)
+read-block-loop-holds t c = (going-start _ _ _ _ _ _ _ _ _ (c .before .before .pre .1 .0) (c .before .before .pre .1 .1), c .before .before .pre .1 .2, refl)
 
 read-block-sub-used : (t : ℕ) → read-block-lts.Need-sub-used (read-block-claims t) (read-block-at t) read-block.Post read-block-Inv-loop read-block-μ-loop
 read-block-sub-used t c = c .before .loop .inv .0 .from
@@ -76,13 +78,13 @@ read-block-part-read-term-end : (t : ℕ) → read-block-lts.Need-part-read-term
 read-block-part-read-term-end t c = search needs
 
 read-block-read-term-requires : (t : ℕ) → read-block-lts.Need-read-term-requires (read-block-claims t) (read-block-at t) read-block.Post read-block-Inv-loop read-block-μ-loop
-read-block-read-term-requires t c κs = (omega (arith, c .before .before .before .before .before .before .pre .0), going-ready _ _ _ _ _ _ _ _ _ _ _ _ _ (c .before .before .before .loop .inv .0))
+read-block-read-term-requires t c κs = (omega (arith, c .before .before .before .before .before .before .pre .0), going-ready _ _ _ _ _ _ _ _ _ _ _ _ _ _ (c .before .before .before .loop .inv .0))
 
 read-block-same-length : (t : ℕ) → read-block-lts.Need-same-length (read-block-claims t) (read-block-at t) read-block.Post read-block-Inv-loop read-block-μ-loop
 read-block-same-length t c = c .before .before .before .read-term .kept .1 .1 .1 .1 .1 .1 .0 ∙ c .before .before .before .before .before .before .before .loop .inv .2
 
 read-block-returns : (t : ℕ) → read-block-lts.Need-returns (read-block-claims t) (read-block-at t) read-block.Post read-block-Inv-loop read-block-μ-loop
-read-block-returns t c = going-refused _ _ _ _ _ _ _ _ _ _ _ _ _ (c .before .before .before .before .before .before .before .loop .inv .0) (c .before .before .before .before .before .before .loop-test .taken) _ _ (c .before .before .before .read-term .ensures) _ _ (found-refused _ (c .if1 .taken))
+read-block-returns t c = going-refused _ _ _ _ _ _ _ _ _ _ _ _ _ _ (c .before .before .before .before .before .before .before .loop .inv .0) (c .before .before .before .before .before .before .loop-test .taken) _ _ (c .before .before .before .read-term .ensures) _ _ (found-refused _ (c .if1 .taken))
 
 read-block-sub-left : (t : ℕ) → read-block-lts.Need-sub-left (read-block-claims t) (read-block-at t) read-block.Post read-block-Inv-loop read-block-μ-loop
 read-block-sub-left t c = c .before .before .before .before .before .before .loop-test .taken
@@ -94,7 +96,7 @@ read-block-loop-again : (t : ℕ) → read-block-lts.Need-loop-again (read-block
 read-block-loop-again t c =
     let kept = c .before .before .before .read-term .kept .1 .1 .1 .1 .1 .1 .0 in
     let g = c .before .before .before .before .before .before .before .loop .inv .0 in
-    (going-on _ _ _ _ _ _ _ _ _ _ _ _ _ g (c .before .before .before .before .before .before .loop-test .taken) _ _ (c .before .before .before .read-term .ensures) _ _ _ (found-fine _ (c .if1 .left)) (kept ∙ g .ready .full), omega arith, kept ∙ c .before .before .before .before .before .before .before .loop .inv .2)
+    (going-on _ _ _ _ _ _ _ _ _ _ _ _ _ _ g (c .before .before .before .before .before .before .loop-test .taken) _ _ (c .before .before .before .read-term .ensures) _ _ _ (found-fine _ (c .if1 .left)) (kept ∙ g .ready .full), omega arith, kept ∙ c .before .before .before .before .before .before .before .loop .inv .2)
 
 read-block-fine-requires : (t : ℕ) → read-block-lts.Need-fine-requires (read-block-claims t) (read-block-at t) read-block.Post read-block-Inv-loop read-block-μ-loop
 read-block-fine-requires t c κs =
@@ -107,18 +109,18 @@ read-block-same-length-2 t c = c .before .before .loop .inv .2
 read-block-returns-2 : (t : ℕ) → read-block-lts.Need-returns-2 (read-block-claims t) (read-block-at t) read-block.Post read-block-Inv-loop read-block-μ-loop
 read-block-returns-2 t c =
     let g = c .before .before .loop .inv .0 in
-    let q = going-end _ _ _ _ _ _ _ _ _ _ _ _ _ g (c .before .loop-test .left) in
+    let q = going-end _ _ _ _ _ _ _ _ _ _ _ _ _ _ g (c .before .loop-test .left) in
     (fine-found _ _ _ _ (omega (arith, g .ready .room)) (c .before .before .loop .inv .1) (omega (arith, g .ready .few, ranged _ (g .ready .ranges) .boxes)) (c .fine .ensures) ∙ q .0, q .1)
 
 abbrev read-term-Inv-loop : read-term-lts.InvT-loop
 read-term-Inv-loop sizes tail at levels terms boxes rows₀ next₀ left₀ met₀ boxed₀ rows next left met boxed =
-    Inner (unpacked sizes) levels tail at terms boxes rows₀ rows next left met boxed
+    Inner (unpacked sizes) (versionOf sizes) levels tail at terms boxes rows₀ rows next left met boxed
 
 abbrev read-term-μ-loop : read-term-lts.MeasureT-loop
 read-term-μ-loop sizes tail at levels terms boxes rows₀ next₀ left₀ met₀ boxed₀ rows next left met boxed = left
 
 read-term-loop-holds : (t : ℕ) → read-term-lts.Need-loop-holds (read-term-claims t) (read-term-at t) read-term.Post read-term-Inv-loop read-term-μ-loop
-read-term-loop-holds t c = inner-start _ _ _ _ _ _ _ (c .before .before .pre .1)
+read-term-loop-holds t c = inner-start _ _ _ _ _ _ _ _ (c .before .before .pre .1)
 
 read-term-sub-used : (t : ℕ) → read-term-lts.Need-sub-used (read-term-claims t) (read-term-at t) read-term.Post read-term-Inv-loop read-term-μ-loop
 read-term-sub-used t c = c .loop .inv .from
@@ -207,50 +209,50 @@ read-term-same-length-4 t c = c .before .before .before .before .before .before 
 
 read-term-returns-4 : (t : ℕ) → read-term-lts.Need-returns-4 (read-term-claims t) (read-term-at t) read-term.Post read-term-Inv-loop read-term-μ-loop
 read-term-returns-4 t c =
-    let q = leaf-stops (c .before .before .before .before .before .before .before .before .before .before .before .before .before .before .before .loop .inv) (c .before .before .before .before .before .before .before .before .before .before .before .before .before .opening-number .ensures) (c .before .before .before .before .before .before .before .before .before .before .before .before .if1 .left) _ (c .before .before .before .before .before .before .before .before .read-operands .ensures) (c .before .before .before .before .fields2 .given .1) (λ z. omega (arith, z, c .before .if3 .taken)) (λ z. omega (arith, z, c .before .if3 .taken)) in
+    let q = pair-stops (c .before .before .before .before .before .before .before .before .before .before .before .before .before .before .before .loop .inv) (c .before .before .before .before .before .before .before .before .before .before .before .before .before .opening-number .ensures) (c .before .before .before .before .before .before .before .before .before .before .before .before .if1 .left) _ (c .before .before .before .before .before .before .before .before .read-operands .ensures) (c .before .before .before .before .fields2 .given .1) (⊎-elim (λ w. inl (w .taken)) (λ w. inr (eqb-true _ 13 (w .1 .taken))) (c .before .if3 .came)) in
     (fine-found _ _ _ _ (omega (arith, rest-near (c .before .before .before .before .before .before .before .before .before .before .before .before .before .before .before .loop .inv) (c .before .before .before .before .before .before .before .before .before .before .before .before .before .opening-number .ensures) (c .before .before .before .before .before .before .before .before .before .before .before .before .if1 .left) _ (c .before .before .before .before .before .before .before .before .read-operands .ensures) (c .before .before .before .before .fields2 .given .1))) (omega (arith, clear (c .before .before .before .before .before .before .before .before .before .before .before .before .before .before .before .loop .inv) (c .before .before .before .before .before .before .before .before .before .before .before .before .before .opening-number .ensures) (c .before .before .before .before .before .before .before .before .before .before .before .before .if1 .left) .room, ranged _ (c .before .before .before .before .before .before .before .before .before .before .before .before .before .before .before .loop .inv .ready .ranges) .terms)) (omega (arith, c .before .before .before .before .before .before .before .before .before .before .before .before .before .before .before .loop .inv .ready .few, ranged _ (c .before .before .before .before .before .before .before .before .before .before .before .before .before .before .before .loop .inv .ready .ranges) .boxes)) (c .fine2 .ensures) ∙ q .0, q .1)
 
 read-term-sub-left : (t : ℕ) → read-term-lts.Need-sub-left (read-term-claims t) (read-term-at t) read-term.Post read-term-Inv-loop read-term-μ-loop
-read-term-sub-left t c = clear (c .before .before .before .before .before .before .before .before .before .before .before .before .before .before .loop .inv) (c .before .before .before .before .before .before .before .before .before .before .before .before .opening-number .ensures) (c .before .before .before .before .before .before .before .before .before .before .before .if1 .left) .deep
+read-term-sub-left t c = clear (c .before .before .before .before .before .before .before .before .before .before .before .before .before .before .before .loop .inv) (c .before .before .before .before .before .before .before .before .before .before .before .before .before .opening-number .ensures) (c .before .before .before .before .before .before .before .before .before .before .before .before .if1 .left) .deep
 
 read-term-add-count : (t : ℕ) → read-term-lts.Need-add-count (read-term-claims t) (read-term-at t) read-term.Post read-term-Inv-loop read-term-μ-loop
-read-term-add-count t c = omega (arith, rest-near (c .before .before .before .before .before .before .before .before .before .before .before .before .before .before .before .loop .inv) (c .before .before .before .before .before .before .before .before .before .before .before .before .before .opening-number .ensures) (c .before .before .before .before .before .before .before .before .before .before .before .before .if1 .left) _ (c .before .before .before .before .before .before .before .before .read-operands .ensures) (c .before .before .before .before .fields2 .given .1), count-within (c .before .before .before .before .before .before .before .before .before .before .before .before .before .before .before .loop .inv) (c .before .before .before .before .before .before .before .before .before .before .before .before .before .opening-number .ensures) (c .before .before .before .before .before .before .before .before .before .before .before .before .if1 .left) _ (c .before .before .before .before .before .before .before .before .read-operands .ensures) (c .before .before .before .before .fields2 .given .1) (c .if4 .taken), c .before .before .before .before .before .before .before .before .before .before .before .before .before .before .before .loop .inv .ready .room)
+read-term-add-count t c = omega (arith, rest-near (c .before .before .before .before .before .before .before .before .before .before .before .before .before .before .before .before .loop .inv) (c .before .before .before .before .before .before .before .before .before .before .before .before .before .before .opening-number .ensures) (c .before .before .before .before .before .before .before .before .before .before .before .before .before .if1 .left) _ (c .before .before .before .before .before .before .before .before .before .read-operands .ensures) (c .before .before .before .before .before .fields2 .given .1), count-within (c .before .before .before .before .before .before .before .before .before .before .before .before .before .before .before .before .loop .inv) (c .before .before .before .before .before .before .before .before .before .before .before .before .before .before .opening-number .ensures) (c .before .before .before .before .before .before .before .before .before .before .before .before .before .if1 .left) _ (c .before .before .before .before .before .before .before .before .before .read-operands .ensures) (c .before .before .before .before .before .fields2 .given .1) (c .if5 .taken), c .before .before .before .before .before .before .before .before .before .before .before .before .before .before .before .before .loop .inv .ready .room)
 
 read-term-shared-slice-read-count : (t : ℕ) → read-term-lts.Need-shared-slice-read-count (read-term-claims t) (read-term-at t) read-term.Post read-term-Inv-loop read-term-μ-loop
-read-term-shared-slice-read-count t c = count-within (c .before .before .before .before .before .before .before .before .before .before .before .before .before .before .before .before .loop .inv) (c .before .before .before .before .before .before .before .before .before .before .before .before .before .before .opening-number .ensures) (c .before .before .before .before .before .before .before .before .before .before .before .before .before .if1 .left) _ (c .before .before .before .before .before .before .before .before .before .read-operands .ensures) (c .before .before .before .before .before .fields2 .given .1) (c .before .if4 .taken)
+read-term-shared-slice-read-count t c = count-within (c .before .before .before .before .before .before .before .before .before .before .before .before .before .before .before .before .before .loop .inv) (c .before .before .before .before .before .before .before .before .before .before .before .before .before .before .before .opening-number .ensures) (c .before .before .before .before .before .before .before .before .before .before .before .before .before .before .if1 .left) _ (c .before .before .before .before .before .before .before .before .before .before .read-operands .ensures) (c .before .before .before .before .before .before .fields2 .given .1) (c .before .if5 .taken)
 
 read-term-cast-count : (t : ℕ) → read-term-lts.Need-cast-count (read-term-claims t) (read-term-at t) read-term.Post read-term-Inv-loop read-term-μ-loop
-read-term-cast-count t c = omega (arith, c .shared-slice-known3 .given (c .before .before .before .before .before .before .before .before .before .before .before .before .before .before .before .before .loop .next - c .before .before .before .before .before .before .before .before .before .before .before .before .before .before .before .before .before .before .before .args .at + 1))
+read-term-cast-count t c = omega (arith, c .shared-slice-known3 .given (c .before .before .before .before .before .before .before .before .before .before .before .before .before .before .before .before .before .loop .next - c .before .before .before .before .before .before .before .before .before .before .before .before .before .before .before .before .before .before .before .before .args .at + 1))
 
 read-term-sub-read-block : (t : ℕ) → read-term-lts.Need-sub-read-block (read-term-claims t) (read-term-at t) read-term.Post read-term-Inv-loop read-term-μ-loop
-read-term-sub-read-block t c = omega (arith, c .before .before .before .before .before .before .before .before .before .before .before .before .before .before .before .before .loop .inv .from)
+read-term-sub-read-block t c = omega (arith, c .before .before .before .before .before .before .before .before .before .before .before .before .before .before .before .before .before .loop .inv .from)
 
 read-term-sub-read-block-2 : (t : ℕ) → read-term-lts.Need-sub-read-block-2 (read-term-claims t) (read-term-at t) read-term.Post read-term-Inv-loop read-term-μ-loop
-read-term-sub-read-block-2 t c = rest-within (c .before .before .before .before .before .before .before .before .before .before .before .before .before .before .before .before .loop .inv) (c .before .before .before .before .before .before .before .before .before .before .before .before .before .before .opening-number .ensures) (c .before .before .before .before .before .before .before .before .before .before .before .before .before .if1 .left) _ (c .before .before .before .before .before .before .before .before .before .read-operands .ensures) (c .before .before .before .before .before .fields2 .given .1)
+read-term-sub-read-block-2 t c = rest-within (c .before .before .before .before .before .before .before .before .before .before .before .before .before .before .before .before .before .loop .inv) (c .before .before .before .before .before .before .before .before .before .before .before .before .before .before .before .opening-number .ensures) (c .before .before .before .before .before .before .before .before .before .before .before .before .before .before .if1 .left) _ (c .before .before .before .before .before .before .before .before .before .before .read-operands .ensures) (c .before .before .before .before .before .before .fields2 .given .1)
 
 read-term-part-read-block-start : (t : ℕ) → read-term-lts.Need-part-read-block-start (read-term-claims t) (read-term-at t) read-term.Post read-term-Inv-loop read-term-μ-loop
-read-term-part-read-block-start t c = rest-within (c .before .before .before .before .before .before .before .before .before .before .before .before .before .before .before .before .loop .inv) (c .before .before .before .before .before .before .before .before .before .before .before .before .before .before .opening-number .ensures) (c .before .before .before .before .before .before .before .before .before .before .before .before .before .if1 .left) _ (c .before .before .before .before .before .before .before .before .before .read-operands .ensures) (c .before .before .before .before .before .fields2 .given .1)
+read-term-part-read-block-start t c = rest-within (c .before .before .before .before .before .before .before .before .before .before .before .before .before .before .before .before .before .loop .inv) (c .before .before .before .before .before .before .before .before .before .before .before .before .before .before .before .opening-number .ensures) (c .before .before .before .before .before .before .before .before .before .before .before .before .before .before .if1 .left) _ (c .before .before .before .before .before .before .before .before .before .before .read-operands .ensures) (c .before .before .before .before .before .before .fields2 .given .1)
 
 read-term-part-read-block-end : (t : ℕ) → read-term-lts.Need-part-read-block-end (read-term-claims t) (read-term-at t) read-term.Post read-term-Inv-loop read-term-μ-loop
 read-term-part-read-block-end t c = search needs
 
 read-term-read-block-requires : (t : ℕ) → read-term-lts.Need-read-block-requires (read-term-claims t) (read-term-at t) read-term.Post read-term-Inv-loop read-term-μ-loop
-read-term-read-block-requires t c κs = (omega (arith, c .before .before .before .before .before .before .before .before .before .before .before .before .before .before .before .before .before .before .before .before .before .pre .0, c .before .before .before .before .before .before .before .before .before .before .before .before .before .before .before .before .before .before .loop .inv .deep, clear (c .before .before .before .before .before .before .before .before .before .before .before .before .before .before .before .before .before .before .loop .inv) (c .before .before .before .before .before .before .before .before .before .before .before .before .before .before .before .before .opening-number .ensures) (c .before .before .before .before .before .before .before .before .before .before .before .before .before .before .before .if1 .left) .deep), block-asks (c .before .before .before .before .before .before .before .before .before .before .before .before .before .before .before .before .before .before .loop .inv) (c .before .before .before .before .before .before .before .before .before .before .before .before .before .before .before .before .opening-number .ensures) (c .before .before .before .before .before .before .before .before .before .before .before .before .before .before .before .if1 .left) _ (c .before .before .before .before .before .before .before .before .before .before .before .read-operands .ensures) (c .before .before .before .before .before .before .before .fields2 .given .1) (c .before .before .before .if4 .taken) (c .before .before .before .before .before .before .before .before .before .before .before .read-operands .kept .1 .1 .1 .1 .1 .0))
+read-term-read-block-requires t c κs = (omega (arith, c .before .before .before .before .before .before .before .before .before .before .before .before .before .before .before .before .before .before .before .before .before .before .pre .0, c .before .before .before .before .before .before .before .before .before .before .before .before .before .before .before .before .before .before .before .loop .inv .deep, clear (c .before .before .before .before .before .before .before .before .before .before .before .before .before .before .before .before .before .before .before .loop .inv) (c .before .before .before .before .before .before .before .before .before .before .before .before .before .before .before .before .before .opening-number .ensures) (c .before .before .before .before .before .before .before .before .before .before .before .before .before .before .before .before .if1 .left) .deep), block-asks (c .before .before .before .before .before .before .before .before .before .before .before .before .before .before .before .before .before .before .before .loop .inv) (c .before .before .before .before .before .before .before .before .before .before .before .before .before .before .before .before .before .opening-number .ensures) (c .before .before .before .before .before .before .before .before .before .before .before .before .before .before .before .before .if1 .left) _ (c .before .before .before .before .before .before .before .before .before .before .before .before .read-operands .ensures) (c .before .before .before .before .before .before .before .before .fields2 .given .1) (c .before .before .before .if5 .taken) (c .before .before .before .before .before .before .before .before .before .before .before .before .read-operands .kept .1 .1 .1 .1 .1 .0))
 
 read-term-same-length-5 : (t : ℕ) → read-term-lts.Need-same-length-5 (read-term-claims t) (read-term-at t) read-term.Post read-term-Inv-loop read-term-μ-loop
-read-term-same-length-5 t c = c .before .before .read-block .kept .1 .1 .1 .1 .1 .1 .1 .0 ∙ c .before .before .before .before .before .before .before .before .before .before .before .before .before .before .read-operands .kept .1 .1 .1 .1 .1 .0 ∙ c .before .before .before .before .before .before .before .before .before .before .before .before .before .before .before .before .before .before .before .before .before .loop .inv .same
+read-term-same-length-5 t c = c .before .before .read-block .kept .1 .1 .1 .1 .1 .1 .1 .0 ∙ c .before .before .before .before .before .before .before .before .before .before .before .before .before .before .before .read-operands .kept .1 .1 .1 .1 .1 .0 ∙ c .before .before .before .before .before .before .before .before .before .before .before .before .before .before .before .before .before .before .before .before .before .before .loop .inv .same
 
 read-term-returns-5 : (t : ℕ) → read-term-lts.Need-returns-5 (read-term-claims t) (read-term-at t) read-term.Post read-term-Inv-loop read-term-μ-loop
-read-term-returns-5 t c = block-stops (c .before .before .before .before .before .before .before .before .before .before .before .before .before .before .before .before .before .before .before .before .before .loop .inv) (c .before .before .before .before .before .before .before .before .before .before .before .before .before .before .before .before .before .before .before .opening-number .ensures) (c .before .before .before .before .before .before .before .before .before .before .before .before .before .before .before .before .before .before .if1 .left) _ (c .before .before .before .before .before .before .before .before .before .before .before .before .before .before .read-operands .ensures) (c .before .before .before .before .before .before .before .before .before .before .fields2 .given .1) (c .before .before .before .before .before .before .if4 .taken) _ _ (c .before .before .read-block .ensures)
+read-term-returns-5 t c = block-stops (c .before .before .before .before .before .before .before .before .before .before .before .before .before .before .before .before .before .before .before .before .before .before .loop .inv) (c .before .before .before .before .before .before .before .before .before .before .before .before .before .before .before .before .before .before .before .before .opening-number .ensures) (c .before .before .before .before .before .before .before .before .before .before .before .before .before .before .before .before .before .before .before .if1 .left) _ (c .before .before .before .before .before .before .before .before .before .before .before .before .before .before .before .read-operands .ensures) (c .before .before .before .before .before .before .before .before .before .before .before .fields2 .given .1) (c .before .before .before .before .before .before .if5 .taken) _ _ (c .before .before .read-block .ensures)
 
 read-term-boxes-with-requires : (t : ℕ) → read-term-lts.Need-boxes-with-requires (read-term-claims t) (read-term-at t) read-term.Post read-term-Inv-loop read-term-μ-loop
-read-term-boxes-with-requires t c κs = omega (arith, c .before .before .before .before .before .before .before .before .before .before .before .before .before .before .before .loop .inv .ready .few, ranged _ (c .before .before .before .before .before .before .before .before .before .before .before .before .before .before .before .loop .inv .ready .ranges) .boxes)
+read-term-boxes-with-requires t c κs = omega (arith, c .before .before .before .before .before .before .before .before .before .before .before .before .before .before .before .before .loop .inv .ready .few, ranged _ (c .before .before .before .before .before .before .before .before .before .before .before .before .before .before .before .before .loop .inv .ready .ranges) .boxes)
 
 read-term-loop-less : (t : ℕ) → read-term-lts.Need-loop-less (read-term-claims t) (read-term-at t) read-term.Post read-term-Inv-loop read-term-μ-loop
-read-term-loop-less t c = omega (arith, clear (c .before .before .before .before .before .before .before .before .before .before .before .before .before .before .before .before .loop .inv) (c .before .before .before .before .before .before .before .before .before .before .before .before .before .before .opening-number .ensures) (c .before .before .before .before .before .before .before .before .before .before .before .before .before .if1 .left) .deep)
+read-term-loop-less t c = omega (arith, clear (c .before .before .before .before .before .before .before .before .before .before .before .before .before .before .before .before .before .loop .inv) (c .before .before .before .before .before .before .before .before .before .before .before .before .before .before .before .opening-number .ensures) (c .before .before .before .before .before .before .before .before .before .before .before .before .before .before .if1 .left) .deep)
 
 read-term-loop-again : (t : ℕ) → read-term-lts.Need-loop-again (read-term-claims t) (read-term-at t) read-term.Post read-term-Inv-loop read-term-μ-loop
-read-term-loop-again t c = inner-on (c .before .before .before .before .before .before .before .before .before .before .before .before .before .before .before .before .loop .inv) (c .before .before .before .before .before .before .before .before .before .before .before .before .before .before .opening-number .ensures) (c .before .before .before .before .before .before .before .before .before .before .before .before .before .if1 .left) _ (c .before .before .before .before .before .before .before .before .before .read-operands .ensures) (c .before .before .before .before .before .fields2 .given .1) (c .before .before .before .if2 .left) (c .before .before .if3 .left) (c .before .if4 .left) (c .before .before .before .before .before .before .before .before .before .read-operands .kept .1 .1 .1 .1 .1 .0) (c .boxes-with .ensures)
+read-term-loop-again t c = inner-on (c .before .before .before .before .before .before .before .before .before .before .before .before .before .before .before .before .before .loop .inv) (c .before .before .before .before .before .before .before .before .before .before .before .before .before .before .before .opening-number .ensures) (c .before .before .before .before .before .before .before .before .before .before .before .before .before .before .if1 .left) _ (c .before .before .before .before .before .before .before .before .before .before .read-operands .ensures) (c .before .before .before .before .before .before .fields2 .given .1) (c .before .before .before .before .if2 .left) (c .before .before .before .if3 .left) (c .before .if5 .left) (eqb-false _ 13 (c .before .before .if4 .left)) (c .before .before .before .before .before .before .before .before .before .before .read-operands .kept .1 .1 .1 .1 .1 .0) (c .boxes-with .ensures)
 
 pub +read-block+read-term-spec : {M : Type 1} → statement M
 +read-block+read-term-spec = close μ-read-block μ-read-term (λ t. read-block-lts.spec (read-block-claims t) (read-block-at t)
