@@ -2,7 +2,10 @@
 //! documentation of the crate lists it. The set of limits is that of the
 //! program, or given as four numbers: terms, variables, boxes and levels.
 
-use reference::{check, judge_rows, read, run, run_unchecked, Generator, Limits, Ran, Refusal};
+use reference::form::MAX_BYTES;
+use reference::{
+    check, judge_rows, read, run, run_unchecked, write, Generator, Limits, Ran, Refusal, NEWEST,
+};
 use std::collections::BTreeMap;
 use std::time::Instant;
 
@@ -55,11 +58,22 @@ fn main() {
     let mut store = vec![0; limits.store_numbers()];
     count("script, read", limits, |generator| {
         generator.script(&mut script);
-        read(limits, &script, &mut rows)
+        read(limits, NEWEST, &script, &mut rows).map(|read| read.terms)
+    });
+    count("script and newest, read", limits, |generator| {
+        generator.script(&mut script);
+        let newest = generator.newest();
+        read(limits, newest, &script, &mut rows).map(|read| read.terms)
     });
     count("rows, judge_rows", limits, |generator| {
         generator.rows(&mut rows);
         judge_rows(limits, &rows)
+    });
+    let mut output = vec![0; MAX_BYTES];
+    count("rows and version, write", limits, |generator| {
+        generator.rows(&mut rows);
+        let version = generator.version();
+        write(limits, version, &rows, &mut output)
     });
     for (name, make) in KINDS {
         count(&format!("{name}, check"), limits, |generator| {

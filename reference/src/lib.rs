@@ -8,7 +8,7 @@
 //! |---|---|---|
 //! | form | [`read`] | 74, 1, 2, 10 to 19 with a byte offset |
 //! | form | [`judge_rows`] | 74, 2, 12 to 19 with a row |
-//! | form | [`write()`] | 74, 2, 12 to 19 with a row, 5 |
+//! | form | [`write()`] | 74, 2, 11, 12 to 19 with a row, 5 |
 //! | ownership | [`check`] | 74, 2, 12 to 19, 30 to 43 with a term |
 //! | machine | [`run_unchecked`] | 74, 2 to 4, 12 to 19, 60 to 63 with a term |
 //! | check, then machine | [`run`] | 74, 2 to 4, 12 to 19, 30 to 43 with a term |
@@ -16,6 +16,10 @@
 //!
 //! Each function but the last takes a set of [`Limits`] first; the program has
 //! [`Limits::BASE`].
+//!
+//! Scripts have a version, 1 or 2, and sums are of version 2. [`read`] is told
+//! the newest version to know and answers that of the script, [`write()`] is
+//! told which to write. The others take rows of every version.
 //!
 //! # Generators
 //!
@@ -26,49 +30,57 @@
 //! success); `cargo run --release --example spread` prints these tables, and
 //! those of another set if its four numbers are given.
 //!
-//! Reading what `script` makes, and judging what `rows` makes:
+//! Reading what `script` makes with [`NEWEST`] and with what `newest` makes,
+//! judging what `rows` makes, and writing it in what `version` makes:
 //!
 //! | | 0 | 1 | 10 | 11 | 12 | 13 | 14 | 15 | 16 | 17 | 18 | 19 |
 //! |---|---|---|---|---|---|---|---|---|---|---|---|---|
-//! | `script` | 37,078 | 332 | 10,883 | 5,658 | 10,869 | 9,198 | 5,200 | 3,663 | 1,583 | 1,815 | 4,902 | 8,819 |
-//! | `rows` | 35,570 | | | | 11,795 | 5,983 | 24,122 | 3,128 | 0 | 1,445 | 4,386 | 13,571 |
+//! | `script` | 34,282 | 325 | 10,661 | 8,588 | 10,368 | 11,161 | 5,367 | 3,582 | 1,450 | 1,596 | 4,369 | 8,251 |
+//! | with `newest` | 26,172 | 352 | 10,669 | 26,831 | 8,266 | 9,021 | 4,016 | 2,682 | 1,061 | 1,139 | 3,373 | 6,418 |
+//! | `rows` | 35,639 | | | | 11,777 | 6,487 | 24,010 | 3,412 | 0 | 1,369 | 4,168 | 13,138 |
+//! | in `version` | 25,049 | | | 15,154 | 8,407 | 16,368 | 18,642 | 2,603 | 0 | 941 | 3,582 | 9,254 |
 //!
 //! Rows can never meet 16: they have no room for a term too many, so they are
 //! used up first, which is 12. `rows_any_length` brings 2 as well.
 //!
-//! Checking rows (those of `mixed_rows` also meet 12 to 19, 3,346 times):
+//! `valid_script` makes scripts of version 1, of version 2 without sums, and of
+//! version 2 with them, each a quarter of the time or more. A third of all
+//! accepted scripts have sums, and more than a quarter of the sums that they run
+//! are held to an end.
+//!
+//! Checking rows (those of `mixed_rows` also meet 12 to 19, 3,207 times):
 //!
 //! | | 0 | 30 | 31 | 32 | 33 | 34 | 35 | 36 |
 //! |---|---|---|---|---|---|---|---|---|
 //! | `accepted_rows` | 100,000 | | | | | | | |
-//! | `near_miss_rows` | 46,743 | 6,773 | 14,575 | 10,072 | 3,506 | 1,370 | 2,471 | 1,228 |
-//! | `wild_rows` | 22,499 | 5,387 | 7,073 | 13,479 | 9,689 | 4,445 | 10,569 | 3,687 |
-//! | `mixed_rows` | 50,316 | 3,906 | 12,965 | 7,191 | 3,932 | 1,734 | 3,882 | 1,506 |
+//! | `near_miss_rows` | 48,371 | 6,833 | 14,854 | 10,462 | 3,201 | 1,287 | 2,152 | 972 |
+//! | `wild_rows` | 23,023 | 5,544 | 7,229 | 13,027 | 9,639 | 4,814 | 9,973 | 3,691 |
+//! | `mixed_rows` | 51,369 | 3,945 | 13,030 | 7,169 | 3,874 | 1,894 | 3,698 | 1,428 |
 //!
 //! | | 37 | 38 | 39 | 40 | 41 | 42 | 43 |
 //! |---|---|---|---|---|---|---|---|
-//! | `near_miss_rows` | 2,079 | 1,227 | 6,426 | 1,760 | 743 | 48 | 979 |
-//! | `wild_rows` | 3,078 | 2,719 | 9,571 | 5,411 | 242 | 1,007 | 1,144 |
-//! | `mixed_rows` | 1,575 | 1,218 | 4,846 | 2,234 | 369 | 317 | 663 |
+//! | `near_miss_rows` | 1,889 | 1,107 | 5,728 | 1,420 | 677 | 40 | 1,007 |
+//! | `wild_rows` | 2,942 | 2,538 | 9,816 | 5,337 | 249 | 1,008 | 1,170 |
+//! | `mixed_rows` | 1,366 | 1,071 | 4,599 | 2,050 | 344 | 300 | 656 |
 //!
 //! Running rows with [`run_unchecked`], each time with readings of their own
-//! (those of `mixed_rows` also meet 12 to 19, 3,202 times):
+//! (those of `mixed_rows` also meet 12 to 19, 3,146 times):
 //!
 //! | | 0 | 60 | 61 | 62 | 63 |
 //! |---|---|---|---|---|---|
 //! | `accepted_rows` | 100,000 | | | | |
-//! | `near_miss_rows` | 55,807 | 20,630 | 16,792 | 6,096 | 675 |
-//! | `wild_rows` | 32,580 | 28,317 | 30,406 | 6,487 | 2,210 |
-//! | `mixed_rows` | 56,689 | 21,256 | 14,267 | 3,711 | 875 |
+//! | `near_miss_rows` | 56,120 | 20,844 | 16,557 | 5,990 | 489 |
+//! | `wild_rows` | 32,632 | 27,695 | 31,378 | 6,423 | 1,872 |
+//! | `mixed_rows` | 56,629 | 21,092 | 14,719 | 3,708 | 706 |
 //!
 //! Running the same rows with [`run`], which never meets 60 to 63:
 //!
 //! | | 0 | 12 to 19 | 30 to 43 |
 //! |---|---|---|---|
 //! | `accepted_rows` | 100,000 | | |
-//! | `near_miss_rows` | 46,564 | | 53,436 |
-//! | `wild_rows` | 22,401 | | 77,599 |
-//! | `mixed_rows` | 50,855 | 3,202 | 45,943 |
+//! | `near_miss_rows` | 48,605 | | 51,395 |
+//! | `wild_rows` | 22,970 | | 77,030 |
+//! | `mixed_rows` | 51,449 | 3,146 | 45,405 |
 //!
 //! `limits_within`, `limits_above` and `limits_outside` make sets themselves;
 //! the last ones are refused with 74.
@@ -84,7 +96,7 @@ pub mod random;
 pub mod refusal;
 
 pub use checked::run;
-pub use form::{judge_rows, read, write};
+pub use form::{judge_rows, read, write, Script, NEWEST};
 pub use generate::Generator;
 pub use limits::Limits;
 pub use line::roomcheck;

@@ -2,7 +2,7 @@
 //! (LANGUAGE 6.10, 6.11).
 
 use crate::checked::run;
-use crate::form::read;
+use crate::form::{read, NEWEST};
 use crate::limits::Limits;
 use crate::machine::{Ran, READINGS};
 use crate::refusal::Refusal;
@@ -26,11 +26,11 @@ pub fn roomcheck(input: &[u8]) -> String {
 
 fn accepted(readings: &[u8], script: &[u8]) -> Result<(u32, Ran), Refusal> {
     let mut rows = [0; LIMITS.row_numbers()];
-    let terms = read(LIMITS, script, &mut rows)?;
+    let read = read(LIMITS, NEWEST, script, &mut rows)?;
     let mut given = [0; READINGS];
     for (reading, bytes) in given.iter_mut().zip(readings.as_chunks().0) {
         *reading = i32::from_be_bytes(*bytes);
     }
     let ran = run(LIMITS, &rows, &given, &mut [0; LIMITS.store_numbers()])?;
-    Ok((terms, ran))
+    Ok((read.terms, ran))
 }

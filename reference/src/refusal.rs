@@ -18,7 +18,7 @@ impl Refusal {
         }
     }
 
-    /// Refusals 1 to 5 and 74 always carry place 0.
+    /// Refusals 1 to 5 and 74 always carry place 0, and the writer's 11.
     #[inline]
     pub(crate) fn by_caller(number: u32) -> Self {
         Refusal { number, place: 0 }

@@ -1,7 +1,7 @@
 //! The form of scripts at its edges (LANGUAGE 5.9 to 5.13, 8.6).
 
-use reference::form::{HEADER, MAX_BYTES};
-use reference::{judge_rows, read, write, Limits, Refusal};
+use reference::form::{header, HEADER, MAX_BYTES};
+use reference::{judge_rows, read, write, Limits, Refusal, Script, NEWEST};
 
 const LIMITS: Limits = Limits::BASE;
 const ROWS_LEN: usize = LIMITS.row_numbers();
@@ -28,7 +28,7 @@ fn script(body: &[u8]) -> Vec<u8> {
     [&HEADER[..], body].concat()
 }
 
-fn refused(number: u32, place: u32) -> Result<u32, Refusal> {
+fn refused<T>(number: u32, place: u32) -> Result<T, Refusal> {
     Err(Refusal { number, place })
 }
 
@@ -37,24 +37,29 @@ fn refused(number: u32, place: u32) -> Result<u32, Refusal> {
 /// script equal.
 fn read_checked(script: &[u8]) -> Result<u32, Refusal> {
     let mut rows = [USED; ROWS_LEN];
-    let answer = read(LIMITS, script, &mut rows);
+    let answer = read(LIMITS, NEWEST, script, &mut rows);
     match answer {
-        Ok(terms) => {
+        Ok(Script { version, terms }) => {
             assert!(rows[terms as usize * 5..].iter().all(|field| *field == 0));
             assert_eq!(judge_rows(LIMITS, &rows), Ok(terms));
             let mut output = vec![0xA5; script.len() + 3];
-            assert_eq!(write(LIMITS, &rows, &mut output), Ok(script.len() as u32));
+            let written = write(LIMITS, version, &rows, &mut output);
+            assert_eq!(written, Ok(script.len() as u32));
             assert_eq!(&output[..script.len()], script);
             assert_eq!(&output[script.len()..], [0xA5; 3]);
         }
         Err(refusal) if refusal.number >= 10 => assert_eq!(rows, [0; ROWS_LEN]),
         Err(_) => assert_eq!(rows, [USED; ROWS_LEN]),
     }
-    answer
+    answer.map(|read| read.terms)
 }
 
+/// What is answered in every version.
 fn read_body(body: &[u8]) -> Result<u32, Refusal> {
-    read_checked(&script(body))
+    let answer = read_checked(&script(body));
+    let newest = [&header(NEWEST)[..], body].concat();
+    assert_eq!(read_checked(&newest), answer);
+    answer
 }
 
 /// Term rows with the given ones first and 0 after them.
@@ -70,7 +75,7 @@ fn judge(first: &[[u32; 5]]) -> Result<u32, Refusal> {
     let answer = judge_rows(LIMITS, &rows);
     if let Err(refusal) = answer {
         let mut output = [0xA5; MAX_BYTES];
-        assert_eq!(write(LIMITS, &rows, &mut output), Err(refusal));
+        assert_eq!(write(LIMITS, NEWEST, &rows, &mut output), Err(refusal));
         assert_eq!(output, [0xA5; MAX_BYTES]);
     }
     answer
@@ -79,7 +84,11 @@ fn judge(first: &[[u32; 5]]) -> Result<u32, Refusal> {
 #[test]
 fn e1_has_8_terms_and_its_rows() {
     let mut rows = [USED; ROWS_LEN];
-    assert_eq!(read(LIMITS, &E1, &mut rows), Ok(8));
+    let e1 = Script {
+        version: 1,
+        terms: 8,
+    };
+    assert_eq!(read(LIMITS, NEWEST, &E1, &mut rows), Ok(e1));
     assert_eq!(rows.to_vec(), rows_of(&E1_ROWS));
     assert_eq!(read_checked(&E1), Ok(8));
 }
@@ -93,7 +102,7 @@ fn every_kind_is_read_and_written() {
     ];
     assert_eq!(read_body(&body), Ok(17));
     let mut rows = [USED; ROWS_LEN];
-    assert_eq!(read(LIMITS, &script(&body), &mut rows), Ok(17));
+    assert!(read(LIMITS, NEWEST, &script(&body), &mut rows).is_ok());
     assert_eq!(rows[5..10], [1, 0x8000_0000, 0, 0, 0]);
     assert_eq!(rows[10..15], [1, 0x7FFF_FFFF, 0, 0, 0]);
     assert_eq!(rows[20..25], [3, 63, 8, 0, 0]);
@@ -116,13 +125,13 @@ fn caller_refusals_of_the_reader() {
     let long = [0; MAX_BYTES + 1];
     assert_eq!(read_checked(&long), refused(1, 0));
     let mut short = [USED; ROWS_LEN - 1];
-    assert_eq!(read(LIMITS, &E1, &mut short), refused(2, 0));
-    assert_eq!(read(LIMITS, &long, &mut short), refused(1, 0));
+    assert_eq!(read(LIMITS, NEWEST, &E1, &mut short), refused(2, 0));
+    assert_eq!(read(LIMITS, NEWEST, &long, &mut short), refused(1, 0));
     assert_eq!(short, [USED; ROWS_LEN - 1]);
     let mut more = [USED; ROWS_LEN + 1];
-    assert_eq!(read(LIMITS, &E1, &mut more), refused(2, 0));
+    assert_eq!(read(LIMITS, NEWEST, &E1, &mut more), refused(2, 0));
     assert_eq!(more, [USED; ROWS_LEN + 1]);
-    assert_eq!(read(LIMITS, &[], &mut []), refused(2, 0));
+    assert_eq!(read(LIMITS, NEWEST, &[], &mut []), refused(2, 0));
 }
 
 #[test]
@@ -143,15 +152,16 @@ fn mark_and_version() {
     assert_eq!(read_checked(b"RCS"), refused(12, 3));
     assert_eq!(read_checked(b"RCS\x01"), refused(12, 4));
     assert_eq!(read_checked(b"RCS\x01\x01\x0B"), refused(11, 3));
-    assert_eq!(read_checked(b"RCS\x00\x02"), refused(11, 3));
+    assert_eq!(read_checked(b"RCS\x00\x03"), refused(11, 3));
     assert_eq!(read_checked(b"RCS\x00\x00"), refused(11, 3));
     assert_eq!(read_checked(b"RCS\x01\x00"), refused(11, 3));
     assert_eq!(read_checked(b"RCS\x00\x01"), refused(12, 5));
+    assert_eq!(read_checked(b"RCS\x00\x02"), refused(12, 5));
 }
 
 #[test]
 fn unknown_kinds_come_before_no_block() {
-    for kind in (0x0C..=0xFF).chain([0x00]) {
+    for kind in (0x0E..=0xFF).chain([0x00, 0x0C]) {
         assert_eq!(read_body(&[kind]), refused(13, 5));
         assert_eq!(read_body(&[0x0B, 2, 2, 0, kind]), refused(13, 9));
     }
@@ -296,23 +306,23 @@ fn rows_of_a_script_are_judged_by_12_to_19() {
 #[test]
 fn each_field_of_each_kind_has_its_range() {
     const ANY: u32 = u32::MAX;
-    let most: [[u32; 4]; 11] = [
-        [ANY, 0, 0, 0],
-        [7, 0, 0, 0],
-        [63, 8, 0, 0],
-        [63, 8, 0, 0],
-        [63, 8, 0, 0],
-        [63, 8, 0, 0],
-        [0, 0, 0, 0],
-        [63, 0, 0, 0],
-        [63, 8, 0, 0],
-        [63, 8, 63, 8],
-        [255, 0, 0, 0],
+    let most: [(u32, [u32; 4]); 12] = [
+        (1, [ANY, 0, 0, 0]),
+        (2, [7, 0, 0, 0]),
+        (3, [63, 8, 0, 0]),
+        (4, [63, 8, 0, 0]),
+        (5, [63, 8, 0, 0]),
+        (6, [63, 8, 0, 0]),
+        (7, [0, 0, 0, 0]),
+        (8, [63, 0, 0, 0]),
+        (9, [63, 8, 0, 0]),
+        (10, [63, 8, 63, 8]),
+        (11, [255, 0, 0, 0]),
+        (13, [63, 8, 63, 8]),
     ];
-    for (index, most) in most.iter().enumerate() {
+    for (kind, most) in &most {
         for field in 0..4 {
-            let kind = index as u32 + 1;
-            let mut row = [kind, 0, 0, 0, 0];
+            let mut row = [*kind, 0, 0, 0, 0];
             row[1..].copy_from_slice(most);
             let given = [[0x0B, 1, 0, 0, 0], row, [2, 0, 0, 0, 0]];
             assert_ne!(judge(&given), refused(14, 1), "kind {kind}");
@@ -359,17 +369,21 @@ fn caller_refusals_of_the_writer_and_the_row_judge() {
     for length in [0, ROWS_LEN - 1, ROWS_LEN + 1] {
         let rows = vec![USED; length];
         assert_eq!(judge_rows(LIMITS, &rows), refused(2, 0));
-        assert_eq!(write(LIMITS, &rows, &mut output), refused(2, 0));
-        assert_eq!(write(LIMITS, &rows, &mut []), refused(2, 0));
+        assert_eq!(write(LIMITS, 1, &rows, &mut output), refused(2, 0));
+        assert_eq!(write(LIMITS, 1, &rows, &mut []), refused(2, 0));
     }
     let rows = rows_of(&E1_ROWS);
     for length in 0..E1.len() {
-        assert_eq!(write(LIMITS, &rows, &mut output[..length]), refused(5, 0));
+        let answer = write(LIMITS, 1, &rows, &mut output[..length]);
+        assert_eq!(answer, refused(5, 0));
     }
     // The rows are judged before the output.
-    assert_eq!(write(LIMITS, &vec![0; ROWS_LEN], &mut []), refused(12, 0));
+    assert_eq!(
+        write(LIMITS, 1, &vec![0; ROWS_LEN], &mut []),
+        refused(12, 0)
+    );
     assert_eq!(output, [0xA5; 64]);
-    assert_eq!(write(LIMITS, &rows, &mut output[..25]), Ok(25));
+    assert_eq!(write(LIMITS, 1, &rows, &mut output[..25]), Ok(25));
     assert_eq!(output[..25], E1);
     assert_eq!(output[25..], [0xA5; 39]);
 }

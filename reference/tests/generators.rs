@@ -5,7 +5,8 @@ mod common;
 
 use common::{levels, LIMITS, ROWS_LEN};
 use reference::form::MAX_BYTES;
-use reference::{judge_rows, read, write, Generator};
+use reference::{judge_rows, read, write, Generator, NEWEST};
+use std::collections::BTreeMap;
 
 const SAMPLE: usize = 20_000;
 
@@ -39,10 +40,10 @@ fn sums(seed: u64) -> [u64; 4] {
 #[test]
 fn one_seed_gives_one_sequence() {
     let expected = [
-        0xF6A6_482E_A4DA_A27A,
-        0x0006_D5D2_B2DA_E68C,
-        0xE350_1471_F8C7_762D,
-        0xB118_BEA9_CA5D_1FBC,
+        0x2DCF_EB7A_A037_63C3,
+        0xDAF3_56B3_4CC8_999E,
+        0x9DC0_01E2_2D37_C40E,
+        0xFF87_F445_B78A_FB35,
     ];
     assert_eq!(sums(1), expected);
     assert_ne!(sums(2), expected);
@@ -56,9 +57,10 @@ fn valid_scripts_are_read_and_written_back() {
     let mut output = vec![0; MAX_BYTES];
     for _ in 0..SAMPLE {
         generator.valid_script(&mut script);
-        let terms = read(LIMITS, &script, &mut rows).expect("valid");
-        assert_eq!(judge_rows(LIMITS, &rows), Ok(terms));
-        assert_eq!(write(LIMITS, &rows, &mut output), Ok(script.len() as u32));
+        let read = read(LIMITS, NEWEST, &script, &mut rows).expect("valid");
+        assert_eq!(judge_rows(LIMITS, &rows), Ok(read.terms));
+        let length = write(LIMITS, read.version, &rows, &mut output);
+        assert_eq!(length, Ok(script.len() as u32));
         assert_eq!(output[..script.len()], script);
     }
 }
@@ -71,11 +73,10 @@ fn valid_rows_are_written_and_read_back() {
     let mut again = vec![7; ROWS_LEN];
     for _ in 0..SAMPLE {
         generator.valid_rows(&mut rows);
-        let length = write(LIMITS, &rows, &mut output).expect("valid") as usize;
-        assert_eq!(
-            read(LIMITS, &output[..length], &mut again),
-            judge_rows(LIMITS, &rows)
-        );
+        let length = write(LIMITS, NEWEST, &rows, &mut output).expect("valid");
+        let read = read(LIMITS, NEWEST, &output[..length as usize], &mut again);
+        assert_eq!(read.map(|read| read.version), Ok(NEWEST));
+        assert_eq!(read.map(|read| read.terms), judge_rows(LIMITS, &rows));
         assert_eq!(again, rows);
     }
 }
@@ -88,9 +89,10 @@ fn accepted_scripts_and_rows_correspond() {
     let mut again = vec![7; ROWS_LEN];
     for _ in 0..SAMPLE {
         generator.script(&mut script);
-        match read(LIMITS, &script, &mut rows) {
-            Ok(_) => {
-                assert_eq!(write(LIMITS, &rows, &mut output), Ok(script.len() as u32));
+        match read(LIMITS, NEWEST, &script, &mut rows) {
+            Ok(read) => {
+                let length = write(LIMITS, read.version, &rows, &mut output);
+                assert_eq!(length, Ok(script.len() as u32));
                 assert_eq!(output[..script.len()], script);
             }
             Err(refusal) if refusal.number >= 10 => assert!(rows.iter().all(|field| *field == 0)),
@@ -98,11 +100,11 @@ fn accepted_scripts_and_rows_correspond() {
         }
         generator.rows(&mut rows);
         assert_eq!(rows.len(), ROWS_LEN);
-        if let Ok(length) = write(LIMITS, &rows, &mut output) {
-            assert_eq!(
-                read(LIMITS, &output[..length as usize], &mut again),
-                judge_rows(LIMITS, &rows)
-            );
+        let version = generator.version();
+        if let Ok(length) = write(LIMITS, version, &rows, &mut output) {
+            let read = read(LIMITS, NEWEST, &output[..length as usize], &mut again);
+            assert_eq!(read.map(|read| read.version), Ok(version));
+            assert_eq!(read.map(|read| read.terms), judge_rows(LIMITS, &rows));
             assert_eq!(again, rows);
         }
     }
@@ -115,7 +117,7 @@ fn every_number_of_the_form_occurs() {
     let (mut reading, mut judging) = ([0; 20], [0; 20]);
     for _ in 0..SAMPLE {
         generator.script(&mut script);
-        let answer = read(LIMITS, &script, &mut rows);
+        let answer = read(LIMITS, NEWEST, &script, &mut rows);
         reading[answer.map_or_else(|refusal| refusal.number as usize, |_| 0)] += 1;
         generator.rows_any_length(&mut rows);
         let answer = judge_rows(LIMITS, &rows);
@@ -137,7 +139,7 @@ fn shapes_reach_the_limits() {
     let mut generator = Generator::new(7);
     let mut rows = Vec::new();
     let (mut deepest, mut widest, mut most_terms, mut most_boxes) = (0, 0, 0, 0);
-    let mut kinds = [0; 12];
+    let mut kinds = [0; 14];
     for _ in 0..SAMPLE {
         generator.valid_rows(&mut rows);
         let terms = judge_rows(LIMITS, &rows).expect("valid") as usize;
@@ -158,5 +160,70 @@ fn shapes_reach_the_limits() {
         (deepest, widest, most_terms, most_boxes),
         (16, 255, 512, 64)
     );
-    assert!(kinds[1..].iter().all(|count| *count > 10_000), "{kinds:?}");
+    let known = (1..=11).chain([13]);
+    for (kind, count) in kinds.into_iter().enumerate() {
+        let due = known.clone().any(|known| known == kind);
+        assert_eq!(count > 10_000, due, "{kinds:?}");
+    }
+}
+
+#[test]
+fn scripts_have_the_kinds_of_their_version() {
+    let mut generator = Generator::new(8);
+    let mut script = Vec::new();
+    let mut rows = vec![0; ROWS_LEN];
+    // Version 1, version 2 without a sum, version 2 with one.
+    let mut counts = [0; 3];
+    for _ in 0..SAMPLE {
+        generator.valid_script(&mut script);
+        let read = read(LIMITS, NEWEST, &script, &mut rows).expect("valid");
+        let sums = rows.chunks(5).any(|row| row[0] == 13);
+        assert!(read.version == 2 || !sums);
+        counts[(read.version - 1) as usize + usize::from(sums)] += 1;
+    }
+    assert!(counts.iter().all(|count| *count > SAMPLE / 8), "{counts:?}");
+}
+
+/// How often the kind byte of a sum in version 1 is what is refused.
+fn sums_in_version_1(make: fn(&mut Generator, &mut Vec<u8>), skipped: usize) -> usize {
+    let mut generator = Generator::new(9);
+    let mut bytes = Vec::new();
+    let mut rows = vec![0; ROWS_LEN];
+    let mut count = 0;
+    for _ in 0..SAMPLE {
+        make(&mut generator, &mut bytes);
+        let script = bytes.get(skipped..).unwrap_or_default();
+        if let Err(refusal) = read(LIMITS, NEWEST, script, &mut rows) {
+            let kind = script.get(refusal.place as usize);
+            count += usize::from(refusal.number == 13 && kind == Some(&13));
+        }
+    }
+    count
+}
+
+#[test]
+fn sums_in_version_1_occur() {
+    let scripts = sums_in_version_1(Generator::script, 0);
+    assert!(scripts > SAMPLE / 100, "{scripts}");
+    let inputs = sums_in_version_1(Generator::input, 32);
+    assert!(inputs > SAMPLE / 200, "{inputs}");
+}
+
+#[test]
+fn versions_for_reader_and_writer() {
+    let mut generator = Generator::new(10);
+    let mut versions = BTreeMap::new();
+    let mut newest = BTreeMap::new();
+    for _ in 0..SAMPLE {
+        *versions.entry(generator.version()).or_insert(0) += 1;
+        *newest.entry(generator.newest()).or_insert(0) += 1;
+    }
+    for number in [0, 3, 256, 257, 258, 513, 0x1_0001, 0x1_0002, u32::MAX] {
+        assert!(versions[&number] > 50, "{versions:?}");
+        assert!(newest[&number] > 50, "{newest:?}");
+    }
+    for number in [1, 2] {
+        assert!(versions[&number] > SAMPLE / 5, "{versions:?}");
+        assert!(newest[&number] > SAMPLE / 5, "{newest:?}");
+    }
 }

@@ -2,7 +2,7 @@
 //! nowhere smaller, with the same terms, answer and cells.
 
 use reference::form::MAX_BYTES;
-use reference::{check, read, run, write, Generator, Limits, Ran};
+use reference::{check, read, run, write, Generator, Limits, Ran, NEWEST};
 
 /// The terms of an accepted script and what its run gives.
 fn accepted(limits: Limits, rows: &[u32], readings: &[i32]) -> Option<(u32, Ran)> {
@@ -26,14 +26,14 @@ fn grows(generator: &mut Generator, rows: &[u32]) -> bool {
         return false;
     };
     let mut script = vec![0; MAX_BYTES];
-    let length = write(limits, rows, &mut script).expect("rows of a script");
+    let length = write(limits, NEWEST, rows, &mut script).expect("rows of a script");
     for larger in [generator.limits_above(), Limits::LARGEST] {
         let mut again = rows.to_vec();
         again.resize(larger.row_numbers(), 0);
         assert_eq!(accepted(larger, &again, &readings), Some(due));
         let mut read_rows = vec![9; larger.row_numbers()];
-        let terms = read(larger, &script[..length as usize], &mut read_rows);
-        assert_eq!(terms, Ok(due.0));
+        let read = read(larger, NEWEST, &script[..length as usize], &mut read_rows);
+        assert_eq!(read.map(|read| read.terms), Ok(due.0));
         assert_eq!(read_rows, again);
     }
     true

@@ -3,7 +3,7 @@
 mod common;
 
 use common::*;
-use reference::{check, judge_rows, read, run, write, Limits, Refusal};
+use reference::{check, judge_rows, read, run, write, Limits, Refusal, NEWEST};
 
 const LARGEST: Limits = Limits::LARGEST;
 
@@ -24,7 +24,8 @@ fn full(last_variable: u8, boxes: usize, levels: usize, more: usize) -> Vec<Term
 
 fn read_full(terms: &[Term]) -> (Result<u32, Refusal>, Vec<u32>) {
     let mut rows = vec![7; LARGEST.row_numbers()];
-    (read(LARGEST, &script(terms), &mut rows), rows)
+    let answer = read(LARGEST, NEWEST, &script(terms), &mut rows);
+    (answer.map(|read| read.terms), rows)
 }
 
 #[test]
@@ -35,7 +36,7 @@ fn a_script_at_every_limit_is_accepted_and_run() {
     assert_eq!(judge_rows(LARGEST, &rows), Ok(4096));
     assert_eq!(check(LARGEST, &rows), Ok(4096));
     let mut output = vec![0; 32_768];
-    let length = write(LARGEST, &rows, &mut output).expect("rows of a script");
+    let length = write(LARGEST, 1, &rows, &mut output).expect("rows of a script");
     assert_eq!(output[..length as usize], script(&terms));
     let mut store = vec![9; LARGEST.store_numbers()];
     assert_eq!(run(LARGEST, &rows, &READINGS, &mut store), ran(-1, 128));

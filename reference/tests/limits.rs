@@ -4,7 +4,7 @@ mod common;
 
 use common::*;
 use reference::form::{HEADER, MAX_BYTES};
-use reference::{check, judge_rows, read, run, run_unchecked, write, Limits, Refusal};
+use reference::{check, judge_rows, read, run, run_unchecked, write, Limits, Refusal, NEWEST};
 
 const SMALLEST: Limits = Limits {
     terms: 1,
@@ -25,13 +25,13 @@ fn set(terms: u32, variables: u32, boxes: u32, levels: u32) -> Limits {
 /// What is answered under a set by reading, and by judging the rows that the
 /// largest set gives, cut or filled up to the length of this one.
 fn both(limits: Limits, terms: &[Term]) -> [Result<u32, Refusal>; 2] {
-    let script = script(terms);
+    let script = script_of(NEWEST, terms);
     let mut rows = vec![7; limits.row_numbers()];
-    let answer = read(limits, &script, &mut rows);
+    let answer = read(limits, NEWEST, &script, &mut rows);
     let mut rows = vec![7; Limits::LARGEST.row_numbers()];
-    read(Limits::LARGEST, &script, &mut rows).expect("a script of the largest set");
+    read(Limits::LARGEST, NEWEST, &script, &mut rows).expect("a script of the largest set");
     rows.resize(limits.row_numbers(), 0);
-    [answer, judge_rows(limits, &rows)]
+    [answer.map(|read| read.terms), judge_rows(limits, &rows)]
 }
 
 fn place<T>(number: u32, places: [u32; 2]) -> [Result<T, Refusal>; 2] {
@@ -45,15 +45,17 @@ fn assert_outside(limits: Limits) {
     let long = vec![0; MAX_BYTES + 1];
     for length in [0, 1, 2560] {
         let mut rows = vec![9; length];
-        assert_eq!(read(limits, &long, &mut rows), refused(74, 0));
+        assert_eq!(read(limits, NEWEST, &long, &mut rows), refused(74, 0));
         assert_eq!(
-            read(limits, &script(&[number(1)]), &mut rows),
+            read(limits, NEWEST, &script(&[number(1)]), &mut rows),
             refused(74, 0)
         );
         assert_eq!(judge_rows(limits, &rows), refused(74, 0));
         assert_eq!(check(limits, &rows), refused(74, 0));
         let (mut output, mut store) = (vec![9; length], vec![9; length]);
-        assert_eq!(write(limits, &rows, &mut output), refused(74, 0));
+        for version in [0, 1, 2, 3] {
+            assert_eq!(write(limits, version, &rows, &mut output), refused(74, 0));
+        }
         for run in RUNS {
             assert_eq!(run(limits, &rows, &[], &mut store), refused(74, 0));
             assert_eq!(run(limits, &rows, &READINGS, &mut store), refused(74, 0));
@@ -93,7 +95,7 @@ fn the_ends_of_the_ranges_are_inside() {
                 let limits = set(terms, variables, boxes, levels);
                 assert!(limits.in_ranges());
                 let mut rows = vec![9; limits.row_numbers()];
-                assert_eq!(read(limits, &[], &mut rows), refused(12, 0));
+                assert_eq!(read(limits, NEWEST, &[], &mut rows), refused(12, 0));
                 let mut store = vec![9; limits.store_numbers()];
                 for run in RUNS {
                     let answer = run(limits, &rows, &READINGS, &mut store);
@@ -120,9 +122,10 @@ fn lengths_follow_from_the_set() {
         assert_eq!(store, 3 * (limits.variables + limits.boxes) as usize);
         for length in [0, right - 1, right + 1, 2 * right, 2560] {
             let mut rows = vec![0; length];
-            assert_eq!(read(limits, &[], &mut rows), refused(2, 0));
+            assert_eq!(read(limits, NEWEST, &[], &mut rows), refused(2, 0));
             assert_eq!(judge_rows(limits, &rows), refused(2, 0));
-            assert_eq!(write(limits, &rows, &mut []), refused(2, 0));
+            assert_eq!(write(limits, 1, &rows, &mut []), refused(2, 0));
+            assert_eq!(write(limits, 0, &rows, &mut []), refused(2, 0));
             assert_eq!(check(limits, &rows), refused(2, 0));
             for run in RUNS {
                 assert_eq!(run(limits, &rows, &[], &mut []), refused(2, 0));
@@ -152,19 +155,25 @@ fn variables_end_where_the_set_says() {
             let terms = [copy(place), mov(place), shared(place), exclusive(place)];
             let wrappers = [let_(variable, reading(7)), assign(place, reading(7))];
             let comparison = [below(place, (first, 8)), below((first, 8), place)];
-            [&terms[..], &wrappers, &comparison].concat()
+            let addition = [sum(place, (first, 8)), sum((first, 8), place)];
+            [&terms[..], &wrappers, &comparison, &addition].concat()
         };
         for (term, over) in of(last, 0).into_iter().zip(of(last + 1, 0)) {
             assert!(both(limits, &[term]).iter().all(Result::is_ok));
-            // The second place of the last comparison.
-            let offset = if over[0] == 0x0A && over[1] == 0 {
+            // The second place of the last comparison and the last sum.
+            let offset = if [0x0A, 0x0D].contains(&over[0]) && over[1] == 0 {
                 10
             } else {
                 8
             };
             let mut rows = vec![7; limits.row_numbers()];
             assert_eq!(
-                read(limits, &script(std::slice::from_ref(&over)), &mut rows),
+                read(
+                    limits,
+                    NEWEST,
+                    &script_of(2, std::slice::from_ref(&over)),
+                    &mut rows
+                ),
                 refused(14, offset)
             );
             if variables < 128 {
@@ -173,7 +182,7 @@ fn variables_end_where_the_set_says() {
         }
         let outside = [&HEADER[..], &[0x0B, 1, 0x03, 255, 0]].concat();
         let mut rows = vec![7; limits.row_numbers()];
-        assert_eq!(read(limits, &outside, &mut rows), refused(14, 8));
+        assert_eq!(read(limits, NEWEST, &outside, &mut rows), refused(14, 8));
         for field in [variables, 128, 256, 1 << 16, u32::MAX] {
             rows.fill(0);
             rows[..7].copy_from_slice(&[11, 1, 0, 0, 0, 8, field]);
@@ -191,8 +200,8 @@ fn follows_counts_and_readings_do_not_follow_the_set() {
         assert_eq!(both(limits, &vec![reading(0); 255]), [Ok(256); 2]);
         let mut rows = vec![7; limits.row_numbers()];
         let over = [script(&[copy((0, 9))]), script(&[reading(8)])];
-        assert_eq!(read(limits, &over[0], &mut rows), refused(14, 9));
-        assert_eq!(read(limits, &over[1], &mut rows), refused(14, 8));
+        assert_eq!(read(limits, NEWEST, &over[0], &mut rows), refused(14, 9));
+        assert_eq!(read(limits, NEWEST, &over[1], &mut rows), refused(14, 8));
     }
 }
 
@@ -266,16 +275,25 @@ fn sets_with_nothing_to_spare() {
 fn the_byte_limit_is_the_same_for_every_set() {
     for limits in [SMALLEST, Limits::BASE, Limits::LARGEST] {
         let mut rows = vec![9; limits.row_numbers()];
-        assert_eq!(read(limits, &[0; 32_769], &mut rows), refused(1, 0));
-        assert_eq!(read(limits, &[0; 32_769], &mut rows[1..]), refused(1, 0));
+        assert_eq!(read(limits, NEWEST, &[0; 32_769], &mut rows), refused(1, 0));
+        assert_eq!(
+            read(limits, NEWEST, &[0; 32_769], &mut rows[1..]),
+            refused(1, 0)
+        );
         assert_eq!(rows, vec![9; limits.row_numbers()]);
-        assert_eq!(read(limits, &[0; 32_768], &mut rows), refused(10, 0));
+        assert_eq!(
+            read(limits, NEWEST, &[0; 32_768], &mut rows),
+            refused(10, 0)
+        );
         assert_eq!(rows, vec![0; limits.row_numbers()]);
     }
     let mut long = script(&[reading(1)]);
     long.resize(32_768, 0);
     let mut rows = vec![9; Limits::LARGEST.row_numbers()];
-    assert_eq!(read(Limits::LARGEST, &long, &mut rows), refused(19, 9));
+    assert_eq!(
+        read(Limits::LARGEST, NEWEST, &long, &mut rows),
+        refused(19, 9)
+    );
 }
 
 #[test]
@@ -288,7 +306,7 @@ fn cells_come_after_the_variables_of_the_set() {
             copy((0, 2)),
         ];
         let mut rows = vec![7; limits.row_numbers()];
-        read(limits, &script(&terms), &mut rows).expect("a script");
+        read(limits, NEWEST, &script(&terms), &mut rows).expect("a script");
         let mut store = vec![9; limits.store_numbers()];
         let answer = run_unchecked(limits, &rows, &READINGS, &mut store);
         assert_eq!(answer, refused(61, 6));

@@ -49,3 +49,18 @@ fn answers_are_signed_and_cells_are_counted() {
         "accepted 6 call -2147483648 cells 2"
     );
 }
+
+#[test]
+fn the_newest_version_is_read() {
+    let terms = [let_(0, reading(0)), let_(1, number(5)), sum((0, 0), (1, 0))];
+    let with = |first, version| line([first, 0, 0, 0, 0, 0, 0, 0], &script_of(version, &terms));
+    assert_eq!(with(185, 2), "accepted 6 call 190 cells 0");
+    assert_eq!(with(i32::MAX, 2), "accepted 6 call 2147483647 cells 0");
+    assert_eq!(with(i32::MIN, 2), "accepted 6 call -2147483643 cells 0");
+    assert_eq!(with(185, 1), "refused 13 at 18");
+    assert_eq!(with(185, 3), "refused 11 at 3");
+    assert_eq!(with(185, 0), "refused 11 at 3");
+    assert_eq!(with(185, 258), "refused 11 at 3");
+    let wrong = script_of(2, &[let_(0, number(5)), sum((0, 0), (1, 0))]);
+    assert_eq!(line([0; 8], &wrong), "refused 31 at 3");
+}

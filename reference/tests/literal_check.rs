@@ -180,7 +180,7 @@ impl Judge<'_> {
         })
     }
 
-    fn compared(&self, place: Place) -> Result<(), u32> {
+    fn number_at(&self, place: Place) -> Result<(), u32> {
         self.readable(place)?;
         rule(self.chain_at(place).is_empty(), 39)
     }
@@ -231,9 +231,9 @@ impl Judge<'_> {
                 let value = self.term()?.ok_or(at(41))?;
                 self.assign(first, value).map(|()| None).map_err(at)
             }
-            10 => {
-                self.compared(first).map_err(at)?;
-                self.compared(second).map_err(at)?;
+            10 | 13 => {
+                self.number_at(first).map_err(at)?;
+                self.number_at(second).map_err(at)?;
                 Ok(Some(number))
             }
             _ => self.block(term, row[1]),

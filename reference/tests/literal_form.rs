@@ -1,22 +1,24 @@
 //! The form once more (LANGUAGE 2, 5.9 to 5.13), written for closeness to the
 //! text instead of speed: a recursive reader that knows nothing of rows, and a
-//! recursive judge of rows. Compared with the crate on generated input.
+//! recursive judge and writer of rows. Compared with the crate on generated input.
 
-use reference::{judge_rows, read, Generator, Limits};
+use reference::{judge_rows, read, write, Generator, Limits};
 
 type Refused = (u32, u32);
 
 /// What the terms of one script have in common while they are read.
 struct Counts {
     limits: Limits,
+    version: u32,
     terms: u32,
     boxes: u32,
 }
 
 impl Counts {
-    fn new(limits: Limits) -> Self {
+    fn new(limits: Limits, version: u32) -> Self {
         Counts {
             limits,
+            version,
             terms: 0,
             boxes: 0,
         }
@@ -35,8 +37,8 @@ trait Source {
 const ANY: (u32, u32) = (0, u32::MAX);
 const FOLLOWS: (u32, u32) = (0, 8);
 
-/// The ranges of the operands of each known kind.
-fn ranges(limits: Limits, kind: u32) -> Option<Vec<(u32, u32)>> {
+/// The ranges of the operands of each kind that a version has.
+fn ranges(limits: Limits, version: u32, kind: u32) -> Option<Vec<(u32, u32)>> {
     let variable = (0, limits.variables - 1);
     Some(match kind {
         1 => vec![ANY],
@@ -46,6 +48,7 @@ fn ranges(limits: Limits, kind: u32) -> Option<Vec<(u32, u32)>> {
         8 => vec![variable],
         10 => vec![variable, FOLLOWS, variable, FOLLOWS],
         11 => vec![(1, 255)],
+        13 if version == 2 => vec![variable, FOLLOWS, variable, FOLLOWS],
         _ => return None,
     })
 }
@@ -58,7 +61,7 @@ fn term(
 ) -> Result<(), Refused> {
     let kind = source.kind()?;
     let place = source.place();
-    let ranges = ranges(counts.limits, kind).ok_or((13, place))?;
+    let ranges = ranges(counts.limits, counts.version, kind).ok_or((13, place))?;
     if level == 1 && kind != 11 {
         return Err((18, place));
     }
@@ -135,8 +138,12 @@ impl Source for Bytes<'_> {
     }
 }
 
-/// The answer and the rows, or the refusal.
-fn literal_read(limits: Limits, script: &[u8]) -> Result<(u32, Vec<u32>), Refused> {
+/// Version, number of terms and rows, or the refusal.
+fn literal_read(
+    limits: Limits,
+    newest: u32,
+    script: &[u8],
+) -> Result<(u32, u32, Vec<u32>), Refused> {
     if script.len() > 32_768 {
         return Err((1, 0));
     }
@@ -146,18 +153,18 @@ fn literal_read(limits: Limits, script: &[u8]) -> Result<(u32, Vec<u32>), Refuse
             return Err((10, offset as u32));
         }
     }
-    let version = [bytes.next()?, bytes.next()?];
-    if u16::from_be_bytes(version) != 1 {
+    let version = bytes.next()? as u32 * 256 + bytes.next()? as u32;
+    if version == 0 || version > 2 || version > newest {
         return Err((11, 3));
     }
-    let mut counts = Counts::new(limits);
+    let mut counts = Counts::new(limits, version);
     let mut terms = Vec::new();
     term(&mut bytes, &mut counts, 1, &mut terms)?;
     if bytes.offset < script.len() {
         return Err((19, bytes.offset as u32));
     }
     terms.resize(5 * limits.terms as usize, 0);
-    Ok((counts.terms, terms))
+    Ok((version, counts.terms, terms))
 }
 
 struct Rows<'a> {
@@ -190,7 +197,8 @@ impl Source for Rows<'_> {
     }
 }
 
-fn literal_judge(limits: Limits, rows: &[u32]) -> Result<u32, Refused> {
+/// The number of terms, by the kinds of a version.
+fn literal_judge(limits: Limits, version: u32, rows: &[u32]) -> Result<u32, Refused> {
     if rows.len() != 5 * limits.terms as usize {
         return Err((2, 0));
     }
@@ -198,7 +206,7 @@ fn literal_judge(limits: Limits, rows: &[u32]) -> Result<u32, Refused> {
         rows: rows.chunks(5).collect(),
         next: 0,
     };
-    let mut counts = Counts::new(limits);
+    let mut counts = Counts::new(limits, version);
     term(&mut source, &mut counts, 1, &mut Vec::new())?;
     for row in counts.terms..limits.terms {
         if source.rows[row as usize].iter().any(|field| *field != 0) {
@@ -208,24 +216,53 @@ fn literal_judge(limits: Limits, rows: &[u32]) -> Result<u32, Refused> {
     Ok(counts.terms)
 }
 
+/// The bytes, if there is room for so many.
+fn literal_write(
+    limits: Limits,
+    version: u32,
+    rows: &[u32],
+    room: usize,
+) -> Result<Vec<u8>, Refused> {
+    if rows.len() != 5 * limits.terms as usize {
+        return Err((2, 0));
+    }
+    if version != 1 && version != 2 {
+        return Err((11, 0));
+    }
+    let terms = literal_judge(limits, version, rows)?;
+    let mut bytes = vec![0x52, 0x43, 0x53, 0, version as u8];
+    for row in rows.chunks(5).take(terms as usize) {
+        bytes.push(row[0] as u8);
+        let ranges = ranges(limits, version, row[0]).expect("a known kind");
+        for (operand, range) in row[1..].iter().zip(ranges) {
+            let operand = operand.to_be_bytes();
+            let from = if range == ANY { 0 } else { 3 };
+            bytes.extend(&operand[from..]);
+        }
+    }
+    if bytes.len() > room {
+        return Err((5, 0));
+    }
+    Ok(bytes)
+}
+
 fn readers_agree(seed: u64, limits: Limits, count: usize) {
     let mut generator = Generator::with_limits(seed, limits);
     let (mut script, mut rows) = (Vec::new(), vec![7; limits.row_numbers()]);
     for _ in 0..count {
         generator.script(&mut script);
-        let answer = read(limits, &script, &mut rows);
-        let answer = answer.map_err(|refusal| (refusal.number, refusal.place));
-        let literal = literal_read(limits, &script);
-        assert_eq!(
-            answer,
-            literal
-                .as_ref()
-                .map(|read| read.0)
-                .map_err(|refused| *refused)
-        );
-        if let Ok((_, terms)) = literal {
-            assert_eq!(rows, terms);
-        }
+        let newest = generator.newest();
+        rows.fill(7);
+        let answer = read(limits, newest, &script, &mut rows)
+            .map(|read| (read.version, read.terms, rows.clone()))
+            .map_err(|refusal| (refusal.number, refusal.place));
+        assert_eq!(answer, literal_read(limits, newest, &script));
+        let left = match answer {
+            Ok(_) => continue,
+            Err((1, 0)) => 7,
+            Err(_) => 0,
+        };
+        assert!(rows.iter().all(|field| *field == left));
     }
 }
 
@@ -236,7 +273,30 @@ fn judges_agree(seed: u64, limits: Limits, count: usize) {
         generator.rows_any_length(&mut rows);
         let answer = judge_rows(limits, &rows);
         let answer = answer.map_err(|refusal| (refusal.number, refusal.place));
-        assert_eq!(answer, literal_judge(limits, &rows));
+        assert_eq!(answer, literal_judge(limits, 2, &rows));
+    }
+}
+
+fn writers_agree(seed: u64, limits: Limits, count: usize) {
+    let mut generator = Generator::with_limits(seed, limits);
+    let mut rows = Vec::new();
+    for number in 0..count {
+        generator.rows_any_length(&mut rows);
+        let version = generator.version();
+        // Every third output may be too short.
+        let room = if number % 3 == 0 {
+            number % 200
+        } else {
+            32_768
+        };
+        let mut output = vec![0xA5; room];
+        let answer = write(limits, version, &rows, &mut output);
+        let literal = literal_write(limits, version, &rows, room);
+        let mut due = literal.clone().unwrap_or_default();
+        due.resize(room, 0xA5);
+        assert_eq!(output, due);
+        let answer = answer.map_err(|refusal| (refusal.number, refusal.place));
+        assert_eq!(answer, literal.map(|bytes| bytes.len() as u32));
     }
 }
 
@@ -253,11 +313,18 @@ fn the_row_judge_agrees() {
 }
 
 #[test]
-fn both_agree_under_any_set() {
+fn the_writer_agrees() {
+    writers_agree(14, Limits::BASE, 30_000);
+    writers_agree(14, Limits::LARGEST, 3_000);
+}
+
+#[test]
+fn all_agree_under_any_set() {
     let mut sets = Generator::new(13);
     for seed in 0..200 {
         let limits = sets.limits_within();
         readers_agree(seed, limits, 100);
         judges_agree(seed, limits, 100);
+        writers_agree(seed, limits, 100);
     }
 }

@@ -4,7 +4,7 @@
 mod common;
 
 use common::levels;
-use reference::{check, judge_rows, read, run_unchecked, Generator, Limits, Refusal};
+use reference::{check, judge_rows, read, run_unchecked, Generator, Limits, Refusal, NEWEST};
 use std::collections::{BTreeMap, BTreeSet};
 
 fn set(terms: u32, variables: u32, boxes: u32, levels: u32) -> Limits {
@@ -41,7 +41,7 @@ fn form(limits: Limits, sample: usize) -> [Counts; 2] {
     let mut lent = vec![0; limits.row_numbers()];
     for _ in 0..sample {
         generator.script(&mut script);
-        counts[0].count(read(limits, &script, &mut lent));
+        counts[0].count(read(limits, NEWEST, &script, &mut lent));
         generator.rows_any_length(&mut rows);
         counts[1].count(judge_rows(limits, &rows));
     }

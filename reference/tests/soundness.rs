@@ -5,7 +5,7 @@
 mod common;
 
 use common::{tidy, LIMITS, ROWS_LEN, STORE_LEN};
-use reference::{check, read, roomcheck, run_unchecked, Generator, Ran};
+use reference::{check, read, roomcheck, run_unchecked, Generator, Ran, NEWEST};
 use std::collections::BTreeMap;
 
 const SAMPLE: usize = 20_000;
@@ -86,7 +86,8 @@ fn lines_say_what_the_layers_answer() {
         };
         let number = |bytes: &[u8]| i32::from_be_bytes(bytes.try_into().unwrap());
         let readings: Vec<i32> = readings.chunks(4).map(number).collect();
-        let expected = match read(LIMITS, script, &mut rows).and_then(|_| check(LIMITS, &rows)) {
+        let read = read(LIMITS, NEWEST, script, &mut rows);
+        let expected = match read.and_then(|_| check(LIMITS, &rows)) {
             Ok(terms) => {
                 let ran = assert_tidy_run(&rows, &readings);
                 format!("accepted {terms} call {} cells {}", ran.answer, ran.cells)

@@ -13,6 +13,7 @@ pub const LET: u32 = 0x08;
 pub const ASSIGN: u32 = 0x09;
 pub const BELOW: u32 = 0x0A;
 pub const BLOCK: u32 = 0x0B;
+pub const SUM: u32 = 0x0D;
 
 /// The largest reading index.
 pub const MAX_READING: u32 = 7;
@@ -68,10 +69,12 @@ pub(super) static LAYOUTS: [Layout; KINDS] = [
     layout(3, 1),
     layout(5, 0),
     layout(2, 0),
+    layout(0, 0), // no kind
+    layout(5, 0),
 ];
 
-/// The kinds, and 0, which is none.
-const KINDS: usize = 12;
+/// One more than the last kind. 0 and 0C are none.
+const KINDS: usize = SUM as usize + 1;
 
 /// The ranges of one kind's operands.
 #[derive(Clone, Copy)]
@@ -92,6 +95,7 @@ const fn range(least: u32, most: [u32; 4]) -> Range {
 const fn ranges(variables: u32) -> Ranges {
     let last = variables - 1;
     let place = range(0, [last, MAX_FOLLOWS, 0, 0]);
+    let two_places = range(0, [last, MAX_FOLLOWS, last, MAX_FOLLOWS]);
     [
         range(0, [0; 4]), // no kind
         range(0, [u32::MAX, 0, 0, 0]),
@@ -103,8 +107,10 @@ const fn ranges(variables: u32) -> Ranges {
         range(0, [0; 4]),
         range(0, [last, 0, 0, 0]),
         place,
-        range(0, [last, MAX_FOLLOWS, last, MAX_FOLLOWS]),
+        two_places,
         range(1, [MAX_COUNT, 0, 0, 0]),
+        range(0, [0; 4]), // no kind
+        two_places,
     ]
 }
 

@@ -3,11 +3,13 @@
 //! the next one still wait for inner terms. Reader and row judge share it.
 
 use super::kind;
+use super::version::Kinds;
 use crate::limits::Limits;
 use crate::refusal::{NO_BLOCK, TOO_DEEP, TOO_MANY_BOXES, TOO_MANY_TERMS, UNKNOWN_KIND};
 
 pub(super) struct Outline {
     limits: Limits,
+    kinds: Kinds,
     pub(super) terms: usize,
     boxes: u32,
     /// How many terms are open around the next one.
@@ -17,9 +19,11 @@ pub(super) struct Outline {
 }
 
 impl Outline {
-    pub(super) fn new(limits: Limits) -> Self {
+    /// Of a script of a version that there is.
+    pub(super) fn new(limits: Limits, version: u32) -> Self {
         Outline {
             limits,
+            kinds: Kinds::of(version),
             terms: 0,
             boxes: 0,
             depth: 0,
@@ -32,7 +36,7 @@ impl Outline {
     /// place.
     #[inline(always)]
     pub(super) fn begin(&mut self, kind: u32) -> Result<(), u32> {
-        if !(kind::NUMBER..=kind::BLOCK).contains(&kind) {
+        if !self.kinds.has(kind) {
             return Err(UNKNOWN_KIND);
         }
         if self.terms == 0 && kind != kind::BLOCK {

@@ -2,14 +2,27 @@
 
 use super::kind::{is_in_range, ranges_of, Layout, Ranges, LAYOUTS};
 use super::outline::Outline;
+use super::version::is_known;
 use super::*;
 use crate::limits::Limits;
 use crate::refusal::*;
 
-/// Reads a script into term rows and answers the number of terms. A refusal
-/// by the bytes (10 to 19) leaves all rows 0, one by the caller (74, 1, 2)
-/// leaves them as they were.
-pub fn read(limits: Limits, script: &[u8], rows: &mut [u32]) -> Result<u32, Refusal> {
+/// What reading tells of a script beside its rows.
+#[derive(Clone, Copy, Debug, PartialEq, Eq)]
+pub struct Script {
+    pub version: u32,
+    pub terms: u32,
+}
+
+/// Reads a script into term rows. The reader knows the versions from 1 to
+/// `newest`, as far as there are any. A refusal by the bytes (10 to 19) leaves
+/// all rows 0, one by the caller (74, 1, 2) leaves them as they were.
+pub fn read(
+    limits: Limits,
+    newest: u32,
+    script: &[u8],
+    rows: &mut [u32],
+) -> Result<Script, Refusal> {
     limits.judge()?;
     if script.len() > MAX_BYTES {
         return Err(Refusal::by_caller(SCRIPT_TOO_LONG));
@@ -18,32 +31,34 @@ pub fn read(limits: Limits, script: &[u8], rows: &mut [u32]) -> Result<u32, Refu
         return Err(Refusal::by_caller(ROWS_LENGTH));
     }
     let (rows, _) = rows.as_chunks_mut();
-    let answer = header(script).and_then(|()| terms(limits, script, rows));
+    let answer = version(newest, script).and_then(|version| {
+        let terms = terms(limits, version, script, rows)?;
+        Ok(Script { version, terms })
+    });
     // Rows of terms that were read are written whole, so after success only
     // the unused ones need clearing.
-    let kept = answer.map_or(0, |terms| terms as usize);
+    let kept = answer.map_or(0, |read| read.terms as usize);
     rows[kept..].as_flattened_mut().fill(0);
     answer
 }
 
 /// The mark byte by byte, then the version once both its bytes are there.
-fn header(script: &[u8]) -> Result<(), Refusal> {
-    if script.starts_with(&HEADER) {
-        return Ok(());
-    }
+fn version(newest: u32, script: &[u8]) -> Result<u32, Refusal> {
     for (offset, expected) in HEADER[..3].iter().enumerate() {
         if byte(script, offset)? != *expected {
             return Err(Refusal::new(MARK, offset));
         }
     }
-    byte(script, 3)?;
-    byte(script, 4)?;
-    Err(Refusal::new(VERSION, 3))
+    let version = u16::from_be_bytes([byte(script, 3)?, byte(script, 4)?]) as u32;
+    if !is_known(newest, version) {
+        return Err(Refusal::new(VERSION, 3));
+    }
+    Ok(version)
 }
 
 /// The terms from the outermost block on, and nothing after it.
-fn terms(limits: Limits, script: &[u8], rows: &mut [Row]) -> Result<u32, Refusal> {
-    let mut outline = Outline::new(limits);
+fn terms(limits: Limits, version: u32, script: &[u8], rows: &mut [Row]) -> Result<u32, Refusal> {
+    let mut outline = Outline::new(limits, version);
     let ranges = ranges_of(limits);
     let mut offset = HEADER.len();
     loop {
@@ -101,7 +116,7 @@ fn term(variables: u32, script: &[u8], offset: usize, kind: u32) -> Result<Row, 
         READING => [kind, operand(1, 0, MAX_READING)?, 0, 0, 0],
         BOX => [kind, 0, 0, 0, 0],
         LET => [kind, variable(1)?, 0, 0, 0],
-        BELOW => [kind, variable(1)?, follows(2)?, variable(3)?, follows(4)?],
+        BELOW | SUM => [kind, variable(1)?, follows(2)?, variable(3)?, follows(4)?],
         BLOCK => [kind, operand(1, 1, MAX_COUNT)?, 0, 0, 0],
         // Copy, move, both borrows and assign: one place.
         _ => [kind, variable(1)?, follows(2)?, 0, 0],

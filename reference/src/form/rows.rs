@@ -14,17 +14,19 @@ pub(crate) struct Judged {
     pub(crate) bytes: usize,
 }
 
-/// Judges term rows by 74, 2, then 12 to 19, and answers the number of terms.
+/// Judges term rows of any version by 74, 2, then 12 to 19, and answers the
+/// number of terms.
 /// Number 16 cannot occur: after as many rows as there may be terms the rows
 /// are used up, which is 12.
 pub fn judge_rows(limits: Limits, rows: &[u32]) -> Result<u32, Refusal> {
     let rows = lent_rows(limits, rows)?;
-    judge_all(limits, rows).map(|judged| judged.terms as u32)
+    judge_all(limits, NEWEST, rows).map(|judged| judged.terms as u32)
 }
 
-/// Judges rows whose number is right under a set that is in the ranges.
-pub(crate) fn judge_all(limits: Limits, rows: &[Row]) -> Result<Judged, Refusal> {
-    let mut outline = Outline::new(limits);
+/// Judges rows whose number is right under a set that is in the ranges, by the
+/// kinds of a version that there is. The newest has every kind.
+pub(crate) fn judge_all(limits: Limits, version: u32, rows: &[Row]) -> Result<Judged, Refusal> {
+    let mut outline = Outline::new(limits, version);
     let ranges = ranges_of(limits);
     let mut bytes = HEADER.len();
     loop {

@@ -1,20 +1,31 @@
 //! From term rows to script bytes (LANGUAGE 6.4).
 
 use super::kind::LAYOUTS;
+use super::version::is_known;
 use super::*;
 use crate::limits::Limits;
 use crate::refusal::*;
 
-/// Writes the script that the rows describe and answers its length. Every
-/// refusal leaves the output as it was; bytes past the script stay.
-pub fn write(limits: Limits, rows: &[u32], output: &mut [u8]) -> Result<u32, Refusal> {
+/// Writes the script of a version that the rows describe and answers its
+/// length. The order is 74, 2, 11 for a version that there is not, then 12 to
+/// 19, then 5. Every refusal leaves the output as it was; bytes past the script
+/// stay.
+pub fn write(
+    limits: Limits,
+    version: u32,
+    rows: &[u32],
+    output: &mut [u8],
+) -> Result<u32, Refusal> {
     let rows = lent_rows(limits, rows)?;
-    let judged = judge_all(limits, rows)?;
+    if !is_known(NEWEST, version) {
+        return Err(Refusal::by_caller(VERSION));
+    }
+    let judged = judge_all(limits, version, rows)?;
     let Some(script) = output.get_mut(..judged.bytes) else {
         return Err(Refusal::by_caller(OUTPUT_SHORT));
     };
-    let (header, mut rest) = script.split_at_mut(HEADER.len());
-    header.copy_from_slice(&HEADER);
+    let (first, mut rest) = script.split_at_mut(HEADER.len());
+    first.copy_from_slice(&header(version));
     for row in &rows[..judged.terms] {
         rest = term(row, rest);
     }

@@ -18,6 +18,8 @@ pub(super) struct Author<'a> {
     pub(super) terms: &'a mut Vec<Row>,
     pub(super) environment: State,
     pub(super) habits: Habits,
+    /// The version whose kinds are used.
+    pub(super) version: u32,
     /// How many variables there are.
     pub(super) variables: u32,
     /// Box terms that may still be written.
@@ -171,15 +173,17 @@ impl Author<'_> {
         Some(Value::NUMBER)
     }
 
-    fn below(&mut self) -> Written {
+    /// A below or a sum.
+    fn of_two_places(&mut self) -> Written {
         let first = self.place_like(Chain::NUMBER)?;
         let second = self.place_like(Chain::NUMBER)?;
         for place in [first, second] {
-            if self.environment.compared(place).is_err() && !self.careless() {
+            if self.environment.number_at(place).is_err() && !self.careless() {
                 return None;
             }
         }
-        let mut row = row_at(BELOW, first);
+        let kind = operands::of_two_places(self.random, self.version);
+        let mut row = row_at(kind, first);
         row[3..].copy_from_slice(&[second.root as u32, second.follows as u32]);
         self.push(row)?;
         Some(Value::NUMBER)
@@ -196,11 +200,11 @@ impl Author<'_> {
             return self.block(levels, NARROW.min(self.habits.widest), None);
         }
         let kind = match choice {
-            0..=22 => return self.number(),
-            23..=26 => return self.below(),
-            27..=42 => COPY,
-            43..=58 => MOVE,
-            59..=80 => SHARED,
+            0..=21 => return self.number(),
+            22..=29 => return self.of_two_places(),
+            30..=44 => COPY,
+            45..=59 => MOVE,
+            60..=81 => SHARED,
             _ => EXCLUSIVE,
         };
         match self.place() {
@@ -216,9 +220,9 @@ impl Author<'_> {
             return self.block(levels, NARROW.min(self.habits.widest), Some(chain));
         }
         if chain.is_number() {
-            return match self.random.below(8) {
-                0 | 1 => self.below(),
-                2..=5 => self.moved_or_copied(chain),
+            return match self.random.below(9) {
+                0..=2 => self.of_two_places(),
+                3..=6 => self.moved_or_copied(chain),
                 _ => self.number(),
             };
         }

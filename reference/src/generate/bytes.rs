@@ -3,9 +3,9 @@
 
 use crate::form::*;
 
-pub(super) fn write_unjudged(terms: &[Row], out: &mut Vec<u8>) {
+pub(super) fn write_unjudged(version: u32, terms: &[Row], out: &mut Vec<u8>) {
     out.clear();
-    out.extend(HEADER);
+    out.extend(header(version));
     for row in terms {
         let [kind, a, b, c, d] = row.map(|field| field as u8);
         match row[0] {
@@ -15,7 +15,7 @@ pub(super) fn write_unjudged(terms: &[Row], out: &mut Vec<u8>) {
             }
             BOX => out.push(kind),
             READING | LET | BLOCK => out.extend([kind, a]),
-            BELOW => out.extend([kind, a, b, c, d]),
+            BELOW | SUM => out.extend([kind, a, b, c, d]),
             _ => out.extend([kind, a, b]),
         }
     }

@@ -5,14 +5,15 @@ use crate::form::*;
 use crate::limits::Limits;
 use crate::random::Random;
 
-/// Makes one edit. Where the chosen edit is not possible nothing changes.
-pub(super) fn edit(random: &mut Random, limits: Limits, terms: &mut Vec<Row>) {
+/// Makes one edit, with the kinds of a version. Where the chosen edit is not
+/// possible nothing changes.
+pub(super) fn edit(random: &mut Random, limits: Limits, version: u32, terms: &mut Vec<Row>) {
     let variables = limits.variables;
     let at = random.index(terms.len());
     match random.below(16) {
         0..=5 => change_operand(random, variables, terms, at),
-        6..=11 => change_kind(random, &mut terms[at..]),
-        12 => replace_leaf(random, variables, &mut terms[at]),
+        6..=11 => change_kind(random, version, &mut terms[at..]),
+        12 => replace_leaf(random, (variables, version), &mut terms[at]),
         13 => remove_statement(random, terms),
         14 => repeat_statement(random, limits, terms),
         _ => swap_statements(random, terms),
@@ -20,7 +21,7 @@ pub(super) fn edit(random: &mut Random, limits: Limits, terms: &mut Vec<Row>) {
 }
 
 fn has_place(kind: u32) -> bool {
-    matches!(kind, COPY..=EXCLUSIVE | ASSIGN | BELOW)
+    matches!(kind, COPY..=EXCLUSIVE | ASSIGN | BELOW | SUM)
 }
 
 /// Another variable, mostly one that the script uses, or another number of
@@ -35,7 +36,7 @@ fn change_operand(random: &mut Random, variables: u32, terms: &mut [Row], at: us
         operands::variable(random, variables)
     };
     let row = &mut terms[at];
-    let first = if row[0] == BELOW {
+    let first = if matches!(row[0], BELOW | SUM) {
         random.pick(&[1, 3])
     } else {
         1
@@ -54,17 +55,21 @@ fn change_operand(random: &mut Random, variables: u32, terms: &mut [Row], at: us
     }
 }
 
-/// Another use of the same place, for the first term that uses one.
-fn change_kind(random: &mut Random, terms: &mut [Row]) {
-    let uses_place = |row: &&mut Row| (COPY..=EXCLUSIVE).contains(&row[0]);
+/// Another use of the same place or places, for the first term that has any
+/// but does not write there.
+fn change_kind(random: &mut Random, version: u32, terms: &mut [Row]) {
+    let uses_place = |row: &&mut Row| has_place(row[0]) && row[0] != ASSIGN;
     if let Some(row) = terms.iter_mut().find(uses_place) {
-        row[0] = random.between(COPY, EXCLUSIVE);
+        row[0] = match row[0] {
+            BELOW | SUM => operands::of_two_places(random, version),
+            _ => random.between(COPY, EXCLUSIVE),
+        };
     }
 }
 
-fn replace_leaf(random: &mut Random, variables: u32, row: &mut Row) {
+fn replace_leaf(random: &mut Random, (variables, version): (u32, u32), row: &mut Row) {
     if inner_terms(row) == 0 {
-        *row = operands::leaf(random, variables);
+        *row = operands::leaf(random, variables, version);
     }
 }
 

@@ -13,6 +13,7 @@ mod rows;
 mod scripts;
 mod shape;
 mod statements;
+mod versions;
 
 use crate::form::Row;
 use crate::limits::Limits;

@@ -4,12 +4,21 @@
 use crate::form::*;
 use crate::random::Random;
 
-const NUMBERS: [i32; 8] = [0, 1, -1, 2, 7, i32::MIN, i32::MAX, -185];
+const NUMBERS: [i32; 9] = [0, 1, -1, 2, 7, -185, HALF, HALF - 1, -HALF];
+
+/// Twice this is just over the upper end, and with one less for one of them
+/// exactly at it. Twice its negative is exactly at the lower end.
+const HALF: i32 = 1 << 30;
+
+/// The ends of the range of a number and what is next to them, so that sums
+/// are held to both, or just are not.
+const ENDS: [i32; 4] = [i32::MIN, i32::MIN + 1, i32::MAX - 1, i32::MAX];
 
 pub(super) fn number(random: &mut Random) -> u32 {
-    match random.below(4) {
+    match random.below(8) {
         0 => random.bits() as u32,
-        1 => random.below(300),
+        1 | 2 => random.below(300),
+        3..=5 => random.pick(&ENDS) as u32,
         _ => random.pick(&NUMBERS) as u32,
     }
 }
@@ -37,15 +46,25 @@ pub(super) fn place(random: &mut Random, variables: u32) -> [u32; 2] {
     [variable(random, variables), follows(random)]
 }
 
-/// A term without inner terms.
-pub(super) fn leaf(random: &mut Random, variables: u32) -> Row {
-    match random.between(1, 7) {
+/// A below, or a sum if the version has it.
+pub(super) fn of_two_places(random: &mut Random, version: u32) -> u32 {
+    if version > 1 && random.percent(60) {
+        SUM
+    } else {
+        BELOW
+    }
+}
+
+/// A term without inner terms, of a kind that the version has.
+pub(super) fn leaf(random: &mut Random, variables: u32, version: u32) -> Row {
+    match random.between(1, 8) {
         NUMBER => [NUMBER, number(random), 0, 0, 0],
         READING => [READING, random.below(MAX_READING + 1), 0, 0, 0],
-        7 => {
+        7 | 8 => {
+            let kind = of_two_places(random, version);
             let [a, b] = place(random, variables);
             let [c, d] = place(random, variables);
-            [BELOW, a, b, c, d]
+            [kind, a, b, c, d]
         }
         kind => {
             let [root, follows] = place(random, variables);

@@ -3,9 +3,11 @@
 use super::author::{Author, Habits, State};
 use super::bytes::write_unjudged;
 use super::edits;
+use super::operands;
 use super::plan::MIDDLING;
 use super::rows::flatten;
 use super::statements::NARROW;
+use super::versions;
 use super::Generator;
 use crate::form::MAX_COUNT;
 use crate::random::Random;
@@ -29,20 +31,24 @@ fn full(random: &mut Random, habits: Habits, terms: usize) -> Habits {
 }
 
 impl Generator {
-    /// Writes terms by an author who is careless so often in a hundred times.
-    fn author(&mut self, careless: u32) {
+    /// Writes terms by an author who is careless so often in a hundred times,
+    /// and answers the version whose kinds they have.
+    fn author(&mut self, careless: u32) -> u32 {
         let habits = self.habits(careless);
+        let version = versions::of_terms(&mut self.random);
         Author {
             random: &mut self.random,
             terms: &mut self.terms,
             environment: State::new(),
             habits,
+            version,
             variables: self.limits.variables,
             boxes: self.limits.boxes,
             owed: 0,
             given_up: 0,
         }
         .script(self.limits.levels);
+        version
     }
 
     /// Few statements most often, seldom as many terms as there may be, seldom
@@ -85,17 +91,21 @@ impl Generator {
     }
 
     fn near_miss(&mut self) {
-        self.author(0);
-        for _ in 0..self.random.between(1, 2) {
-            edits::edit(&mut self.random, self.limits, &mut self.terms);
-        }
+        let version = self.author(0);
+        let times = self.random.between(1, 2);
+        self.edit(version, times);
     }
 
     fn wild(&mut self) {
         let careless = self.random.pick(&[3, 15, 50, 100]);
-        self.author(careless);
-        for _ in 0..self.random.below(3) {
-            edits::edit(&mut self.random, self.limits, &mut self.terms);
+        let version = self.author(careless);
+        let times = self.random.below(3);
+        self.edit(version, times);
+    }
+
+    fn edit(&mut self, version: u32, times: u32) {
+        for _ in 0..times {
+            edits::edit(&mut self.random, self.limits, version, &mut self.terms);
         }
     }
 
@@ -128,17 +138,20 @@ impl Generator {
         }
     }
 
-    /// Eight readings, ordinary or at the ends of their range.
+    /// Eight readings, ordinary ones, or often at the ends of their range and
+    /// near them, so that sums of them are held to the ends.
     pub fn readings(&mut self) -> [i32; 8] {
         let random = &mut self.random;
-        [(); 8].map(|()| match random.below(6) {
+        let ordinary = random.pick(&[1, 5]);
+        [(); 8].map(|()| match random.below(ordinary + 2) {
             0 => random.bits() as i32,
-            1 => random.pick(&[0, 1, -1, i32::MIN, i32::MAX]),
+            1 => operands::number(random) as i32,
             _ => random.below(400) as i32,
         })
     }
 
-    /// A standard input of the program: readings, then a script.
+    /// A standard input of the program: readings, then a script. Mostly the
+    /// kinds of its terms are those of its version.
     pub fn input(&mut self, out: &mut Vec<u8>) {
         match self.random.below(100) {
             0..=39 => self.accepted(),
@@ -149,7 +162,8 @@ impl Generator {
         if self.terms.is_empty() {
             self.script(out);
         } else {
-            write_unjudged(&self.terms, out);
+            let version = self.any_version();
+            write_unjudged(version, &self.terms, out);
         }
         let readings = self.readings().map(i32::to_be_bytes);
         out.splice(0..0, readings.into_iter().flatten());

@@ -1,36 +1,22 @@
 //! Term rows that no reader made: valid ones, changed ones, random ones.
 
 use super::operands;
-use super::plan::{plan_beyond, plan_within};
-use super::shape::tree;
 use super::Generator;
 use crate::form::*;
 use crate::limits::Limits;
 use crate::random::Random;
 
 impl Generator {
-    /// Rows that the reader could have made.
+    /// Rows that the reader could have made, with sums or without.
     pub fn valid_rows(&mut self, out: &mut Vec<u32>) {
-        let plan = plan_within(&mut self.random, self.limits);
-        tree(
-            &mut self.random,
-            self.limits.variables,
-            plan,
-            &mut self.terms,
-        );
+        self.valid_terms();
         flatten(self.limits, &self.terms, out);
     }
 
     /// Rows just beyond one of the limits, seldom within it. A term too many
     /// finds no row.
     pub fn rows_beyond(&mut self, out: &mut Vec<u32>) {
-        let plan = plan_beyond(&mut self.random, self.limits);
-        tree(
-            &mut self.random,
-            self.limits.variables,
-            plan,
-            &mut self.terms,
-        );
+        self.terms_beyond();
         flatten(self.limits, &self.terms, out);
     }
 
@@ -85,10 +71,10 @@ pub(super) fn flatten(limits: Limits, terms: &[Row], out: &mut Vec<u32>) {
 fn field(random: &mut Random, variables: u32) -> u32 {
     match random.below(8) {
         0 => random.bits() as u32,
-        1 => random.below(13) << random.pick(&[8, 16, 24]),
-        2 => random.between(1, 11) + random.pick(&[0x100, 0x1_0000, 0x8000_0000]),
-        3 | 4 => random.pick(&[0, 1, 7, 8, 9, 12, variables - 1, variables, 255, 256]),
-        _ => random.below(13),
+        1 => random.below(15) << random.pick(&[8, 16, 24]),
+        2 => random.between(1, 13) + random.pick(&[0x100, 0x1_0000, 0x8000_0000]),
+        3 | 4 => random.pick(&[0, 1, 7, 8, 9, 14, variables - 1, variables, 255, 256]),
+        _ => random.below(15),
     }
 }
 
@@ -138,7 +124,7 @@ fn likely_row(random: &mut Random, variables: u32) -> Row {
             [ASSIGN, root, follows, 0, 0]
         }
         3 => [BLOCK, random.between(1, 4), 0, 0, 0],
-        _ => operands::leaf(random, variables),
+        _ => operands::leaf(random, variables, NEWEST),
     }
 }
 
@@ -156,7 +142,7 @@ fn likely(random: &mut Random, variables: u32, out: &mut [u32]) {
 fn small(random: &mut Random, length: usize, out: &mut [u32]) {
     out.fill(0);
     for field in &mut out[..length] {
-        *field = random.below(13);
+        *field = random.below(15);
     }
     if random.percent(70) {
         out[..FIELDS].copy_from_slice(&[BLOCK, random.between(1, 4), 0, 0, 0]);

@@ -1,44 +1,36 @@
 //! Scripts for the reader: valid ones, damaged ones and ones beyond a limit.
 
 use super::bytes::write_unjudged;
-use super::plan::{plan_beyond, plan_within};
-use super::shape::tree;
 use super::Generator;
 use crate::form::*;
 use crate::random::Random;
 
 impl Generator {
-    /// A script that the reader accepts.
+    /// A script that the reader accepts, with the kinds of its version. Every
+    /// one with a sum is of version 2, the others of either.
     pub fn valid_script(&mut self, out: &mut Vec<u8>) {
-        let plan = plan_within(&mut self.random, self.limits);
-        tree(
-            &mut self.random,
-            self.limits.variables,
-            plan,
-            &mut self.terms,
-        );
-        write_unjudged(&self.terms, out);
+        self.valid_terms();
+        let version = self.version_of_terms();
+        write_unjudged(version, &self.terms, out);
     }
 
-    /// A script just beyond one of the limits, seldom within it.
+    /// A script just beyond one of the limits, seldom within it, with the kinds
+    /// of its version.
     pub fn script_beyond(&mut self, out: &mut Vec<u8>) {
-        let plan = plan_beyond(&mut self.random, self.limits);
-        tree(
-            &mut self.random,
-            self.limits.variables,
-            plan,
-            &mut self.terms,
-        );
-        write_unjudged(&self.terms, out);
+        self.terms_beyond();
+        let version = self.version_of_terms();
+        write_unjudged(version, &self.terms, out);
     }
 
     /// Any bytes: every answer of the reader occurs.
     pub fn script(&mut self, out: &mut Vec<u8>) {
         if self.random.percent(12) {
-            self.script_beyond(out);
+            self.terms_beyond();
         } else {
-            self.valid_script(out);
+            self.valid_terms();
         }
+        let version = self.any_version();
+        write_unjudged(version, &self.terms, out);
         let variables = self.limits.variables as u8;
         let random = &mut self.random;
         match random.below(100) {
@@ -63,8 +55,8 @@ impl Generator {
 fn byte(random: &mut Random, variables: u8) -> u8 {
     match random.below(4) {
         0 => random.bits() as u8,
-        1 => random.pick(&[0, 1, 7, 8, 9, 12, variables - 1, variables, 255]),
-        _ => random.below(13) as u8,
+        1 => random.pick(&[0, 1, 7, 8, 9, 14, variables - 1, variables, 255]),
+        _ => random.below(15) as u8,
     }
 }
 

@@ -1,26 +1,45 @@
 //! Trees of terms of every shape, with an exact number of terms.
 
 use super::operands;
-use super::plan::{capacity, Plan, Style};
+use super::plan::{capacity, plan_beyond, plan_within, Plan, Style};
+use super::versions;
+use super::Generator;
 use crate::form::*;
 use crate::random::Random;
 
-/// Fills `terms` with a tree whose outermost term is a block, with operands of
-/// so many variables.
-pub(super) fn tree(random: &mut Random, variables: u32, plan: Plan, terms: &mut Vec<Row>) {
-    terms.clear();
-    let mut builder = Builder {
-        random,
-        variables,
-        terms,
-        style: plan.style,
-        boxes: plan.boxes,
-    };
-    builder.block(plan.levels, plan.terms);
+impl Generator {
+    /// A tree of terms within all limits.
+    pub(super) fn valid_terms(&mut self) {
+        let plan = plan_within(&mut self.random, self.limits);
+        self.tree(plan);
+    }
+
+    /// A tree just beyond one of the limits, seldom within it.
+    pub(super) fn terms_beyond(&mut self) {
+        let plan = plan_beyond(&mut self.random, self.limits);
+        self.tree(plan);
+    }
+
+    /// A tree whose outermost term is a block, mostly with the kinds of version
+    /// 2, else with those of version 1.
+    fn tree(&mut self, plan: Plan) {
+        self.terms.clear();
+        let version = versions::of_terms(&mut self.random);
+        let mut builder = Builder {
+            random: &mut self.random,
+            version,
+            variables: self.limits.variables,
+            terms: &mut self.terms,
+            style: plan.style,
+            boxes: plan.boxes,
+        };
+        builder.block(plan.levels, plan.terms);
+    }
 }
 
 struct Builder<'a> {
     random: &'a mut Random,
+    version: u32,
     variables: u32,
     terms: &'a mut Vec<Row>,
     style: Style,
@@ -32,7 +51,8 @@ impl Builder<'_> {
     /// levels.
     fn term(&mut self, levels: u32, budget: usize) {
         if budget == 1 {
-            self.terms.push(operands::leaf(self.random, self.variables));
+            let leaf = operands::leaf(self.random, self.variables, self.version);
+            self.terms.push(leaf);
             return;
         }
         let wrappers = match self.style {

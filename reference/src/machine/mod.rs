@@ -49,7 +49,7 @@ pub(crate) fn judge_lent<'a>(
     if readings.len() != READINGS {
         return Err(Refusal::by_caller(READINGS_LENGTH));
     }
-    let judged = judge_all(limits, rows)?;
+    let judged = judge_all(limits, NEWEST, rows)?;
     Ok(&rows[..judged.terms])
 }
 
@@ -122,7 +122,8 @@ impl Machine<'_> {
             COPY => store.copy(a, b),
             MOVE => store.move_out(a, b),
             SHARED | EXCLUSIVE => store.locate(a, b).map(Value::reference),
-            BELOW => below(store, (a, b), (c, d)),
+            BELOW => two_numbers(store, (a, b), (c, d)).map(below),
+            SUM => two_numbers(store, (a, b), (c, d)).map(sum),
             BOX => {
                 let value = self.term()?;
                 Ok(self.store.open_cell(value))
@@ -171,8 +172,20 @@ impl Machine<'_> {
 }
 
 /// Reads the first place, then the second, each of which must be a number.
-fn below(store: &Store, first: (u32, u32), second: (u32, u32)) -> Result<Value, u32> {
+#[inline]
+fn two_numbers(store: &Store, first: (u32, u32), second: (u32, u32)) -> Result<(i32, i32), u32> {
     let first = store.read_number(first.0, first.1)?;
     let second = store.read_number(second.0, second.1)?;
-    Ok(Value::number((first < second) as u32))
+    Ok((first, second))
+}
+
+fn below((first, second): (i32, i32)) -> Value {
+    Value::number((first < second) as u32)
+}
+
+/// The sum is exact in 64 bits, so that it can be held to the ends of 32.
+fn sum((first, second): (i32, i32)) -> Value {
+    let sum = first as i64 + second as i64;
+    let held = sum.clamp(i32::MIN as i64, i32::MAX as i64);
+    Value::number(held as i32 as u32)
 }

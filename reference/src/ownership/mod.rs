@@ -15,7 +15,7 @@ use environment::{Environment, Place, Value};
 /// answers the number of terms of an accepted script.
 pub fn check(limits: Limits, rows: &[u32]) -> Result<u32, Refusal> {
     let rows = lent_rows(limits, rows)?;
-    let judged = judge_all(limits, rows)?;
+    let judged = judge_all(limits, NEWEST, rows)?;
     check_judged(limits, &rows[..judged.terms])?;
     Ok(judged.terms as u32)
 }
@@ -77,9 +77,9 @@ impl<const VARIABLES: usize> Judge<'_, VARIABLES> {
             BOX => return self.boxed(term).map(Some),
             LET => return self.declared(term, row[1] as u8).map(|()| None),
             ASSIGN => return self.assigned(term, place(row, 1)).map(|()| None),
-            BELOW => environment
-                .compared(place(row, 1))
-                .and_then(|()| environment.compared(place(row, 3)))
+            BELOW | SUM => environment
+                .number_at(place(row, 1))
+                .and_then(|()| environment.number_at(place(row, 3)))
                 .map(|()| Value::NUMBER),
             _ => return self.block(term, row[1]),
         };

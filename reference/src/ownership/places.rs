@@ -39,7 +39,7 @@ impl<const VARIABLES: usize> Environment<VARIABLES> {
         self.locate(place).filter(|located| self.is_whole(*located))
     }
 
-    /// What copy, shared borrow and below have in common.
+    /// What copy, shared borrow, below and sum have in common.
     #[inline]
     fn judge_read(&self, place: Place) -> Result<Place, u32> {
         let located = self.judge_whole(place)?;
@@ -128,8 +128,8 @@ impl<const VARIABLES: usize> Environment<VARIABLES> {
         Ok(())
     }
 
-    /// One of the two places of a below.
-    pub(crate) fn compared(&self, place: Place) -> Result<(), u32> {
+    /// One of the two places of a below or a sum.
+    pub(crate) fn number_at(&self, place: Place) -> Result<(), u32> {
         self.judge_read(place)?;
         if !self.chain(place.root).after(place.follows).is_number() {
             return Err(OTHER_TYPE);

@@ -3,8 +3,8 @@
 
 #![allow(dead_code)]
 
-use reference::form::HEADER;
-use reference::{check, read, run, run_unchecked, Limits, Ran, Refusal};
+use reference::form::header;
+use reference::{check, read, run, run_unchecked, Limits, Ran, Refusal, NEWEST};
 
 /// The set of the program.
 pub const LIMITS: Limits = Limits::BASE;
@@ -63,13 +63,22 @@ pub fn below(first: Place, second: Place) -> Term {
     vec![0x0A, first.0, first.1, second.0, second.1]
 }
 
+pub fn sum(first: Place, second: Place) -> Term {
+    vec![0x0D, first.0, first.1, second.0, second.1]
+}
+
 pub fn block(terms: &[Term]) -> Term {
     [vec![0x0B, terms.len() as u8], terms.concat()].concat()
 }
 
-/// A whole script with these terms in its outermost block.
+/// A whole script of a version with these terms in its outermost block.
+pub fn script_of(version: u32, terms: &[Term]) -> Vec<u8> {
+    [header(version).to_vec(), block(terms)].concat()
+}
+
+/// One of version 1, so without sums.
 pub fn script(terms: &[Term]) -> Vec<u8> {
-    [HEADER.to_vec(), block(terms)].concat()
+    script_of(1, terms)
 }
 
 pub fn rows_of(script: &[u8]) -> Vec<u32> {
@@ -78,7 +87,7 @@ pub fn rows_of(script: &[u8]) -> Vec<u32> {
 
 pub fn rows_under(limits: Limits, script: &[u8]) -> Vec<u32> {
     let mut rows = vec![7; limits.row_numbers()];
-    read(limits, script, &mut rows).expect("a script that can be read");
+    read(limits, NEWEST, script, &mut rows).expect("a script that can be read");
     rows
 }
 
@@ -87,7 +96,7 @@ pub fn refused<T>(number: u32, place: u32) -> Result<T, Refusal> {
 }
 
 pub fn check_terms(terms: &[Term]) -> Result<u32, Refusal> {
-    check(LIMITS, &rows_of(&script(terms)))
+    check(LIMITS, &rows_of(&script_of(NEWEST, terms)))
 }
 
 /// Whether the check accepts, without the number of terms.
@@ -110,7 +119,7 @@ pub fn junk(limits: Limits) -> Vec<u32> {
 /// Runs over a store that held something before.
 pub fn run_over_junk(run: Run, limits: Limits, terms: &[Term]) -> (Result<Ran, Refusal>, Vec<u32>) {
     let mut store = junk(limits);
-    let rows = rows_under(limits, &script(terms));
+    let rows = rows_under(limits, &script_of(NEWEST, terms));
     let answer = run(limits, &rows, &READINGS, &mut store);
     (answer, store)
 }
