@@ -7,6 +7,12 @@
  * bits), unused fields 0, unused rows 0. Terms are numbered from 0 in byte
  * order.
  *
+ * Scripts have a version. Version 1 has the kinds 1 to 11, and version 2 adds
+ * kind 13: the sum of the numbers at two places, held to the ends of the range
+ * of an int32_t. Kind 12 is in neither. The bytes of a script tell its version,
+ * and its rows do not: reading answers it, and writing is told it. All others
+ * that take rows take those of every version.
+ *
  * Every function takes a set of limits first, and the lengths of rows and store
  * follow from it. It answers on every input, without allocation, and changes no
  * memory but the buffers that it takes without const. It keeps no pointer.
@@ -23,8 +29,8 @@
  *
  *     uint8_t none[1] = {0};
  *     uint32_t rows[ROOMSCRIPT_ROW_NUMBERS(ROOMSCRIPT_BASE_TERMS)];
- *     roomscript_read(roomscript_base, none, 0, rows,
- *                     ROOMSCRIPT_ROW_NUMBERS(ROOMSCRIPT_BASE_TERMS));
+ *     roomscript_read(roomscript_base, ROOMSCRIPT_NEWEST_VERSION, none, 0,
+ *                     rows, ROOMSCRIPT_ROW_NUMBERS(ROOMSCRIPT_BASE_TERMS));
  *
  * answers refusal 12 at place 0.
  */
@@ -40,6 +46,8 @@ extern "C" {
 
 /* The most bytes of a script, under every set of limits. */
 #define ROOMSCRIPT_MAX_BYTES 32768
+/* The newest version that there is; the oldest is 1. */
+#define ROOMSCRIPT_NEWEST_VERSION 2
 /* The fields of one term row and of one store row. */
 #define ROOMSCRIPT_FIELDS 5
 #define ROOMSCRIPT_STORE_FIELDS 3
@@ -89,8 +97,10 @@ static const roomscript_limits roomscript_base = {
  * Refusals 1 to 5 and 74 are the caller's, with place 0 and no lent memory
  * changed: 74 is given before every other number, of 1 to 4 the lowest, and 5
  * comes after the rows. Refusals 10 to 19 are about the form of the script;
- * their place is a byte offset from reading and a row from rows. Refusals 30 to
- * 43 are the author's; their place is the term (LANGUAGE 5.2 to 5.5).
+ * their place is a byte offset from reading and a row from rows; but 11 from
+ * writing is the caller's, with place 0, after 74 and 2 and before the rows.
+ * Refusals 30 to 43 are the author's; their place is the term (LANGUAGE 5.2 to
+ * 5.5).
  */
 typedef struct roomscript_answer {
     uint32_t refused;
@@ -99,36 +109,54 @@ typedef struct roomscript_answer {
 } roomscript_answer;
 
 /*
- * Reads a script into term rows and answers the number of terms
- * (LANGUAGE 6.2).
+ * What came of reading. Where refused is 0, version and terms are the script's,
+ * number and place 0. Where refused is 1, number and place are the refusal's,
+ * and version and terms 0.
+ */
+typedef struct roomscript_script {
+    uint32_t refused;
+    uint32_t number;
+    uint32_t version;
+    uint64_t place;
+    uint64_t terms;
+} roomscript_script;
+
+/*
+ * Reads a script into term rows and answers its version and the number of
+ * terms (LANGUAGE 6.2).
  *
- * A script is the mark RCS, a 16-bit version, high byte first, equal to 1, and
- * one term, a block: at most 32,768 bytes, and within the limits of the set.
- * After success all of rows is written: the rows of the terms in byte order,
- * then rows of 0.
+ * A script is the mark RCS, a 16-bit version, high byte first, and one term, a
+ * block: at most 32,768 bytes, and within the limits of the set. After success
+ * all of rows is written: the rows of the terms in byte order, then rows of 0.
+ *
+ * newest is the newest version that the caller knows: scripts of the versions 1
+ * to newest are read, as far as there are any. More than
+ * ROOMSCRIPT_NEWEST_VERSION counts as that, and with 0 no script is read.
  *
  * Refusals by the caller, at place 0, with rows unchanged, in this order:
  *   74: the set is outside the ranges; 1: the script is over 32,768 bytes; 2:
  *   rows is not 5 times the set's terms long.
  * Refusals by the bytes, with a byte offset, leaving all of rows 0:
- *   10: the mark differs, at the first such byte; 11: another version, at 3;
+ *   10: the mark differs, at the first such byte; 11: a version that is not
+ *   known, at 3;
  *   12: the script ended, at its length;
- *   13: an unknown kind; 14: an operand out of range, a variable from the set's
- *   number on; 15: too deep; 16: too many terms; 17: too many boxes; 18: the
- *   outermost term is no block; all at the byte judged;
+ *   13: an unknown kind, one of a later version than the script's among them;
+ *   14: an operand out of range, a variable from the set's number on; 15: too
+ *   deep; 16: too many terms; 17: too many boxes; 18: the outermost term is no
+ *   block; all at the byte judged;
  *   19: bytes are left, at the first of them.
  * They are met as the bytes come, the version once both its bytes are there;
  * at a kind byte the order is 12, 13, 18, 16, 15, 17.
  */
-roomscript_answer roomscript_read(roomscript_limits limits,
+roomscript_script roomscript_read(roomscript_limits limits, uint32_t newest,
                                   const uint8_t *script, size_t script_len,
                                   uint32_t *rows, size_t rows_len);
 
 /*
  * Judges term rows and answers the number of terms (LANGUAGE 6.3).
  *
- * Rows are accepted exactly where roomscript_read could have made them.
- * Nothing lent is changed.
+ * Rows are accepted exactly where roomscript_read could have made them, of a
+ * script of whatever version. Nothing lent is changed.
  *
  * Refusals by the caller, at place 0, in this order:
  *   74: the set is outside the ranges; 2: rows is not 5 times the set's terms
@@ -146,19 +174,22 @@ roomscript_answer roomscript_judge_rows(roomscript_limits limits,
                                         const uint32_t *rows, size_t rows_len);
 
 /*
- * Writes the script of term rows and answers its length in bytes
- * (LANGUAGE 6.4).
+ * Writes the script of a version that term rows describe and answers its length
+ * in bytes (LANGUAGE 6.4).
  *
  * After success the first bytes of output are the script, and reading them
- * gives rows back; bytes past the script stay unchanged.
+ * gives version and rows back; bytes past the script stay unchanged. The same
+ * rows in two versions differ in the bytes of the version alone.
  *
  * Every refusal leaves output unchanged. In this order:
  *   74: the set is outside the ranges, at place 0;
  *   2: rows is not 5 times the set's terms long, at place 0;
- *   12 to 15 and 17 to 19, with the row, as from roomscript_judge_rows;
+ *   11: there is no such version, at place 0;
+ *   12 to 15 and 17 to 19, with the row, as from roomscript_judge_rows, but
+ *   that a kind of a later version is 13;
  *   5: output is shorter than the script, at place 0.
  */
-roomscript_answer roomscript_write(roomscript_limits limits,
+roomscript_answer roomscript_write(roomscript_limits limits, uint32_t version,
                                    const uint32_t *rows, size_t rows_len,
                                    uint8_t *output, size_t output_len);
 
@@ -182,7 +213,8 @@ roomscript_answer roomscript_write(roomscript_limits limits,
  *   36: a shared link is passed where only box and exclusive links may be;
  *   37: a copy of neither a number nor a shared borrow; 38: a move passes a
  *   borrow link;
- *   39: other link kinds than the assigned place has, or no number in a below;
+ *   39: other link kinds than the assigned place has, or no number in a below
+ *   or a sum;
  *   40: a borrowed root does not live in the block of the variable finally
  *   written or in one around it, or lives in the block that ends;
  *   41: no value where one is needed; 42: more than 8 links;
@@ -296,11 +328,11 @@ typedef struct roomscript_called {
 /*
  * Reads a script into rows and then runs it on store (LANGUAGE 6.8).
  *
- * Where all lengths are right it answers as roomscript_read and then
- * roomscript_run do, and leaves rows and store as they do; the lengths of store
- * and readings are judged before the bytes. So it checks before it runs, and
- * meets no fault. After success rows holds the script, and store is all 0 but
- * the cells taken, which are 2, 0, 0.
+ * It reads every version that there is. Where all lengths are right it answers
+ * as roomscript_read and then roomscript_run do, and leaves rows and store as
+ * they do; the lengths of store and readings are judged before the bytes. So it
+ * checks before it runs, and meets no fault. After success rows holds the
+ * script, and store is all 0 but the cells taken, which are 2, 0, 0.
  *
  * Refusals by the caller, at place 0, with nothing lent changed, in this order:
  *   74: the set is outside the ranges; 1: the script is over 32,768 bytes; 2:
@@ -308,7 +340,7 @@ typedef struct roomscript_called {
  *   variables and boxes together; 4: readings is not 8 long.
  * Refusals by the bytes, with a byte offset, leaving all of rows 0 and store
  * unchanged:
- *   10 to 19, as from roomscript_read.
+ *   10 to 19, as from roomscript_read with ROOMSCRIPT_NEWEST_VERSION.
  * Refusals by the author, with the term, where rows holds the script and store
  * is unchanged:
  *   30 to 43, as from roomscript_check.

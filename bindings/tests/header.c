@@ -1,6 +1,7 @@
 /*
  * Every function from C: on E1 (LANGUAGE 8.2), on some refusals and faults, on
- * empty buffers, and under other sets than the language's own.
+ * a script of version 2, on empty buffers, and under other sets than the
+ * language's own.
  */
 #include <roomscript.h>
 
@@ -11,6 +12,7 @@
 #define ROWS ROOMSCRIPT_ROW_NUMBERS(ROOMSCRIPT_BASE_TERMS)
 #define STORE ROOMSCRIPT_STORE_NUMBERS(ROOMSCRIPT_BASE_VARIABLES, ROOMSCRIPT_BASE_BOXES)
 #define READINGS ROOMSCRIPT_READINGS_LEN
+#define NEWEST ROOMSCRIPT_NEWEST_VERSION
 
 static const uint8_t E1[25] = {
     0x52, 0x43, 0x53, 0x00, 0x01, 0x0B, 0x04, 0x08, 0x00, 0x02, 0x00, 0x08, 0x01,
@@ -26,6 +28,10 @@ static const uint8_t E4[31] = {0x52, 0x43, 0x53, 0x00, 0x01, 0x0B, 0x04, 0x08,
                                0x00, 0x07, 0x01, 0x00, 0x00, 0x00, 0x07, 0x08,
                                0x01, 0x04, 0x00, 0x01, 0x09, 0x00, 0x01, 0x01,
                                0x00, 0x00, 0x00, 0x08, 0x03, 0x00, 0x01};
+
+/* let v0=reading 0; let v1=reading 1; sum v0, v1 */
+static const uint8_t SUM[20] = {0x52, 0x43, 0x53, 0x00, 0x02, 0x0B, 0x03, 0x08, 0x00, 0x02,
+                                0x00, 0x08, 0x01, 0x02, 0x01, 0x0D, 0x00, 0x00, 0x01, 0x00};
 
 static const int32_t GIVEN[READINGS] = {185, 200, 0, 0, 0, 0, 0, 0};
 
@@ -47,6 +53,26 @@ static void expect(const char *what, roomscript_answer answer, uint32_t refused,
                (unsigned)answer.number, (unsigned long long)answer.value);
         failed = 1;
     }
+}
+
+static void expect_script(const char *what, roomscript_script script, uint32_t version,
+                          uint64_t terms) {
+    if (script.refused != 0 || script.version != version || script.terms != terms) {
+        printf("%s: refused %u, version %u, terms %llu\n", what, (unsigned)script.refused,
+               (unsigned)script.version, (unsigned long long)script.terms);
+        failed = 1;
+    }
+    note(what, script.number == 0 && script.place == 0);
+}
+
+static void expect_not_read(const char *what, roomscript_script script, uint32_t number,
+                            uint64_t place) {
+    if (script.refused != 1 || script.number != number || script.place != place) {
+        printf("%s: refused %u, number %u, place %llu\n", what, (unsigned)script.refused,
+               (unsigned)script.number, (unsigned long long)script.place);
+        failed = 1;
+    }
+    note(what, script.version == 0 && script.terms == 0);
 }
 
 static void expect_ran(const char *what, roomscript_ran ran, int32_t answer, uint64_t cells) {
@@ -108,18 +134,59 @@ static void junk(void) {
 
 static void form(void) {
     static uint8_t output[ROOMSCRIPT_MAX_BYTES];
-    expect("read", roomscript_read(BASE, E1, sizeof E1, rows, ROWS), 0, 0, 8);
+    expect_script("read", roomscript_read(BASE, NEWEST, E1, sizeof E1, rows, ROWS), 1, 8);
     expect("judge_rows", roomscript_judge_rows(BASE, rows, ROWS), 0, 0, 8);
-    expect("write", roomscript_write(BASE, rows, ROWS, output, sizeof output), 0, 0, 25);
+    expect("write", roomscript_write(BASE, 1, rows, ROWS, output, sizeof output), 0, 0, 25);
     note("bytes written", memcmp(output, E1, sizeof E1) == 0);
-    expect("short output", roomscript_write(BASE, rows, ROWS, output, 24), 1, 5, 0);
-    expect("short script", roomscript_read(BASE, E1, 24, rows, ROWS), 1, 12, 24);
+    expect("short output", roomscript_write(BASE, 1, rows, ROWS, output, 24), 1, 5, 0);
+    expect_not_read("short script", roomscript_read(BASE, NEWEST, E1, 24, rows, ROWS), 12, 24);
     expect("no rows", roomscript_judge_rows(BASE, rows, 0), 1, 2, 0);
     expect("rows of 0", roomscript_judge_rows(BASE, rows, ROWS), 1, 12, 0);
 }
 
-/* The structs that the two runs answer. */
+/* Each version is read by those who know it, and written where it is asked for. */
+static void versions(void) {
+    static uint8_t output[sizeof SUM];
+    roomscript_called called;
+    note("the newest version", NEWEST == 2);
+    junk();
+    expect_not_read("SUM by none", roomscript_read(BASE, 0, SUM, sizeof SUM, rows, ROWS), 11, 3);
+    note("rows after SUM by none", all(rows, 0, ROWS, 0));
+    junk();
+    expect_not_read("SUM by 1", roomscript_read(BASE, 1, SUM, sizeof SUM, rows, ROWS), 11, 3);
+    note("rows after SUM by 1", all(rows, 0, ROWS, 0));
+    expect_script("E1 by 1", roomscript_read(BASE, 1, E1, sizeof E1, rows, ROWS), 1, 8);
+    expect_script("SUM by 2", roomscript_read(BASE, 2, SUM, sizeof SUM, rows, ROWS), 2, 6);
+    expect_script("SUM by all", roomscript_read(BASE, UINT32_MAX, SUM, sizeof SUM, rows, ROWS), 2,
+                  6);
+    note("the row of a sum", rows[25] == 13 && rows[26] == 0 && rows[27] == 0 && rows[28] == 1 &&
+                                 rows[29] == 0);
+    expect("judge SUM", roomscript_judge_rows(BASE, rows, ROWS), 0, 0, 6);
+    expect("write version 3", roomscript_write(BASE, 3, rows, ROWS, output, sizeof output), 1, 11,
+           0);
+    expect("write version 1", roomscript_write(BASE, 1, rows, ROWS, output, sizeof output), 1, 13,
+           5);
+    note("bytes not written", output[0] == 0 && output[4] == 0);
+    expect("write version 2", roomscript_write(BASE, 2, rows, ROWS, output, sizeof output), 0, 0,
+           20);
+    note("bytes of SUM", memcmp(output, SUM, sizeof SUM) == 0);
+    expect("check SUM", roomscript_check(BASE, rows, ROWS), 0, 0, 6);
+    expect_ran("run SUM", roomscript_run(BASE, rows, ROWS, GIVEN, READINGS, store, STORE), 385, 0);
+    expect_unchecked("SUM unchecked",
+                     roomscript_run_unchecked(BASE, rows, ROWS, GIVEN, READINGS, store, STORE), 0,
+                     0, 385, 0);
+    called = roomscript_call(BASE, SUM, sizeof SUM, GIVEN, READINGS, rows, ROWS, store, STORE);
+    note("call of SUM", called.refused == 0 && called.number == 0 && called.answer == 385 &&
+                            called.place == 0 && called.terms == 6 && called.cells == 0);
+}
+
+/* The structs that reading and the two runs answer. */
 static void layout(void) {
+    note("roomscript_script",
+         sizeof(roomscript_script) == 32 && offsetof(roomscript_script, refused) == 0 &&
+             offsetof(roomscript_script, number) == 4 &&
+             offsetof(roomscript_script, version) == 8 &&
+             offsetof(roomscript_script, place) == 16 && offsetof(roomscript_script, terms) == 24);
     note("roomscript_ran",
          sizeof(roomscript_ran) == 32 && offsetof(roomscript_ran, refused) == 0 &&
              offsetof(roomscript_ran, number) == 4 && offsetof(roomscript_ran, answer) == 8 &&
@@ -134,17 +201,17 @@ static void layout(void) {
 
 static void check_and_run(void) {
     junk();
-    expect("read E1", roomscript_read(BASE, E1, sizeof E1, rows, ROWS), 0, 0, 8);
+    expect_script("read E1", roomscript_read(BASE, NEWEST, E1, sizeof E1, rows, ROWS), 1, 8);
     expect("check E1", roomscript_check(BASE, rows, ROWS), 0, 0, 8);
     expect("check no rows", roomscript_check(BASE, rows, 0), 1, 2, 0);
     expect_not_run("no store", roomscript_run(BASE, rows, ROWS, GIVEN, READINGS, store, 0), 3, 0);
     expect_not_run("no readings", roomscript_run(BASE, rows, ROWS, GIVEN, 7, store, STORE), 4, 0);
-    expect("read E3", roomscript_read(BASE, E3, sizeof E3, rows, ROWS), 0, 0, 7);
+    expect_script("read E3", roomscript_read(BASE, NEWEST, E3, sizeof E3, rows, ROWS), 1, 7);
     expect("check E3", roomscript_check(BASE, rows, ROWS), 1, 33, 6);
     expect_not_run("run E3", roomscript_run(BASE, rows, ROWS, GIVEN, READINGS, store, STORE), 33,
                    6);
     note("store after refusals", all(store, 0, STORE, 9));
-    expect("read E4", roomscript_read(BASE, E4, sizeof E4, rows, ROWS), 0, 0, 9);
+    expect_script("read E4", roomscript_read(BASE, NEWEST, E4, sizeof E4, rows, ROWS), 1, 9);
     expect_ran("run E4", roomscript_run(BASE, rows, ROWS, GIVEN, READINGS, store, STORE), 8, 1);
     note("store after E4", all(store, 0, 192, 0) && store[192] == 2 && all(store, 193, STORE, 0));
 }
@@ -152,7 +219,7 @@ static void check_and_run(void) {
 static void run_unchecked(void) {
     static const uint32_t fault[6] = {1, 0, 0, 1, 2, 0};
     junk();
-    expect("read E1", roomscript_read(BASE, E1, sizeof E1, rows, ROWS), 0, 0, 8);
+    expect_script("read E1", roomscript_read(BASE, NEWEST, E1, sizeof E1, rows, ROWS), 1, 8);
     expect_unchecked("no store, unchecked",
                      roomscript_run_unchecked(BASE, rows, ROWS, GIVEN, READINGS, store, 0), 1, 3,
                      0, 0);
@@ -164,7 +231,7 @@ static void run_unchecked(void) {
                      roomscript_run_unchecked(BASE, rows, ROWS, GIVEN, READINGS, store, STORE), 0,
                      0, 1, 0);
     note("store after E1", all(store, 0, STORE, 0));
-    expect("read E3", roomscript_read(BASE, E3, sizeof E3, rows, ROWS), 0, 0, 7);
+    expect_script("read E3", roomscript_read(BASE, NEWEST, E3, sizeof E3, rows, ROWS), 1, 7);
     expect_unchecked("E3 unchecked",
                      roomscript_run_unchecked(BASE, rows, ROWS, GIVEN, READINGS, store, STORE), 2,
                      60, 0, 6);
@@ -199,14 +266,14 @@ static void empty(void) {
     static uint32_t numbers[1] = {9};
     static const int32_t none[1] = {9};
     junk();
-    expect("read no bytes", roomscript_read(BASE, bytes, 0, rows, ROWS), 1, 12, 0);
+    expect_not_read("read no bytes", roomscript_read(BASE, NEWEST, bytes, 0, rows, ROWS), 12, 0);
     note("rows after no bytes", all(rows, 0, ROWS, 0));
-    expect("read into no rows", roomscript_read(BASE, E1, 25, numbers, 0), 1, 2, 0);
+    expect_not_read("read into no rows", roomscript_read(BASE, NEWEST, E1, 25, numbers, 0), 2, 0);
     expect("judge no rows", roomscript_judge_rows(BASE, numbers, 0), 1, 2, 0);
-    expect("write no rows", roomscript_write(BASE, numbers, 0, bytes, 0), 1, 2, 0);
+    expect("write no rows", roomscript_write(BASE, 1, numbers, 0, bytes, 0), 1, 2, 0);
     expect("check no rows", roomscript_check(BASE, numbers, 0), 1, 2, 0);
-    expect("read E1", roomscript_read(BASE, E1, 25, rows, ROWS), 0, 0, 8);
-    expect("write to no output", roomscript_write(BASE, rows, ROWS, bytes, 0), 1, 5, 0);
+    expect_script("read E1", roomscript_read(BASE, NEWEST, E1, 25, rows, ROWS), 1, 8);
+    expect("write to no output", roomscript_write(BASE, 1, rows, ROWS, bytes, 0), 1, 5, 0);
     expect_not_run("run no rows", roomscript_run(BASE, numbers, 0, none, 0, numbers, 0), 2, 0);
     expect_not_run("run on no store",
                    roomscript_run(BASE, rows, ROWS, GIVEN, READINGS, numbers, 0), 3, 0);
@@ -238,11 +305,12 @@ static void sets(void) {
     note("the base", BASE.terms == 512 && BASE.variables == 64 && BASE.boxes == 64 &&
                          BASE.levels == 16 && ROWS == 2560 && STORE == 384);
     junk();
-    expect("a term too many", roomscript_read(terms, E3, 23, rows, 30), 1, 16, 20);
-    expect("a variable too many", roomscript_read(variables, E3, 23, rows, 35), 1, 14, 16);
-    expect("a box too many", roomscript_read(boxes, E3, 23, rows, 35), 1, 17, 9);
-    expect("a level too many", roomscript_read(levels, E3, 23, rows, 35), 1, 15, 9);
-    expect("read E3 as it fits", roomscript_read(fits, E3, 23, rows, fitting), 0, 0, 7);
+    expect_not_read("a term too many", roomscript_read(terms, NEWEST, E3, 23, rows, 30), 16, 20);
+    expect_not_read("a variable too many", roomscript_read(variables, NEWEST, E3, 23, rows, 35),
+                    14, 16);
+    expect_not_read("a box too many", roomscript_read(boxes, NEWEST, E3, 23, rows, 35), 17, 9);
+    expect_not_read("a level too many", roomscript_read(levels, NEWEST, E3, 23, rows, 35), 15, 9);
+    expect_script("read E3 as it fits", roomscript_read(fits, NEWEST, E3, 23, rows, fitting), 1, 7);
     note("rows after that", rows[30] == 3 && rows[31] == 0 && rows[32] == 1 &&
                                 all(rows, fitting, ROWS, 9));
     expect("judge E3", roomscript_judge_rows(fits, rows, fitting), 0, 0, 7);
@@ -284,9 +352,9 @@ static void outside(void) {
     size_t at;
     junk();
     for (at = 0; at < sizeof sets / sizeof sets[0]; at++) {
-        expect("read", roomscript_read(sets[at], E1, 25, rows, ROWS), 1, 74, 0);
+        expect_not_read("read", roomscript_read(sets[at], NEWEST, E1, 25, rows, ROWS), 74, 0);
         expect("judge_rows", roomscript_judge_rows(sets[at], rows, 0), 1, 74, 0);
-        expect("write", roomscript_write(sets[at], rows, ROWS, output, 1), 1, 74, 0);
+        expect("write", roomscript_write(sets[at], 1, rows, ROWS, output, 1), 1, 74, 0);
         expect("check", roomscript_check(sets[at], rows, ROWS), 1, 74, 0);
         expect_not_run("run", roomscript_run(sets[at], rows, 0, GIVEN, 7, store, 0), 74, 0);
         expect_unchecked("run_unchecked",
@@ -301,6 +369,7 @@ static void outside(void) {
 
 int main(void) {
     form();
+    versions();
     layout();
     check_and_run();
     run_unchecked();
