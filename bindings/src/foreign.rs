@@ -5,7 +5,7 @@
 
 #![allow(unsafe_code)]
 
-use crate::{Called, Fault, Limits, Ran, Refusal, Stop};
+use crate::{Called, Fault, Limits, Ran, Refusal, Script, Stop};
 
 /// Where `refused` is 0, `value` is the count and `number` 0; where it is 1,
 /// `number` is the refusal's number and `value` its place.
@@ -15,6 +15,18 @@ pub(crate) struct Answer {
     refused: u32,
     number: u32,
     value: u64,
+}
+
+/// Where `refused` is 0, `number` and `place` are 0; where it is 1, these two
+/// are the refusal's and the others 0.
+#[repr(C)]
+#[derive(Debug, PartialEq, Eq)]
+pub(crate) struct ReadAnswer {
+    refused: u32,
+    number: u32,
+    version: u32,
+    place: u64,
+    terms: u64,
 }
 
 /// Where `refused` is 0, `number` and `place` are 0; where it is 1, these two
@@ -57,6 +69,7 @@ pub(crate) struct CallAnswer {
 
 const _: () = assert!(size_of::<Limits>() == 16 && align_of::<Limits>() == 4);
 const _: () = assert!(size_of::<Answer>() == 16 && align_of::<Answer>() == 8);
+const _: () = assert!(size_of::<ReadAnswer>() == 32 && align_of::<ReadAnswer>() == 8);
 const _: () = assert!(size_of::<RunAnswer>() == 32 && align_of::<RunAnswer>() == 8);
 const _: () = assert!(size_of::<UncheckedAnswer>() == 24 && align_of::<UncheckedAnswer>() == 8);
 const _: () = assert!(size_of::<CallAnswer>() == 40 && align_of::<CallAnswer>() == 8);
@@ -69,14 +82,16 @@ const _: () = assert!(size_of::<usize>() == 8);
 extern "C" {
     fn roomscript_read(
         limits: Limits,
+        newest: u32,
         script: *const u8,
         script_len: usize,
         rows: *mut u32,
         rows_len: usize,
-    ) -> Answer;
+    ) -> ReadAnswer;
     fn roomscript_judge_rows(limits: Limits, rows: *const u32, rows_len: usize) -> Answer;
     fn roomscript_write(
         limits: Limits,
+        version: u32,
         rows: *const u32,
         rows_len: usize,
         output: *mut u8,
@@ -137,6 +152,18 @@ impl Answer {
     }
 }
 
+impl ReadAnswer {
+    pub(crate) fn outcome(self) -> Result<Script, Refusal> {
+        match self.refused {
+            0 => Ok(Script {
+                version: self.version,
+                terms: small(self.terms),
+            }),
+            _ => Err(refusal(self.number, self.place)),
+        }
+    }
+}
+
 impl RunAnswer {
     pub(crate) fn outcome(self) -> Result<Ran, Refusal> {
         match self.refused {
@@ -184,10 +211,11 @@ impl CallAnswer {
 // pointer, and stay within the lengths. An empty slice passes its own pointer,
 // which is aligned and not null, and length 0.
 
-pub(crate) fn read(limits: Limits, script: &[u8], rows: &mut [u32]) -> Answer {
+pub(crate) fn read(limits: Limits, newest: u32, script: &[u8], rows: &mut [u32]) -> ReadAnswer {
     unsafe {
         roomscript_read(
             limits,
+            newest,
             script.as_ptr(),
             script.len(),
             rows.as_mut_ptr(),
@@ -200,10 +228,11 @@ pub(crate) fn judge_rows(limits: Limits, rows: &[u32]) -> Answer {
     unsafe { roomscript_judge_rows(limits, rows.as_ptr(), rows.len()) }
 }
 
-pub(crate) fn write(limits: Limits, rows: &[u32], output: &mut [u8]) -> Answer {
+pub(crate) fn write(limits: Limits, version: u32, rows: &[u32], output: &mut [u8]) -> Answer {
     unsafe {
         roomscript_write(
             limits,
+            version,
             rows.as_ptr(),
             rows.len(),
             output.as_mut_ptr(),

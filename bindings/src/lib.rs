@@ -7,6 +7,12 @@
 //! order. [`read`] goes from bytes to rows, [`judge_rows`] judges rows that
 //! come from elsewhere, and [`write()`] goes from rows to bytes.
 //!
+//! Scripts have a version. Version 1 has the kinds 1 to 11, and version 2 adds
+//! kind 13: the sum of the numbers at two places, held to the ends of the range
+//! of an `i32`. Kind 12 is in neither. The bytes of a script tell its version,
+//! and its rows do not: [`read`] answers it, and [`write()`] is told it. All
+//! others that take rows take those of every version.
+//!
 //! [`run`] checks rows and runs them on a store, and [`call`] reads a script
 //! and runs it so. They are the ways to run scripts: neither runs what the
 //! check refuses, and so neither meets a fault. [`check`] judges rows as
@@ -31,7 +37,7 @@ mod ownership;
 mod refusal;
 mod whole;
 
-pub use form::{judge_rows, read, write};
+pub use form::{judge_rows, read, write, Script, NEWEST};
 pub use limits::Limits;
 pub use machine::{run_unchecked, Fault, Ran, Stop};
 pub use ownership::check;

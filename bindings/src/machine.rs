@@ -64,13 +64,13 @@ impl Error for Stop {}
 /// E3 and E8 (LANGUAGE 8.4), the same rows with the check and without:
 ///
 /// ```
-/// use roomscript::{read, run, run_unchecked, Fault, Limits, Refusal, Stop};
+/// use roomscript::{read, run, run_unchecked, Fault, Limits, Refusal, Stop, NEWEST};
 ///
 /// // let v0=box 7; let v1=move v0; copy *v0
 /// let script = b"RCS\x00\x01\x0B\x03\x08\x00\x07\x01\x00\x00\x00\x07\x08\x01\x04\x00\x00\x03\x00\x01";
 /// let mut rows = [0; Limits::BASE.row_numbers()];
 /// let mut store = [0; Limits::BASE.store_numbers()];
-/// read(Limits::BASE, script, &mut rows)?;
+/// read(Limits::BASE, NEWEST, script, &mut rows)?;
 ///
 /// let checked = run(Limits::BASE, &rows, &[0; 8], &mut store);
 /// assert_eq!(checked, Err(Refusal { number: 33, place: 6 }));

@@ -25,8 +25,8 @@ use crate::{Limits, Refusal};
 /// - 36: a shared link is passed where only box and exclusive links may be;
 /// - 37: a copy of neither a number nor a shared borrow; 38: a move passes a
 ///   borrow link;
-/// - 39: other link kinds than the assigned place has, or no number in a
-///   below;
+/// - 39: other link kinds than the assigned place has, or no number in a below
+///   or a sum;
 /// - 40: a borrowed root does not live in the block of the variable finally
 ///   written or in one around it, or lives in the block that ends;
 /// - 41: no value where one is needed; 42: more than 8 links;

@@ -52,11 +52,12 @@ pub struct Called {
 
 /// Reads a script into `rows` and then runs it on `store` (LANGUAGE 6.8).
 ///
-/// Where all lengths are right it answers as [`read`](crate::read) and then
-/// [`run`] do, and leaves `rows` and `store` as they do; the lengths of `store`
-/// and `readings` are judged before the bytes. So it checks before it runs, and
-/// meets no fault. After success `rows` holds the script, and `store` is all 0
-/// but the cells taken, which are 2, 0, 0.
+/// It reads every version that there is. Where all lengths are right it answers
+/// as [`read`](crate::read) and then [`run`] do, and leaves `rows` and `store`
+/// as they do; the lengths of `store` and `readings` are judged before the
+/// bytes. So it checks before it runs, and meets no fault. After success `rows`
+/// holds the script, and `store` is all 0 but the cells taken, which are 2, 0,
+/// 0.
 ///
 /// # Refusals
 ///
@@ -67,7 +68,7 @@ pub struct Called {
 ///
 /// By the bytes, with a byte offset, leaving all of `rows` 0 and `store`
 /// unchanged:
-/// - 10 to 19, as from [`read`](crate::read).
+/// - 10 to 19, as from [`read`](crate::read) with [`NEWEST`](crate::NEWEST).
 ///
 /// By the author, with the term, where `rows` holds the script and `store` is
 /// unchanged:

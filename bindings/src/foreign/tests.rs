@@ -1,7 +1,7 @@
 //! The safe functions do not show every field of an answer, so these tests do.
 
 use super::*;
-use crate::READINGS_LEN;
+use crate::{NEWEST, READINGS_LEN};
 use std::mem::offset_of;
 
 const BASE: Limits = Limits::BASE;
@@ -15,6 +15,10 @@ const SHORT: [u8; 9] = [0x52, 0x43, 0x53, 0x00, 0x01, 0x0B, 0x01, 0x02, 0x07];
 /// `box reading 7; reading 7`.
 const BOXED: [u8; 12] = [
     0x52, 0x43, 0x53, 0x00, 0x01, 0x0B, 0x02, 0x07, 0x02, 0x07, 0x02, 0x07,
+];
+/// `let v0=reading 7; sum v0, v0`.
+const ADDED: [u8; 16] = [
+    0x52, 0x43, 0x53, 0x00, 0x02, 0x0B, 0x02, 0x08, 0x00, 0x02, 0x07, 0x0D, 0x00, 0x00, 0x00, 0x00,
 ];
 /// `copy v5`.
 const NOWHERE: [u8; 10] = [0x52, 0x43, 0x53, 0x00, 0x01, 0x0B, 0x01, 0x03, 0x05, 0x00];
@@ -34,6 +38,26 @@ fn refused(number: u32, value: u64) -> Answer {
         refused: 1,
         number,
         value,
+    }
+}
+
+fn script(version: u32, terms: u64) -> ReadAnswer {
+    ReadAnswer {
+        refused: 0,
+        number: 0,
+        version,
+        place: 0,
+        terms,
+    }
+}
+
+fn not_read(number: u32, place: u64) -> ReadAnswer {
+    ReadAnswer {
+        refused: 1,
+        number,
+        version: 0,
+        place,
+        terms: 0,
     }
 }
 
@@ -69,7 +93,7 @@ fn not_called(number: u32, place: u64) -> CallAnswer {
 
 fn rows_of(script: &[u8]) -> [u32; ROWS] {
     let mut rows = [9; ROWS];
-    assert_eq!(read(BASE, script, &mut rows).refused, 0);
+    assert_eq!(read(BASE, NEWEST, script, &mut rows).refused, 0);
     rows
 }
 
@@ -77,6 +101,14 @@ fn rows_of(script: &[u8]) -> [u32; ROWS] {
 /// after a gap of 4.
 #[test]
 fn offsets() {
+    let read = [
+        offset_of!(ReadAnswer, refused),
+        offset_of!(ReadAnswer, number),
+        offset_of!(ReadAnswer, version),
+        offset_of!(ReadAnswer, place),
+        offset_of!(ReadAnswer, terms),
+    ];
+    assert_eq!(read, [0, 4, 8, 16, 24]);
     let ran = [
         offset_of!(RunAnswer, refused),
         offset_of!(RunAnswer, number),
@@ -95,36 +127,55 @@ fn offsets() {
 }
 
 #[test]
-fn every_field_of_a_count() {
+fn every_field_of_a_script() {
     let mut rows = [9; ROWS];
+    let mut reads = |newest, bytes: &[u8]| read(BASE, newest, bytes, &mut rows);
+    assert_eq!(reads(NEWEST, &SHORT), script(1, 2));
+    assert_eq!(reads(1, &SHORT), script(1, 2));
+    assert_eq!(reads(NEWEST, &ADDED), script(2, 4));
+    assert_eq!(reads(u32::MAX, &ADDED), script(2, 4));
+    assert_eq!(reads(1, &ADDED), not_read(11, 3));
+    assert_eq!(reads(0, &SHORT), not_read(11, 3));
+    assert_eq!(reads(NEWEST, &ADDED[..12]), not_read(12, 12));
+    assert_eq!(reads(NEWEST, &[0; 32_769]), not_read(1, 0));
+    assert_eq!(read(BASE, NEWEST, &ADDED, &mut []), not_read(2, 0));
+}
+
+#[test]
+fn every_field_of_a_count() {
+    let rows = rows_of(&SHORT);
     let mut output = [9; 16];
-    assert_eq!(read(BASE, &SHORT, &mut rows), counted(2));
     assert_eq!(judge_rows(BASE, &rows), counted(2));
-    assert_eq!(write(BASE, &rows, &mut output), counted(9));
+    assert_eq!(write(BASE, 1, &rows, &mut output), counted(9));
+    assert_eq!(output[..9], SHORT);
     assert_eq!(check(BASE, &rows), counted(2));
+    let rows = rows_of(&ADDED);
+    assert_eq!(write(BASE, 2, &rows, &mut output), counted(16));
+    assert_eq!(output, ADDED);
 }
 
 #[test]
 fn every_field_of_a_refusal() {
-    let mut rows = [9; ROWS];
-    assert_eq!(read(BASE, &SHORT, &mut []), refused(2, 0));
-    assert_eq!(read(BASE, &SHORT[..8], &mut rows), refused(12, 8));
+    let ended = [0; ROWS];
     assert_eq!(judge_rows(BASE, &[]), refused(2, 0));
-    assert_eq!(judge_rows(BASE, &rows), refused(12, 0));
-    assert_eq!(write(BASE, &rows, &mut []), refused(12, 0));
-    assert_eq!(read(BASE, &SHORT, &mut rows), counted(2));
-    assert_eq!(write(BASE, &rows, &mut [0; 8]), refused(5, 0));
+    assert_eq!(judge_rows(BASE, &ended), refused(12, 0));
+    assert_eq!(write(BASE, 1, &[], &mut []), refused(2, 0));
+    assert_eq!(write(BASE, 3, &ended, &mut []), refused(11, 0));
+    assert_eq!(write(BASE, 1, &ended, &mut []), refused(12, 0));
+    let (short, added) = (rows_of(&SHORT), rows_of(&ADDED));
+    assert_eq!(write(BASE, 1, &added, &mut [0; 16]), refused(13, 3));
+    assert_eq!(write(BASE, 1, &short, &mut [0; 8]), refused(5, 0));
     assert_eq!(check(BASE, &[]), refused(2, 0));
-    assert_eq!(check(BASE, &[0; ROWS]), refused(12, 0));
+    assert_eq!(check(BASE, &ended), refused(12, 0));
     assert_eq!(check(BASE, &rows_of(&NOWHERE)), refused(31, 1));
 }
 
 #[test]
 fn every_field_of_a_refused_set() {
     let (mut rows, mut store) = ([9; ROWS], [9; STORE]);
-    assert_eq!(read(FLAT, &SHORT, &mut rows), refused(74, 0));
+    assert_eq!(read(FLAT, NEWEST, &SHORT, &mut rows), not_read(74, 0));
     assert_eq!(judge_rows(FLAT, &rows), refused(74, 0));
-    assert_eq!(write(FLAT, &rows, &mut [9; 16]), refused(74, 0));
+    assert_eq!(write(FLAT, 1, &rows, &mut [9; 16]), refused(74, 0));
     assert_eq!(check(FLAT, &rows), refused(74, 0));
     let ran = run(FLAT, &rows, &READINGS, &mut store);
     assert_eq!(ran, not_run(74, 0));
@@ -146,14 +197,14 @@ fn every_field_of_a_set() {
     };
     let reads = |limits: Limits, script: &[u8]| {
         let mut rows = vec![9; limits.row_numbers()];
-        read(limits, script, &mut rows)
+        read(limits, NEWEST, script, &mut rows)
     };
-    assert_eq!(reads(limits(4, 1, 1, 3), &BOXED), counted(4));
-    assert_eq!(reads(limits(3, 1, 1, 3), &BOXED), refused(16, 10));
-    assert_eq!(reads(limits(4, 1, 0, 3), &BOXED), refused(17, 7));
-    assert_eq!(reads(limits(4, 1, 1, 2), &BOXED), refused(15, 8));
-    assert_eq!(reads(limits(2, 6, 0, 2), &NOWHERE), counted(2));
-    assert_eq!(reads(limits(2, 5, 0, 2), &NOWHERE), refused(14, 8));
+    assert_eq!(reads(limits(4, 1, 1, 3), &BOXED), script(1, 4));
+    assert_eq!(reads(limits(3, 1, 1, 3), &BOXED), not_read(16, 10));
+    assert_eq!(reads(limits(4, 1, 0, 3), &BOXED), not_read(17, 7));
+    assert_eq!(reads(limits(4, 1, 1, 2), &BOXED), not_read(15, 8));
+    assert_eq!(reads(limits(2, 6, 0, 2), &NOWHERE), script(1, 2));
+    assert_eq!(reads(limits(2, 5, 0, 2), &NOWHERE), not_read(14, 8));
 }
 
 /// Rows of the script with a box, and the same with a field that is not 0 after
@@ -219,6 +270,15 @@ fn every_field_of_a_call() {
         cells: 1,
     };
     assert_eq!(called(&BOXED), whole);
+    let added = CallAnswer {
+        refused: 0,
+        number: 0,
+        answer: -80,
+        place: 0,
+        terms: 4,
+        cells: 0,
+    };
+    assert_eq!(called(&ADDED), added);
     assert_eq!(called(&[0; 32_769]), not_called(1, 0));
     assert_eq!(called(&BOXED[..11]), not_called(12, 11));
     assert_eq!(called(&NOWHERE), not_called(31, 1));
