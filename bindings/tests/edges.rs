@@ -1,6 +1,6 @@
 //! The edges of every function, each by hand with its number and place:
-//! reading, judging rows and writing, the check, runs and whole calls, under
-//! the language's own set of limits and under others.
+//! reading, judging rows and writing, in every version, the check, runs and
+//! whole calls, under the language's own set of limits and under others.
 
 #![forbid(unsafe_code)]
 
@@ -24,6 +24,8 @@ mod cells;
 mod checked;
 #[path = "edges/examples.rs"]
 mod examples;
+#[path = "edges/extremes.rs"]
+mod extremes;
 #[path = "edges/faults.rs"]
 mod faults;
 #[path = "edges/full.rs"]
@@ -46,14 +48,20 @@ mod places;
 mod ranges;
 #[path = "edges/reading.rs"]
 mod reading;
+#[path = "edges/rewriting.rs"]
+mod rewriting;
 #[path = "edges/rows.rs"]
 mod rows;
 #[path = "edges/running.rs"]
 mod running;
 #[path = "edges/scope.rs"]
 mod scope;
+#[path = "edges/sums.rs"]
+mod sums;
 #[path = "edges/variables.rs"]
 mod variables;
+#[path = "edges/versions.rs"]
+mod versions;
 #[path = "edges/within.rs"]
 mod within;
 #[path = "edges/writing.rs"]

@@ -1,8 +1,8 @@
 //! What is due by the reference program, in this package's types.
 
-use super::{Answer, RunAnswer, UncheckedAnswer};
-use roomscript::{Called, Fault, Limits, Ran, Refusal, Stop};
-use roomscript::{MAX_BYTES, READINGS_LEN};
+use super::{Answer, ReadAnswer, RunAnswer, UncheckedAnswer};
+use roomscript::{Called, Fault, Limits, Ran, Refusal, Script, Stop};
+use roomscript::{MAX_BYTES, NEWEST, READINGS_LEN};
 
 /// The same set in the reference program's type.
 pub fn set(limits: Limits) -> reference::Limits {
@@ -31,16 +31,21 @@ fn refusal(refusal: reference::Refusal) -> Refusal {
     }
 }
 
-pub fn read(limits: Limits, script: &[u8], rows: &mut [u32]) -> Answer {
-    reference::read(set(limits), script, rows).map_err(refusal)
+pub fn read(limits: Limits, newest: u32, script: &[u8], rows: &mut [u32]) -> ReadAnswer {
+    let answer = reference::read(set(limits), newest, script, rows);
+    let read = answer.map_err(refusal)?;
+    Ok(Script {
+        version: read.version,
+        terms: read.terms,
+    })
 }
 
 pub fn judge_rows(limits: Limits, rows: &[u32]) -> Answer {
     reference::judge_rows(set(limits), rows).map_err(refusal)
 }
 
-pub fn write(limits: Limits, rows: &[u32], output: &mut [u8]) -> Answer {
-    reference::write(set(limits), rows, output).map_err(refusal)
+pub fn write(limits: Limits, version: u32, rows: &[u32], output: &mut [u8]) -> Answer {
+    reference::write(set(limits), version, rows, output).map_err(refusal)
 }
 
 pub fn check(limits: Limits, rows: &[u32]) -> Answer {
@@ -77,9 +82,9 @@ pub fn run_unchecked(
     })
 }
 
-/// A whole call from the reference program's read and run. It judges the set
-/// and the lengths itself, since reading alone knows nothing of store and
-/// readings.
+/// A whole call from the reference program's read, of every version, and run.
+/// It judges the set and the lengths itself, since reading alone knows nothing
+/// of store and readings.
 pub fn call(
     limits: Limits,
     script: &[u8],
@@ -103,7 +108,7 @@ pub fn call(
     if readings.len() != READINGS_LEN {
         return by_caller(4);
     }
-    let terms = read(limits, script, rows)?;
+    let Script { terms, .. } = read(limits, NEWEST, script, rows)?;
     let Ran { answer, cells } = run(limits, rows, readings, store)?;
     Ok(Called {
         answer,

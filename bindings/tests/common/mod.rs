@@ -13,9 +13,10 @@ pub mod store;
 pub mod tally;
 pub mod terms;
 
-use roomscript::{Fault, Limits, Ran, Refusal, Stop};
+use roomscript::{Fault, Limits, Ran, Refusal, Script, Stop};
 
 pub type Answer = Result<u32, Refusal>;
+pub type ReadAnswer = Result<Script, Refusal>;
 pub type RunAnswer = Result<Ran, Refusal>;
 pub type UncheckedAnswer = Result<Ran, Stop>;
 
@@ -24,6 +25,11 @@ pub type Run<E> = fn(Limits, &[u32], &[i32], &mut [u32]) -> Result<Ran, E>;
 
 pub fn refused<T>(number: u32, place: u32) -> Result<T, Refusal> {
     Err(Refusal { number, place })
+}
+
+/// What reading answers.
+pub fn read_as(version: u32, terms: u32) -> ReadAnswer {
+    Ok(Script { version, terms })
 }
 
 /// An answer of either run.

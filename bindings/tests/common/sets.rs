@@ -64,7 +64,7 @@ pub fn fitting_rows(rows: &[Row]) -> Limits {
 fn variables(row: &Row) -> u32 {
     match row[0] {
         0x03..=0x06 | 0x08 | 0x09 => row[1] + 1,
-        0x0A => row[1].max(row[3]) + 1,
+        0x0A | 0x0D => row[1].max(row[3]) + 1,
         _ => 0,
     }
 }

@@ -55,8 +55,17 @@ pub fn below(first: Place, second: Place) -> Term {
     vec![[0x0A, first.0, first.1, second.0, second.1]]
 }
 
+pub fn sum(first: Place, second: Place) -> Term {
+    vec![[0x0D, first.0, first.1, second.0, second.1]]
+}
+
 pub fn block(terms: &[Term]) -> Term {
     [vec![[0x0B, terms.len() as u32, 0, 0, 0]], terms.concat()].concat()
+}
+
+/// Mark and version.
+pub fn header(version: u32) -> [u8; 5] {
+    [b'R', b'C', b'S', (version >> 8) as u8, version as u8]
 }
 
 /// All rows of a script with these terms in its outermost block, under a set
@@ -73,21 +82,37 @@ pub fn rows_of(terms: &[Term]) -> Vec<u32> {
     rows_under(Limits::BASE, terms)
 }
 
-/// The bytes of a script with these terms in its outermost block.
+/// The first version that has the kinds of these rows, all fields in one.
+pub fn version_of(rows: &[u32]) -> u32 {
+    match rows.chunks(FIELDS).any(|row| row[0] == 0x0D) {
+        true => 2,
+        false => 1,
+    }
+}
+
+/// The bytes of a script with these terms in its outermost block, in the first
+/// version that has their kinds.
 pub fn script_of(terms: &[Term]) -> Vec<u8> {
     bytes_of(&block(terms))
 }
 
-/// The bytes of a script with these rows.
+/// The bytes of a script with these rows, in the first version that has their
+/// kinds.
 pub fn bytes_of(rows: &[Row]) -> Vec<u8> {
-    let mut script = b"RCS\x00\x01".to_vec();
+    bytes_in(version_of(rows.as_flattened()), rows)
+}
+
+/// The bytes of these rows after mark and version, whether the version has
+/// their kinds or not.
+pub fn bytes_in(version: u32, rows: &[Row]) -> Vec<u8> {
+    let mut script = header(version).to_vec();
     for row in rows {
         let bytes = row.map(|field| field as u8);
         let operands = match row[0] {
             0x01 => &row[1].to_be_bytes(),
             0x07 => &bytes[1..1],
             0x02 | 0x08 | 0x0B => &bytes[1..2],
-            0x0A => &bytes[1..5],
+            0x0A | 0x0D => &bytes[1..5],
             _ => &bytes[1..3],
         };
         script.push(bytes[0]);

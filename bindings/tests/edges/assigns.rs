@@ -89,18 +89,20 @@ fn link_kinds_must_be_equal() {
 }
 
 #[test]
-fn below_compares_numbers() {
-    let first = [let_(0, boxed(number(1))), below((0, 0), (9, 0))];
-    assert_eq!(checks(&first), refused(39, 4));
-    let second = [let_(0, boxed(number(1))), below((0, 1), (0, 0))];
-    assert_eq!(checks(&second), refused(39, 4));
-    // What is barred comes before.
-    let barred = [
-        let_(0, boxed(number(1))),
-        let_(1, exclusive((0, 0))),
-        below((0, 0), (0, 0)),
-    ];
-    assert_eq!(checks(&barred), refused(34, 6));
+fn below_and_sum_are_of_numbers() {
+    for of_two in [below, sum] {
+        let first = [let_(0, boxed(number(1))), of_two((0, 0), (9, 0))];
+        assert_eq!(checks(&first), refused(39, 4));
+        let second = [let_(0, boxed(number(1))), of_two((0, 1), (0, 0))];
+        assert_eq!(checks(&second), refused(39, 4));
+        // What is barred comes before.
+        let barred = [
+            let_(0, boxed(number(1))),
+            let_(1, exclusive((0, 0))),
+            of_two((0, 0), (0, 0)),
+        ];
+        assert_eq!(checks(&barred), refused(34, 6));
+    }
 }
 
 #[test]

@@ -19,10 +19,17 @@ fn reading_is_barred_by_exclusive_borrows() {
         shared((0, 0)),
         below((0, 0), (9, 0)),
         below((1, 1), (0, 0)),
+        sum((0, 0), (9, 0)),
+        sum((1, 1), (0, 0)),
     ] {
         assert_eq!(with(exclusive, &[term]), refused(34, 5));
     }
-    for term in [copy((0, 0)), shared((0, 0)), below((0, 0), (0, 0))] {
+    for term in [
+        copy((0, 0)),
+        shared((0, 0)),
+        below((0, 0), (0, 0)),
+        sum((0, 0), (0, 0)),
+    ] {
         assert_eq!(with(shared, &[term]), Ok(()));
     }
 }

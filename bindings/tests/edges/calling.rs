@@ -71,15 +71,17 @@ fn refusals_by_the_caller() {
 /// A script that is refused for each number of the form, with its place.
 fn bad_scripts() -> Vec<(Vec<u8>, u32, u32)> {
     let body = |bytes: &[u8]| [b"RCS\x00\x01", bytes].concat();
+    let second = |bytes: &[u8]| [b"RCS\x00\x02", bytes].concat();
     let leaves = |count: usize| [&[0x0B, count as u8][..], &[2, 0].repeat(count)].concat();
     let two = [leaves(255), leaves(255)].concat();
     let boxes = [&[0x0B, 65][..], &[7, 2, 0].repeat(65)].concat();
     vec![
         (b"RXS\x00\x01".to_vec(), 10, 1),
-        (b"RCS\x00\x02".to_vec(), 11, 3),
+        (b"RCS\x00\x03".to_vec(), 11, 3),
         (b"".to_vec(), 12, 0),
         (body(&[0x0B, 1]), 12, 7),
         (body(&[0x0B, 1, 0x0C]), 13, 7),
+        (body(&[0x0B, 1, 0x0D]), 13, 7),
         (body(&[0x0B, 1, 2, 8]), 14, 8),
         (body(&[0x0B, 1].repeat(17)), 15, 5 + 32),
         (body(&[&[0x0B, 2][..], &two].concat()), 16, 5 + 6 + 509 * 2),
@@ -87,6 +89,12 @@ fn bad_scripts() -> Vec<(Vec<u8>, u32, u32)> {
         (body(&[2, 0]), 18, 5),
         (body(&[0x0B, 1, 2, 0, 0]), 19, 9),
         (vec![0x52; 32_768], 10, 1),
+        (second(&[0x0B, 1]), 12, 7),
+        (second(&[0x0B, 1, 0x0C]), 13, 7),
+        (second(&[0x0B, 1, 0x0D]), 12, 8),
+        (second(&[0x0B, 1, 0x0D, 0, 0, 64, 0]), 14, 10),
+        (second(&[0x0D, 0, 0, 0, 0]), 18, 5),
+        (second(&[0x0B, 1, 0x0D, 0, 0, 0, 0, 0x0D]), 19, 12),
     ]
 }
 

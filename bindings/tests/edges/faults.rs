@@ -20,12 +20,15 @@ fn a_closed_row_60() {
         shared((0, 0)),
         exclusive((0, 8)),
         below((0, 0), (0, 0)),
+        sum((0, 0), (0, 0)),
         assign((0, 0), number(1)),
     ] {
         faults(&[term, number(0)], 60, 1, &[]);
     }
-    let second = [let_(0, number(4)), below((0, 0), (1, 0))];
-    faults(&second, 60, 3, &[(0, [1, 1, 4])]);
+    for of_two in [below, sum] {
+        let second = [let_(0, number(4)), of_two((0, 0), (1, 0))];
+        faults(&second, 60, 3, &[(0, [1, 1, 4])]);
+    }
     // The right side of an assign has run by then.
     let assigned = [assign((0, 0), boxed(number(1)))];
     faults(&assigned, 60, 1, &[(cell(0), [1, 1, 1])]);
@@ -48,6 +51,7 @@ fn an_empty_row_60() {
         copy((0, 0)),
         mov((0, 0)),
         below((0, 0), (0, 0)),
+        sum((0, 0), (0, 0)),
         copy((0, 1)),
         shared((0, 1)),
         assign((0, 1), number(2)),
@@ -92,6 +96,8 @@ fn a_follow_of_a_number_61() {
         exclusive((0, 8)),
         below((0, 1), (0, 0)),
         below((0, 0), (0, 1)),
+        sum((0, 1), (0, 0)),
+        sum((0, 0), (0, 1)),
         assign((0, 1), number(2)),
     ] {
         let terms = [let_(0, number(-1)), term, number(0)];
@@ -100,19 +106,21 @@ fn a_follow_of_a_number_61() {
 }
 
 #[test]
-fn below_of_other_kinds_61() {
+fn below_and_sum_of_other_kinds_61() {
     let left = [(0, [1, 2, 0]), (cell(0), [1, 1, 1])];
-    // The first place is read, and its kind judged, before the second.
-    let first = [let_(0, boxed(number(1))), below((0, 0), (9, 0))];
-    faults(&first, 61, 4, &left);
-    let second = [let_(0, boxed(number(1))), below((0, 1), (0, 0))];
-    faults(&second, 61, 4, &left);
-    let reference = [
-        let_(5, number(1)),
-        let_(6, shared((5, 0))),
-        below((6, 0), (5, 0)),
-    ];
-    faults(&reference, 61, 5, &[(5, [1, 1, 1]), (6, [1, 3, 5])]);
+    for of_two in [below, sum] {
+        // The first place is read, and its kind judged, before the second.
+        let first = [let_(0, boxed(number(1))), of_two((0, 0), (9, 0))];
+        faults(&first, 61, 4, &left);
+        let second = [let_(0, boxed(number(1))), of_two((0, 1), (0, 0))];
+        faults(&second, 61, 4, &left);
+        let reference = [
+            let_(5, number(1)),
+            let_(6, shared((5, 0))),
+            of_two((6, 0), (5, 0)),
+        ];
+        faults(&reference, 61, 5, &[(5, [1, 1, 1]), (6, [1, 3, 5])]);
+    }
 }
 
 #[test]

@@ -58,6 +58,7 @@ fn the_last_term_is_judged() {
     refuses(copy((127, 0)), 37);
     refuses(copy((127, 2)), 32);
     refuses(below((0, 1), (127, 0)), 39);
+    refuses(sum((0, 1), (127, 0)), 39);
     let moved = full(mov((127, 0)));
     assert_eq!(checks_under(LIMITS, &moved), refused(43, 0));
 }

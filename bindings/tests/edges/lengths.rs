@@ -7,7 +7,7 @@ use crate::common::refused;
 use crate::common::sets::{set, LEAST, NAMED, SMALL, UNEVEN};
 use crate::given::E1;
 use crate::hand::{both_refuse, READINGS};
-use roomscript::Limits;
+use roomscript::{Limits, NEWEST};
 
 /// Sets with the lengths that they ask for.
 const LENGTHS: [(Limits, usize, usize); 8] = [
@@ -47,12 +47,14 @@ fn rows_of_the_right_length() {
         );
         let ended = vec![0; rows];
         assert_eq!(asked::judge_rows(limits, &ended), refused(12, 0));
-        assert_eq!(asked::write(limits, &ended, &mut []), refused(12, 0));
+        assert_eq!(asked::write(limits, 2, &ended, &mut []), refused(12, 0));
+        assert_eq!(asked::write(limits, 3, &ended, &mut []), refused(11, 0));
         assert_eq!(asked::check(limits, &ended), refused(12, 0));
         let answer = both_refuse(limits, &ended, &READINGS, store);
         assert_eq!(answer, refused(12, 0));
         let mut lent = Guarded::junk(rows, 42);
-        assert_eq!(asked::read(limits, b"RCS", lent.lent_mut()), refused(12, 3));
+        let answer = asked::read(limits, NEWEST, b"RCS", lent.lent_mut());
+        assert_eq!(answer, refused(12, 3));
         assert_eq!(lent.lent(), ended);
         assert!(lent.guards_hold());
     }
@@ -64,7 +66,10 @@ fn rows_of_other_lengths_2() {
         for length in others(right, Limits::row_numbers) {
             let rows = vec![0; length];
             assert_eq!(asked::judge_rows(limits, &rows), refused(2, 0));
-            assert_eq!(asked::write(limits, &rows, &mut [0; 9]), refused(2, 0));
+            for version in [1, 2, 3] {
+                let answer = asked::write(limits, version, &rows, &mut [0; 9]);
+                assert_eq!(answer, refused(2, 0));
+            }
             assert_eq!(asked::check(limits, &rows), refused(2, 0));
             let mut lent = Guarded::junk(length, 43);
             // Also where 3 and 4 would come.
@@ -79,7 +84,8 @@ fn rows_of_other_lengths_2() {
                     assert!(store.junk_from(0) && store.guards_hold());
                 }
             }
-            assert_eq!(asked::read(limits, &E1, lent.lent_mut()), refused(2, 0));
+            let answer = asked::read(limits, NEWEST, &E1, lent.lent_mut());
+            assert_eq!(answer, refused(2, 0));
             assert!(lent.junk_from(0) && lent.guards_hold());
         }
     }
@@ -135,7 +141,8 @@ fn scripts_over_32768_bytes_1() {
             let script = vec![0x52; length];
             for rows in [rows, 0, rows + 1] {
                 let mut lent = Guarded::junk(rows, 49);
-                assert_eq!(asked::read(limits, &script, lent.lent_mut()), refused(1, 0));
+                let answer = asked::read(limits, NEWEST, &script, lent.lent_mut());
+                assert_eq!(answer, refused(1, 0));
                 for store in [store, 0] {
                     let mut store = Guarded::junk(store, 50);
                     let (rows, on) = (lent.lent_mut(), store.lent_mut());
@@ -149,7 +156,7 @@ fn scripts_over_32768_bytes_1() {
         let mut lent = Guarded::junk(rows, 51);
         let script = vec![0x52; 32_768];
         assert_eq!(
-            asked::read(limits, &script, lent.lent_mut()),
+            asked::read(limits, NEWEST, &script, lent.lent_mut()),
             refused(10, 1)
         );
     }

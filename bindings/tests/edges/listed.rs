@@ -7,7 +7,7 @@ use crate::common::store::store_under;
 use crate::common::terms::*;
 use crate::common::{fault, refused};
 use crate::hand::{runs_unchecked_under, READINGS};
-use roomscript::{Called, Limits, Refusal};
+use roomscript::{Called, Limits, Refusal, NEWEST};
 
 /// A whole call of a script with these bytes after mark and version.
 fn calls(limits: Limits, body: &[u8]) -> Result<Called, Refusal> {
@@ -55,7 +55,7 @@ fn run_under_other_sets() {
 #[test]
 fn the_set_before_the_bytes() {
     let long = vec![0; 32_769];
-    let answer = |limits| asked::read(limits, &long, &mut []);
+    let answer = |limits| asked::read(limits, NEWEST, &long, &mut []);
     assert_eq!(answer(set(0, 64, 64, 16)), refused(74, 0));
     assert_eq!(answer(set(512, 64, 64, 16)), refused(1, 0));
 }

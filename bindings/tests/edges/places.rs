@@ -21,6 +21,8 @@ fn a_chain_must_be_long_enough() {
         exclusive((0, 8)),
         below((0, 1), (9, 0)),
         below((0, 0), (0, 1)),
+        sum((0, 1), (9, 0)),
+        sum((0, 0), (0, 1)),
         assign((0, 1), number(2)),
     ] {
         assert_eq!(one(term), refused(32, 3));
@@ -66,6 +68,7 @@ fn a_value_moved_away() {
         shared((0, 0)),
         exclusive((0, 0)),
         below((0, 0), (9, 0)),
+        sum((0, 0), (9, 0)),
     ] {
         assert_eq!(then(term), refused(33, 4));
     }
@@ -81,6 +84,7 @@ fn a_path_moved_away() {
         shared((0, 1)),
         exclusive((0, 1)),
         below((0, 1), (9, 0)),
+        sum((0, 1), (9, 0)),
         assign((0, 1), number(2)),
     ] {
         assert_eq!(then(term), refused(33, 5));
@@ -101,6 +105,7 @@ fn a_value_that_is_not_whole() {
         shared((0, 0)),
         exclusive((0, 1)),
         below((0, 1), (9, 0)),
+        sum((0, 1), (9, 0)),
     ] {
         assert_eq!(then(term), refused(33, 6));
     }
@@ -116,14 +121,16 @@ fn a_value_that_is_not_whole() {
 }
 
 #[test]
-fn below_wants_both_places_whole() {
-    let terms = [
-        let_(0, number(1)),
-        let_(1, number(2)),
-        mov((1, 0)),
-        below((0, 0), (1, 0)),
-    ];
-    assert_eq!(checks(&terms), refused(33, 6));
+fn below_and_sum_want_both_places_whole() {
+    for of_two in [below, sum] {
+        let terms = [
+            let_(0, number(1)),
+            let_(1, number(2)),
+            mov((1, 0)),
+            of_two((0, 0), (1, 0)),
+        ];
+        assert_eq!(checks(&terms), refused(33, 6));
+    }
 }
 
 #[test]

@@ -8,7 +8,7 @@ use crate::common::refused;
 use crate::common::sets::{fields, LEAST, NAMED};
 use crate::common::terms::{rows_of, script_of};
 use crate::hand::{both_refuse, READINGS};
-use roomscript::Limits;
+use roomscript::{Limits, NEWEST};
 
 /// Least and most of terms, variables, boxes and levels.
 const RANGES: [(u32, u32); 4] = [(1, 4096), (1, 128), (0, 128), (1, 32)];
@@ -70,15 +70,18 @@ fn form_74() {
         for length in lengths(limits.row_numbers(), 2560) {
             let mut lent = Guarded::junk(length, 31);
             for script in scripts() {
-                let answer = asked::read(limits, &script, lent.lent_mut());
-                assert_eq!(answer, refused(74, 0), "{limits:?}");
-                assert!(lent.junk_from(0) && lent.guards_hold(), "{limits:?}");
+                // Also where 11 would come.
+                for newest in [0, NEWEST] {
+                    let answer = asked::read(limits, newest, &script, lent.lent_mut());
+                    assert_eq!(answer, refused(74, 0), "{limits:?}");
+                    assert!(lent.junk_from(0) && lent.guards_hold(), "{limits:?}");
+                }
             }
             for rows in [rows(length), vec![0; length], lent.lent().to_vec()] {
                 assert_eq!(asked::judge_rows(limits, &rows), refused(74, 0));
-                for room in [0, 24, 25, 40] {
+                for (room, version) in [(0, 1), (24, 2), (25, 0), (25, 1), (40, 3)] {
                     let mut output = Guarded::junk(room, 32);
-                    let answer = asked::write(limits, &rows, output.lent_mut());
+                    let answer = asked::write(limits, version, &rows, output.lent_mut());
                     assert_eq!(answer, refused(74, 0), "{limits:?}");
                     assert!(output.junk_from(0) && output.guards_hold());
                 }
@@ -158,7 +161,10 @@ fn every_combination_of_ends() {
         // No rows are 2 where the set is right.
         let number = if within { 2 } else { 74 };
         assert_eq!(asked::judge_rows(limits, &[]), refused(number, 0));
-        assert_eq!(asked::read(limits, &[], &mut []), refused(number, 0));
+        let answer = asked::read(limits, NEWEST, &[], &mut []);
+        assert_eq!(answer, refused(number, 0));
+        let answer = asked::write(limits, 3, &[], &mut []);
+        assert_eq!(answer, refused(number, 0));
         assert_eq!(asked::check(limits, &[]), refused(number, 0));
     }
 }

@@ -1,18 +1,19 @@
 //! Reading (LANGUAGE 6.2): what rows come of the bytes, and each refusal by the
-//! bytes (5.9 to 5.11).
+//! bytes (5.9 to 5.11). What differs from one version to the other is in
+//! `versions`.
 
 use crate::asked::read;
 use crate::common::guarded::Guarded;
-use crate::common::refused;
+use crate::common::{read_as, refused};
 use crate::given::*;
-use roomscript::Limits;
+use roomscript::{Limits, NEWEST};
 
 const BASE: Limits = Limits::BASE;
 
 #[test]
 fn e1_gives_its_rows() {
     let mut rows = Guarded::junk(BASE.row_numbers(), 5);
-    assert_eq!(read(BASE, &E1, rows.lent_mut()), Ok(8));
+    assert_eq!(read(BASE, NEWEST, &E1, rows.lent_mut()), read_as(1, 8));
     assert_eq!(rows.lent(), rows_of(&E1_ROWS));
     assert_eq!(reads(&E1), Ok(8));
 }
@@ -54,8 +55,13 @@ fn each_kind_gives_its_row() {
         [0x01, 0xFFFF_FFFE, 0, 0, 0],
     ];
     let mut rows = Guarded::junk(BASE.row_numbers(), 6);
-    assert_eq!(read(BASE, &script(&body), rows.lent_mut()), Ok(17));
-    assert_eq!(rows.lent(), rows_of(&expected));
+    for version in [1, 2] {
+        let script = script_in(version, &body);
+        let answer = read(BASE, NEWEST, &script, rows.lent_mut());
+        assert_eq!(answer, read_as(version, 17));
+        assert_eq!(rows.lent(), rows_of(&expected));
+        rows.fill_again();
+    }
     assert_eq!(reads_body(&body), Ok(17));
 }
 
@@ -64,10 +70,10 @@ fn mark_and_version() {
     assert_eq!(reads(b"r"), refused(10, 0));
     assert_eq!(reads(b"\x00CS\x00\x01"), refused(10, 0));
     assert_eq!(reads(b"Rc"), refused(10, 1));
-    assert_eq!(reads(b"RCs\x00\x02"), refused(10, 2));
+    assert_eq!(reads(b"RCs\x00\x03"), refused(10, 2));
     assert_eq!(reads(b"XXX"), refused(10, 0));
     assert_eq!(reads(b"RCS\x00\x00"), refused(11, 3));
-    assert_eq!(reads(b"RCS\x00\x02"), refused(11, 3));
+    assert_eq!(reads(b"RCS\x00\x03"), refused(11, 3));
     assert_eq!(reads(b"RCS\x01\x00"), refused(11, 3));
     assert_eq!(reads(b"RCS\x01\x01\x0B\x01"), refused(11, 3));
     // The version is judged once both its bytes are there.
@@ -90,7 +96,7 @@ fn an_ended_script_is_refused_at_its_length() {
 
 #[test]
 fn unknown_kinds() {
-    for kind in (0x0C..=0xFF).chain([0x00]) {
+    for kind in (0x0E..=0xFF).chain([0x00, 0x0C]) {
         // Also before 18.
         assert_eq!(reads_body(&[kind]), refused(13, 5));
         assert_eq!(reads_body(&[0x0B, 2, 0x02, 0, kind]), refused(13, 9));
@@ -139,12 +145,15 @@ fn refusals_by_the_caller() {
     let long = vec![0; 32_769];
     for length in [0, 1, 2559, 2561, 5120] {
         let mut rows = Guarded::junk(length, 7);
-        assert_eq!(read(BASE, &E1, rows.lent_mut()), refused(2, 0));
-        // The lowest number first, and both before the bytes.
-        assert_eq!(read(BASE, &long, rows.lent_mut()), refused(1, 0));
-        assert_eq!(read(BASE, b"X", rows.lent_mut()), refused(2, 0));
-        assert!(rows.junk_from(0) && rows.guards_hold());
+        for newest in [0, 1, 2, 3] {
+            let mut reads = |script: &[u8]| read(BASE, newest, script, rows.lent_mut());
+            assert_eq!(reads(&E1), refused(2, 0));
+            // The lowest number first, and both before the bytes.
+            assert_eq!(reads(&long), refused(1, 0));
+            assert_eq!(reads(b"X"), refused(2, 0));
+            assert!(rows.junk_from(0) && rows.guards_hold());
+        }
     }
-    assert_eq!(read(BASE, &[], &mut []), refused(2, 0));
+    assert_eq!(read(BASE, NEWEST, &[], &mut []), refused(2, 0));
     assert_eq!(reads(&long), refused(1, 0));
 }

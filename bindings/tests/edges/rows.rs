@@ -7,19 +7,20 @@ use crate::given::*;
 /// Every bit pattern is a number.
 const ANY: u32 = u32::MAX;
 
-/// The largest operands of kinds 1 to 11, an unused field having 0.
-const LARGEST: [[u32; 4]; 11] = [
-    [ANY, 0, 0, 0],
-    [7, 0, 0, 0],
-    [63, 8, 0, 0],
-    [63, 8, 0, 0],
-    [63, 8, 0, 0],
-    [63, 8, 0, 0],
-    [0, 0, 0, 0],
-    [63, 0, 0, 0],
-    [63, 8, 0, 0],
-    [63, 8, 63, 8],
-    [255, 0, 0, 0],
+/// Each kind with its largest operands, an unused field having 0.
+const LARGEST: [Row; 12] = [
+    [0x01, ANY, 0, 0, 0],
+    [0x02, 7, 0, 0, 0],
+    [0x03, 63, 8, 0, 0],
+    [0x04, 63, 8, 0, 0],
+    [0x05, 63, 8, 0, 0],
+    [0x06, 63, 8, 0, 0],
+    [0x07, 0, 0, 0, 0],
+    [0x08, 63, 0, 0, 0],
+    [0x09, 63, 8, 0, 0],
+    [0x0A, 63, 8, 63, 8],
+    [0x0B, 255, 0, 0, 0],
+    [0x0D, 63, 8, 63, 8],
 ];
 
 #[test]
@@ -59,9 +60,13 @@ fn ended_rows() {
 fn unknown_kinds() {
     for kind in [
         0x0C,
+        0x0E,
         0xFF,
         0x100,
         0x10B,
+        0x10D,
+        0x0D00,
+        0x8000_000D,
         0x0B00,
         0x0B00_0000,
         0x8000_000B,
@@ -89,11 +94,10 @@ fn in_block(row: Row) -> Vec<Row> {
 
 #[test]
 fn each_operand_of_each_kind() {
-    for (index, largest) in LARGEST.iter().enumerate() {
-        let [a, b, c, d] = *largest;
-        let rows = in_block([index as u32 + 1, a, b, c, d]);
+    for largest in LARGEST {
+        let rows = in_block(largest);
         assert_eq!(judges_first(&rows), Ok(rows.len() as u32));
-        for (field, most) in largest.iter().enumerate() {
+        for (field, most) in largest[1..].iter().enumerate() {
             // Too large by one, by the highest bit, and in the low byte not
             // at all.
             for beyond in [most.wrapping_add(1), most | 1 << 31, most | 1 << 8, ANY] {
@@ -130,7 +134,7 @@ fn operands_come_before_later_rows() {
 
 #[test]
 fn the_outermost_row_is_a_block() {
-    for kind in 0x01..=0x0A {
+    for kind in (0x01..=0x0A).chain([0x0D]) {
         assert_eq!(judges_first(&[[kind, 0, 0, 0, 0]]), refused(18, 0));
         // Before the operands.
         assert_eq!(judges_first(&[[kind, ANY, ANY, ANY, ANY]]), refused(18, 0));

@@ -93,6 +93,7 @@ fn uses(place: Place) -> Vec<Term> {
         shared(place),
         exclusive(place),
         below(place, place),
+        sum(place, place),
         assign(place, number(1)),
     ]
 }
@@ -104,8 +105,10 @@ fn a_root_must_be_in_scope() {
             assert_eq!(checks(&[term, number(0)]), refused(31, 1));
         }
     }
-    let second = [let_(0, number(1)), below((0, 0), (1, 0))];
-    assert_eq!(checks(&second), refused(31, 3));
+    for of_two in [below, sum] {
+        let second = [let_(0, number(1)), of_two((0, 0), (1, 0))];
+        assert_eq!(checks(&second), refused(31, 3));
+    }
     // An inner term's refusal is the inner term's.
     let deep = [let_(0, boxed(boxed(copy((1, 0))))), number(0)];
     assert_eq!(checks(&deep), refused(31, 4));

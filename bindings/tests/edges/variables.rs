@@ -17,16 +17,20 @@ fn with(variables: u32) -> Limits {
 fn in_bytes() {
     for count in COUNTS {
         let (limits, last) = (with(count), count as u8 - 1);
-        for kind in [0x03, 0x04, 0x05, 0x06, 0x0A] {
+        for kind in [0x03, 0x04, 0x05, 0x06, 0x0A, 0x0D] {
             let reads = |root, second| {
                 let body = [0x0B, 1, kind, root, 8, second, 8];
-                let used = if kind == 0x0A { 7 } else { 5 };
-                reads_body_under(limits, &body[..used])
+                match kind {
+                    0x0A => reads_body_under(limits, &body),
+                    // Of version 2 only.
+                    0x0D => reads_under(limits, &script_in(2, &body)),
+                    _ => reads_body_under(limits, &body[..5]),
+                }
             };
             assert_eq!(reads(last, last), Ok(2), "{count}");
             for beyond in [last + 1, 128, 200, 255] {
                 assert_eq!(reads(beyond, last), refused(14, 8), "{count}");
-                if kind == 0x0A {
+                if kind == 0x0A || kind == 0x0D {
                     assert_eq!(reads(last, beyond), refused(14, 10), "{count}");
                 }
             }
@@ -58,11 +62,11 @@ fn in_rows() {
             0x8000_0000,
             u32::MAX,
         ];
-        for kind in [0x03, 0x04, 0x05, 0x06, 0x08, 0x09, 0x0A] {
+        for kind in [0x03, 0x04, 0x05, 0x06, 0x08, 0x09, 0x0A, 0x0D] {
             let rows = |first, second| {
                 let row = match kind {
                     0x08 => [kind, first, 0, 0, 0],
-                    0x0A => [kind, first, 8, second, 8],
+                    0x0A | 0x0D => [kind, first, 8, second, 8],
                     _ => [kind, first, 8, 0, 0],
                 };
                 let inner = if kind == 0x08 || kind == 0x09 { 1 } else { 0 };
@@ -74,7 +78,7 @@ fn in_rows() {
                 let rows_beyond = rows(beyond, last);
                 let answer = judges_first_under(limits, &rows_beyond);
                 assert_eq!(answer, refused(14, 1), "{count}, {beyond}");
-                if kind == 0x0A {
+                if kind == 0x0A || kind == 0x0D {
                     let answer = judges_first_under(limits, &rows(last, beyond));
                     assert_eq!(answer, refused(14, 1), "{count}, {beyond}");
                 }

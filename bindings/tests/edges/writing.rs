@@ -1,5 +1,5 @@
-//! Writing (LANGUAGE 6.4): the bytes that come of rows, and outputs of every
-//! length.
+//! Writing (LANGUAGE 6.4): the bytes that come of rows, in every version, and
+//! outputs of every length.
 
 use crate::asked::write;
 use crate::common::guarded::Guarded;
@@ -9,9 +9,17 @@ use roomscript::Limits;
 
 const BASE: Limits = Limits::BASE;
 
-/// Writes to outputs around the length of a script.
+/// Writes to outputs around the length of a script with these bytes after mark
+/// and version, in each version that has its kinds.
 #[track_caller]
-fn writes_to_each_length(rows: &[u32], script: &[u8]) {
+fn writes_to_each_length(rows: &[u32], versions: &[u32], body: &[u8]) {
+    for version in versions {
+        writes_in(*version, rows, &script_in(*version, body));
+    }
+}
+
+#[track_caller]
+fn writes_in(version: u32, rows: &[u32], script: &[u8]) {
     let length = script.len();
     for room in (0..20).chain([
         length - 1,
@@ -23,7 +31,7 @@ fn writes_to_each_length(rows: &[u32], script: &[u8]) {
         40_000,
     ]) {
         let mut output = Guarded::junk(room, 8);
-        let answer = write(BASE, rows, output.lent_mut());
+        let answer = write(BASE, version, rows, output.lent_mut());
         assert!(output.guards_hold(), "output of {room}");
         if room < length {
             assert_eq!(answer, refused(5, 0), "output of {room}");
@@ -38,7 +46,13 @@ fn writes_to_each_length(rows: &[u32], script: &[u8]) {
 
 #[test]
 fn e1_to_outputs_of_each_length() {
-    writes_to_each_length(&rows_of(&E1_ROWS), &E1);
+    writes_to_each_length(&rows_of(&E1_ROWS), &[1, 2], &E1[5..]);
+}
+
+#[test]
+fn a_sum_to_outputs_of_each_length() {
+    let rows = rows_of(&[block(1), [0x0D, 63, 8, 62, 7]]);
+    writes_to_each_length(&rows, &[2], &[0x0B, 1, 0x0D, 63, 8, 62, 7]);
 }
 
 #[test]
@@ -48,12 +62,16 @@ fn the_longest_script_to_outputs_of_each_length() {
     rows.extend([number; 255]);
     rows.push(block(254));
     rows.extend([number; 254]);
-    let mut bytes = script(&[0x0B, 2, 0x0B, 255]);
-    bytes.extend([0x01, 0x89, 0xAB, 0xCD, 0xEF].repeat(255));
-    bytes.extend([0x0B, 254]);
-    bytes.extend([0x01, 0x89, 0xAB, 0xCD, 0xEF].repeat(254));
-    assert_eq!(bytes.len(), 2556);
-    writes_to_each_length(&rows_of(&rows), &bytes);
+    let mut body = vec![0x0B, 2, 0x0B, 255];
+    body.extend([0x01, 0x89, 0xAB, 0xCD, 0xEF].repeat(255));
+    body.extend([0x0B, 254]);
+    body.extend([0x01, 0x89, 0xAB, 0xCD, 0xEF].repeat(254));
+    assert_eq!(body.len(), 2551);
+    writes_to_each_length(&rows_of(&rows), &[1, 2], &body);
+    // Sums take as many bytes.
+    rows[2..257].fill([0x0D, 1, 2, 3, 4]);
+    body.splice(4..4 + 5 * 255, [0x0D, 1, 2, 3, 4].repeat(255));
+    writes_to_each_length(&rows_of(&rows), &[2], &body);
 }
 
 #[test]
@@ -68,9 +86,13 @@ fn each_kind_gives_its_bytes() {
         ([0x0A, 6, 7, 9, 8], &[0x0A, 6, 7, 9, 8]),
     ];
     for (row, bytes) in leaves {
-        let whole = script(&[&[0x0B, 1], bytes].concat());
-        assert_eq!(written(&[block(1), row]), whole);
+        for version in [1, 2] {
+            let whole = script_in(version, &[&[0x0B, 1], bytes].concat());
+            assert_eq!(written(version, &[block(1), row]), whole);
+        }
     }
+    let added = written(2, &[block(1), [0x0D, 6, 7, 9, 8]]);
+    assert_eq!(added, script_in(2, &[0x0B, 1, 0x0D, 6, 7, 9, 8]));
     let around: [(Row, &[u8]); 4] = [
         ([0x07, 0, 0, 0, 0], &[0x07]),
         ([0x08, 63, 0, 0, 0], &[0x08, 63]),
@@ -78,14 +100,16 @@ fn each_kind_gives_its_bytes() {
         ([0x0B, 1, 0, 0, 0], &[0x0B, 1]),
     ];
     for (row, bytes) in around {
-        let whole = script(&[&[0x0B, 1], bytes, &[0x02, 3]].concat());
-        assert_eq!(written(&[block(1), row, READING]), whole);
+        for version in [1, 2] {
+            let whole = script_in(version, &[&[0x0B, 1], bytes, &[0x02, 3]].concat());
+            assert_eq!(written(version, &[block(1), row, READING]), whole);
+        }
     }
 }
 
-fn written(first: &[Row]) -> Vec<u8> {
+fn written(version: u32, first: &[Row]) -> Vec<u8> {
     let mut output = vec![0xA5; 64];
-    let length = write(BASE, &rows_of(first), &mut output).expect("rows of a script");
+    let length = write(BASE, version, &rows_of(first), &mut output).expect("rows of a script");
     output.truncate(length as usize);
     output
 }
@@ -94,18 +118,19 @@ fn written(first: &[Row]) -> Vec<u8> {
 fn rows_are_judged_before_the_output() {
     let ended = rows_of(&[]);
     let left = rows_of(&[block(1), READING, READING]);
-    for room in [0, 1, 4, 64] {
-        let mut output = Guarded::junk(room, 9);
-        assert_eq!(write(BASE, &ended, output.lent_mut()), refused(12, 0));
-        assert_eq!(write(BASE, &left, output.lent_mut()), refused(19, 2));
-        for length in [0, 2559, 2561] {
-            assert_eq!(
-                write(BASE, &vec![0; length], output.lent_mut()),
-                refused(2, 0)
-            );
+    for version in [1, 2] {
+        for room in [0, 1, 4, 64] {
+            let mut output = Guarded::junk(room, 9);
+            let mut writes = |rows: &[u32]| write(BASE, version, rows, output.lent_mut());
+            assert_eq!(writes(&ended), refused(12, 0));
+            assert_eq!(writes(&left), refused(19, 2));
+            for length in [0, 2559, 2561] {
+                assert_eq!(writes(&vec![0; length]), refused(2, 0));
+            }
+            assert!(output.junk_from(0) && output.guards_hold());
         }
-        assert!(output.junk_from(0) && output.guards_hold());
+        assert_eq!(write(BASE, version, &[], &mut []), refused(2, 0));
+        let e1 = rows_of(&E1_ROWS);
+        assert_eq!(write(BASE, version, &e1, &mut []), refused(5, 0));
     }
-    assert_eq!(write(BASE, &[], &mut []), refused(2, 0));
-    assert_eq!(write(BASE, &rows_of(&E1_ROWS), &mut []), refused(5, 0));
 }
