@@ -5,13 +5,16 @@
 //! cases of each kind under the language's own set, and as many again under
 //! other sets together: the least, a small and an uneven one, the largest, any
 //! in the ranges and any outside them. It compares answers, places and whole
-//! buffers: scripts read, rows judged and written; rows checked, run and run
-//! unchecked that were steered to be accepted, near misses of those, wild ones
-//! and any ones; scripts of each kind called; full scripts of the largest set;
-//! and all small scripts over a small alphabet. It also compares the library
+//! buffers: scripts read, with every version known and with others; rows judged,
+//! and written in each version; rows checked, run and run unchecked that were
+//! steered to be accepted, near misses of those, wild ones and any ones; scripts
+//! of each kind called; the same of scripts that all have a sum; full scripts of
+//! the largest set; and all small scripts over a small alphabet. Of some scripts
+//! with sums plain arithmetic tells the answer too. It also compares the library
 //! with itself: a run with the check and the unchecked run, a call with read
-//! and then run, and one set with a larger one. A longer run, or one with other
-//! cases, takes its seed and its number of cases from the environment:
+//! and then run, one set with a larger one, and sums with belows. A longer run,
+//! or one with other cases, takes its seed and its number of cases from the
+//! environment:
 //!
 //! ```text
 //! ROOMSCRIPT_SEED=7 ROOMSCRIPT_CASES=5000000 \
@@ -29,6 +32,8 @@
 
 #[path = "comparison/alphabet.rs"]
 mod alphabet;
+#[path = "comparison/arithmetic.rs"]
+mod arithmetic;
 #[path = "comparison/beyond.rs"]
 mod beyond;
 #[path = "comparison/calling.rs"]
@@ -53,5 +58,11 @@ mod scripts;
 #[macro_use]
 #[path = "comparison/sets.rs"]
 mod sets;
+#[path = "comparison/sums.rs"]
+mod sums;
+#[path = "comparison/versions.rs"]
+mod versions;
+#[path = "comparison/whole.rs"]
+mod whole;
 #[path = "comparison/written.rs"]
 mod written;

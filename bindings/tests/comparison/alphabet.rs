@@ -11,10 +11,10 @@ pub struct Alphabet {
 }
 
 impl Alphabet {
-    /// Numbers, one below, and every use of these places; boxes, lets of these
-    /// variables, assigns to the places, and blocks.
+    /// Numbers, one below, one sum, and every use of these places; boxes, lets
+    /// of these variables, assigns to the places, and blocks.
     pub fn new(places: &[Place], lets: &[u32]) -> Self {
-        let mut leaves = vec![[0x01, 7, 0, 0, 0], [0x0A, 0, 0, 1, 0]];
+        let mut leaves = vec![[0x01, 7, 0, 0, 0], [0x0A, 0, 0, 1, 0], [0x0D, 0, 0, 1, 0]];
         let mut around = vec![[0x07, 0, 0, 0, 0], [0x0B, 1, 0, 0, 0]];
         for (variable, follows) in places {
             leaves.extend((0x03..=0x06).map(|kind| [kind, *variable, *follows, 0, 0]));

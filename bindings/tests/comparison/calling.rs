@@ -6,12 +6,13 @@ use crate::common::due;
 use crate::common::guarded::Guarded;
 use crate::common::store::tidy_or_unchanged;
 use crate::common::tally::Tally;
+use crate::common::terms::version_of;
 use crate::layers::AUTHOR;
 use crate::sets::{length, near_misses_under, Sets};
 use crate::written::Written;
 use reference::random::Random;
 use reference::Generator;
-use roomscript::{Called, Limits, Ran, Refusal, MAX_BYTES};
+use roomscript::{Called, Limits, Ran, Refusal, Script, MAX_BYTES, NEWEST};
 
 /// The buffers of a case, reused from one to the next.
 struct Buffers {
@@ -98,8 +99,8 @@ fn read_then_run(case: &Case, answer: Result<Called, Refusal>, buffers: &mut Buf
     rows.other.fill_again();
     store.other.fill_again();
     let (script, given) = (buffers.script.lent(), buffers.readings.lent());
-    let read = roomscript::read(case.limits, script, rows.other.lent_mut());
-    let run = |terms| {
+    let read = roomscript::read(case.limits, NEWEST, script, rows.other.lent_mut());
+    let run = |Script { terms, .. }| {
         let on = store.other.lent_mut();
         let ran = roomscript::run(case.limits, rows.other.lent(), given, on);
         ran.map(|Ran { answer, cells }| Called {
@@ -147,10 +148,12 @@ fn compare(make: Make, name: &str, sets: Sets, expected: &[u32], rare: &[u32]) {
 }
 
 /// The bytes of rows that the generator makes, under its set or, where no
-/// script is within that, under the least one above it that has room.
+/// script is within that, under the least one above it that has room. Those
+/// without a sum are in either version.
 fn written(
     generator: &mut Generator,
     make: fn(&mut Generator, &mut Vec<u32>),
+    random: &mut Random,
     script: &mut Vec<u8>,
 ) {
     let own = generator.limits();
@@ -164,16 +167,17 @@ fn written(
     make(generator, &mut rows);
     generator.set_limits(own);
     script.resize(MAX_BYTES, 0);
-    let length = reference::write(roomy, &rows, script).expect("rows of a script");
+    let version = version_of(&rows).max(random.between(1, 2));
+    let length = reference::write(roomy, version, &rows, script).expect("rows of a script");
     script.truncate(length as usize);
 }
 
-fn accepted(generator: &mut Generator, _: &mut Random, script: &mut Vec<u8>) {
-    written(generator, Generator::accepted_rows, script);
+fn accepted(generator: &mut Generator, random: &mut Random, script: &mut Vec<u8>) {
+    written(generator, Generator::accepted_rows, random, script);
 }
 
-fn near_miss(generator: &mut Generator, _: &mut Random, script: &mut Vec<u8>) {
-    written(generator, Generator::near_miss_rows, script);
+fn near_miss(generator: &mut Generator, random: &mut Random, script: &mut Vec<u8>) {
+    written(generator, Generator::near_miss_rows, random, script);
 }
 
 /// Half of them are accepted scripts with a byte or two changed, so that they
@@ -188,7 +192,7 @@ fn damaged(generator: &mut Generator, random: &mut Random, script: &mut Vec<u8>)
         script[at] = match random.below(3) {
             0 => script[at].wrapping_add(1),
             1 => script[at].wrapping_sub(1),
-            _ => random.below(13) as u8,
+            _ => random.below(15) as u8,
         };
     }
 }

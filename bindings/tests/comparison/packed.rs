@@ -2,14 +2,14 @@
 //! those is a block with variables of its own.
 
 use crate::common::case::{Case, Input};
-use crate::common::due;
-use crate::common::guarded::Guarded;
 use crate::common::settings::Settings;
+use crate::common::tally::Tally;
 use crate::common::terms::{block, boxed, number, reading, Row, Term};
 use crate::layers::{Layers, Room, FAULTS};
+use crate::whole::Whole;
 use reference::random::Random;
 use reference::{Generator, Limits as Set};
-use roomscript::{Limits, FIELDS, MAX_BYTES};
+use roomscript::{Limits, FIELDS};
 
 const LIMITS: Limits = Limits::LARGEST;
 
@@ -34,7 +34,7 @@ fn part(generator: &mut Generator, first: u32, damaged: bool) -> Term {
         let mut row: Row = row.try_into().expect("a whole row");
         match row[0] {
             0x03..=0x06 | 0x08 | 0x09 => row[1] += first,
-            0x0A => {
+            0x0A | 0x0D => {
                 row[1] += first;
                 row[3] += first;
             }
@@ -82,34 +82,12 @@ fn filler(size: usize) -> Term {
     }
 }
 
-/// Both call the bytes of the rows.
-fn call(case: &Case, rows: &[u32], given: &[i32], junk: u32) {
-    let mut script = vec![0; MAX_BYTES];
-    let length = due::write(LIMITS, rows, &mut script).expect("rows of a script");
-    let script = &script[..length as usize];
-    let buffers = || {
-        (
-            Guarded::junk(LIMITS.row_numbers(), junk),
-            Guarded::junk(LIMITS.store_numbers(), !junk),
-        )
-    };
-    let (mut our_rows, mut our_store) = buffers();
-    let (lent, store) = (our_rows.lent_mut(), our_store.lent_mut());
-    let answer = roomscript::call(LIMITS, script, given, lent, store);
-    let (mut other_rows, mut other_store) = buffers();
-    let (lent, store) = (other_rows.lent_mut(), other_store.lent_mut());
-    let expected = due::call(LIMITS, script, given, lent, store);
-    case.equal(answer, expected, "answer of call");
-    case.same(our_rows.lent(), other_rows.lent(), "rows after call");
-    case.same(our_store.lent(), other_store.lent(), "store after call");
-    case.guarded(&our_rows, "rows after call");
-    case.guarded(&our_store, "store after call");
-}
-
 #[test]
 fn full_scripts_are_checked_and_run_alike() {
     let settings = Settings::from_environment().share(2);
     let mut layers = Layers::new("4096 terms, 4096/128/128/32");
+    let mut whole = Whole::new();
+    let mut called_all = Tally::new("call, 4096 terms, 4096/128/128/32");
     let mut generator = Generator::with_limits(settings.seed, PART);
     let mut random = Random::new(!settings.seed);
     for number in 0..settings.cases {
@@ -126,10 +104,11 @@ fn full_scripts_are_checked_and_run_alike() {
             junk: random.bits() as u32,
         };
         layers.check_and_run(&case, &rows, &given, room);
-        call(&case, &rows, &given, room.junk);
+        let called = whole.call(&case, &rows, &given, room.junk);
+        called_all.count(called);
     }
     let often: Vec<u32> = [0].into_iter().chain(30..=35).chain([37, 39, 40]).collect();
-    for tally in [&layers.checked, &layers.ran] {
+    for tally in [&layers.checked, &layers.ran, &called_all] {
         tally.report_with(&settings, &often, &[36, 38, 41, 42, 43]);
     }
     layers.ran_unchecked.report(&settings, &FAULTS);
