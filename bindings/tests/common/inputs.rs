@@ -131,9 +131,66 @@ pub fn answers() -> Vec<Example> {
     answers
 }
 
+/// A reading and an offset, sums held to both ends, and what depends on the
+/// version. The sum begins at offset 18, after the header, a block of 2 bytes
+/// and lets of 4 and 7.
+pub fn sums() -> Vec<Example> {
+    let offset = [
+        let_(0, reading(0)),
+        let_(1, number(-15)),
+        sum((0, 0), (1, 0)),
+    ];
+    let boxed_last = [let_(0, boxed(reading(7))), sum((0, 1), (0, 1))];
+    let of = |version, terms: &[Term]| bytes_in(version, &block(terms));
+    let first = |reading| [reading, 0, 0, 0, 0, 0, 0, 0];
+    let last = |reading| [0, 0, 0, 0, 0, 0, 0, reading];
+    let of_e1 = [185, 200, 0, 0, 0, 0, 0, 0];
+    let double = [let_(0, reading(0)), sum((0, 0), (0, 0))];
+    let inputs = [
+        (
+            "sum",
+            first(185),
+            of(2, &offset),
+            "accepted 6 call 170 cells 0",
+        ),
+        (
+            "sum-high",
+            first(i32::MAX),
+            of(2, &double),
+            "accepted 4 call 2147483647 cells 0",
+        ),
+        (
+            "sum-low",
+            last(i32::MIN),
+            of(2, &boxed_last),
+            "accepted 5 call -2147483648 cells 1",
+        ),
+        (
+            "sum-version-1",
+            first(185),
+            of(1, &offset),
+            "refused 13 at 18",
+        ),
+        (
+            "version-2",
+            of_e1,
+            of(2, &e1()),
+            "accepted 8 call 1 cells 0",
+        ),
+        ("version-3", of_e1, of(3, &e1()), "refused 11 at 3"),
+    ];
+    let example = |(name, readings, script, line): (&str, _, Vec<u8>, _)| Example {
+        name: name.to_string(),
+        input: input_of(readings, &script),
+        line,
+    };
+    inputs.map(example).into()
+}
+
 pub fn all() -> Vec<Example> {
     let mut all = listed();
     all.extend(edges());
     all.extend(answers());
+    all.extend(sums());
     all
 }

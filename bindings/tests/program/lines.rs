@@ -116,7 +116,9 @@ fn generated_inputs_print_alike() {
         io::stdout(),
         "occurred in roomcheck (seed {seed}): {counts:?}"
     );
-    for kind in ["accepted", "readings", "1", "12", "19", "31", "33", "39"] {
+    for kind in [
+        "accepted", "readings", "1", "11", "12", "13", "19", "31", "33", "39",
+    ] {
         let occurred = counts.contains_key(kind) || !settings.whole;
         assert!(occurred, "{kind} did not occur");
     }
