@@ -31,10 +31,13 @@ static roomscript_limits limits;
 static uint8_t output[ROOMSCRIPT_MAX_BYTES];
 static uint8_t script[ROOMSCRIPT_MAX_BYTES];
 static size_t length;
+static uint32_t version;
 
-static void do_read(void) { roomscript_read(limits, script, length, ROWS); }
+static void do_read(void) {
+    roomscript_read(limits, ROOMSCRIPT_NEWEST_VERSION, script, length, ROWS);
+}
 static void do_judge_rows(void) { roomscript_judge_rows(limits, ROWS); }
-static void do_write(void) { roomscript_write(limits, ROWS, output, sizeof output); }
+static void do_write(void) { roomscript_write(limits, version, ROWS, output, sizeof output); }
 static void do_check(void) { roomscript_check(limits, ROWS); }
 static void do_run(void) { roomscript_run(limits, ROWS, READINGS, STORE); }
 static void do_run_unchecked(void) { roomscript_run_unchecked(limits, ROWS, READINGS, STORE); }
@@ -88,14 +91,16 @@ static int asked(int count, char **words) {
 int main(int count, char **words) {
     pthread_attr_t attributes;
     pthread_t thread;
+    roomscript_script read;
     void *memory;
     if (!asked(count, words)) {
         return 1;
     }
     length = fread(script, 1, sizeof script, stdin);
     /* Those who take rows find them here. */
-    if (roomscript_read(limits, script, length, ROWS).refused != 0 ||
-        posix_memalign(&memory, 4096, PAINTED) != 0) {
+    read = roomscript_read(limits, ROOMSCRIPT_NEWEST_VERSION, script, length, ROWS);
+    version = read.version;
+    if (read.refused != 0 || posix_memalign(&memory, 4096, PAINTED) != 0) {
         return 1;
     }
     memset(memory, PAINT, PAINTED);

@@ -4,7 +4,7 @@
 use reference::form::FIELDS;
 use reference::machine::READINGS;
 use reference::{Ran, Refusal};
-use roomscript::Limits;
+use roomscript::{Limits, Script, NEWEST};
 use std::hint::black_box;
 
 /// What each operation finds beforehand in the buffers that it writes.
@@ -15,6 +15,10 @@ const JUNK: u8 = 0xA5;
 pub struct Stage {
     limits: Limits,
     set: reference::Limits,
+    /// The newest version that reading is to know.
+    newest: u32,
+    /// The version of the script.
+    version: u32,
     pub script: Vec<u8>,
     /// The script's own rows, for those who take rows.
     pub given: Vec<u32>,
@@ -35,10 +39,13 @@ impl Stage {
             levels: limits.levels,
         };
         let mut given = vec![0; limits.row_numbers()];
-        let terms = reference::read(set, &script, &mut given).expect("a script of this program");
+        let read = reference::read(set, NEWEST, &script, &mut given);
+        let read = read.expect("a script of this program");
         let mut stage = Stage {
             limits,
             set,
+            newest: NEWEST,
+            version: read.version,
             output: vec![JUNK; script.len()],
             rows: vec![0; limits.row_numbers()],
             store: vec![0; limits.store_numbers()],
@@ -46,18 +53,19 @@ impl Stage {
             script,
             given,
         };
-        stage.compare_form(terms);
-        stage.compare_layers(terms);
+        stage.compare_form(read.terms);
+        stage.compare_layers(read.terms);
         stage
     }
 
     fn compare_form(&mut self, terms: u32) {
         self.fill_with_junk();
-        let read = roomscript::read(self.limits, &self.script, &mut self.rows);
-        assert_eq!(read, Ok(terms));
+        let read = roomscript::read(self.limits, self.newest, &self.script, &mut self.rows);
+        let version = self.version;
+        assert_eq!(read, Ok(Script { version, terms }));
         assert_eq!(self.rows, self.given);
         assert_eq!(roomscript::judge_rows(self.limits, &self.given), Ok(terms));
-        let written = roomscript::write(self.limits, &self.given, &mut self.output);
+        let written = roomscript::write(self.limits, version, &self.given, &mut self.output);
         assert_eq!(written, Ok(self.script.len() as u32));
         assert_eq!(self.output, self.script);
     }
@@ -108,8 +116,8 @@ impl Stage {
     }
 }
 
-/// A whole call by the reference program: its read, and then its run, which
-/// checks.
+/// A whole call by the reference program: its read, of every version, and then
+/// its run, which checks.
 fn read_and_run(
     set: reference::Limits,
     script: &[u8],
@@ -117,9 +125,9 @@ fn read_and_run(
     rows: &mut [u32],
     store: &mut [u32],
 ) -> Result<(u32, Ran), Refusal> {
-    let terms = reference::read(set, script, rows)?;
+    let read = reference::read(set, NEWEST, script, rows)?;
     let ran = reference::run(set, rows, readings, store)?;
-    Ok((terms, ran))
+    Ok((read.terms, ran))
 }
 
 /// So many calls of one program, one after the other.
@@ -131,14 +139,18 @@ pub struct Operation {
     pub reference: Batch,
 }
 
-/// A batch that calls a function on the set and on parts of the stage, none of
-/// which the compiler may know.
+/// A batch that calls a function on the set, on a version where it takes one
+/// and on parts of the stage, none of which the compiler may know.
 macro_rules! batch {
-    ($function:path, $set:ident: $(&$lent:ident),* $(; $(&mut $written:ident),*)?) => {
+    (
+        $function:path,
+        $set:ident $(, $version:ident)?: $(&$lent:ident),* $(; $(&mut $written:ident),*)?
+    ) => {
         |stage, calls| {
             for _ in 0..calls {
                 let _ = black_box($function(
                     black_box(stage.$set),
+                    $(black_box(stage.$version),)?
                     $(black_box(&stage.$lent[..]),)*
                     $($(black_box(&mut stage.$written[..]),)*)?
                 ));
@@ -150,8 +162,8 @@ macro_rules! batch {
 pub const OPERATIONS: [Operation; 7] = [
     Operation {
         name: "read",
-        ours: batch!(roomscript::read, limits: &script; &mut rows),
-        reference: batch!(reference::read, set: &script; &mut rows),
+        ours: batch!(roomscript::read, limits, newest: &script; &mut rows),
+        reference: batch!(reference::read, set, newest: &script; &mut rows),
     },
     Operation {
         name: "judge_rows",
@@ -160,8 +172,8 @@ pub const OPERATIONS: [Operation; 7] = [
     },
     Operation {
         name: "write",
-        ours: batch!(roomscript::write, limits: &given; &mut output),
-        reference: batch!(reference::write, set: &given; &mut output),
+        ours: batch!(roomscript::write, limits, version: &given; &mut output),
+        reference: batch!(reference::write, set, version: &given; &mut output),
     },
     Operation {
         name: "check",

@@ -3,7 +3,7 @@
 use crate::large;
 use crate::measure::{measure, Measured, BATCH, PAIRS};
 use crate::operations::{Stage, OPERATIONS};
-use crate::scripts::{full, mixed, E1};
+use crate::scripts::{full, mixed, with_sums, E1};
 use crate::table::Table;
 use roomscript::Limits;
 
@@ -23,14 +23,17 @@ pub fn conditions() -> String {
     )
 }
 
-/// Three scripts from small to full under the language's own set, and a
-/// mixture of all terms under the largest.
+/// Three scripts from small to full under the language's own set, a mixture of
+/// all terms under the largest, and two scripts with sums, as large as the
+/// second and the third.
 pub fn sizes() -> Table {
     let scripts = [
         ("small", Limits::BASE, E1.to_vec()),
         ("middling", Limits::BASE, mixed(60)),
         ("full", Limits::BASE, full()),
         ("largest", Limits::LARGEST, large::mixed(4096)),
+        ("sums, middling", Limits::BASE, with_sums(60)),
+        ("sums, full", Limits::BASE, with_sums(512)),
     ];
     let mut lines = Vec::new();
     for operation in &OPERATIONS {

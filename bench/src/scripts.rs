@@ -5,7 +5,7 @@
 #[cfg(test)]
 pub mod outline;
 
-use reference::form::HEADER;
+use reference::form::header;
 
 /// The first example, E1 (LANGUAGE 8.2).
 pub const E1: [u8; 25] = [
@@ -21,9 +21,10 @@ const VARIABLES: u8 = 64;
 /// A statement's bytes, and how many terms it has.
 type Statement = (usize, Vec<u8>);
 
-/// Statements of every kind, 24 terms in all. They declare three variables and
-/// have two boxes, so that 512 terms of them are within the limits.
-fn statements(first: u8) -> [Statement; 9] {
+/// Statements of every kind of version 1, 24 terms in all. They declare three
+/// variables and have two boxes, so that 512 terms of them are within the
+/// limits.
+fn statements(first: u8) -> Vec<Statement> {
     let (a, b, c) = (first, first + 1, first + 2);
     [
         // let a = 300; let b = box reading 3
@@ -41,17 +42,54 @@ fn statements(first: u8) -> [Statement; 9] {
         (2, vec![0x09, a, 0, 0x02, 5]),
         (3, vec![0x09, a, 0, 0x0B, 1, 0x04, a, 0]),
     ]
+    .to_vec()
 }
 
-/// A block of the statements given, as a script.
+/// Statements with seven sums, as many terms, variables and boxes in all.
+fn statements_with_sums(first: u8) -> Vec<Statement> {
+    let (a, b, c) = (first, first + 1, first + 2);
+    [
+        // let a = 300; let b = box reading 3
+        (2, vec![0x08, a, 0x01, 0, 0, 1, 44]),
+        (3, vec![0x08, b, 0x07, 0x02, 3]),
+        // { let c = &a; sum *c, *b }
+        (4, vec![0x0B, 2, 0x08, c, 0x05, a, 0, 0x0D, c, 1, b, 1]),
+        // *b = sum a, *b; { sum a, *b; copy *b }
+        (2, vec![0x09, b, 1, 0x0D, a, 0, b, 1]),
+        (3, vec![0x0B, 2, 0x0D, a, 0, b, 1, 0x03, b, 1]),
+        // sum a, *b; b = box move *b
+        (1, vec![0x0D, a, 0, b, 1]),
+        (3, vec![0x09, b, 0, 0x07, 0x04, b, 1]),
+        // a = sum *b, a; a = { sum a, a }; sum *b, *b
+        (2, vec![0x09, a, 0, 0x0D, b, 1, a, 0]),
+        (3, vec![0x09, a, 0, 0x0B, 1, 0x0D, a, 0, a, 0]),
+        (1, vec![0x0D, b, 1, b, 1]),
+    ]
+    .to_vec()
+}
+
+/// A block of the statements given, as a script of version 1.
 pub fn script(statements: &[Vec<u8>]) -> Vec<u8> {
+    script_in(1, statements)
+}
+
+fn script_in(version: u32, statements: &[Vec<u8>]) -> Vec<u8> {
     let count = statements.len() as u8;
-    [&HEADER, &[0x0B, count][..], &statements.concat()].concat()
+    [&header(version), &[0x0B, count][..], &statements.concat()].concat()
 }
 
 /// A script of exactly so many terms, 2 to 512, in the same mixture at every
 /// size.
 pub fn mixed(terms: usize) -> Vec<u8> {
+    script(&mixture(terms, statements))
+}
+
+/// A script of version 2, likewise, with sums.
+pub fn with_sums(terms: usize) -> Vec<u8> {
+    script_in(2, &mixture(terms, statements_with_sums))
+}
+
+fn mixture(terms: usize, statements: fn(u8) -> Vec<Statement>) -> Vec<Vec<u8>> {
     // The outermost block and the answer are there at every size.
     let mut left = terms - 2;
     let mut chosen = Vec::new();
@@ -64,7 +102,7 @@ pub fn mixed(terms: usize) -> Vec<u8> {
         left -= size;
     }
     chosen.extend(vec![READING.to_vec(); left + 1]);
-    script(&chosen)
+    chosen
 }
 
 /// 21 terms with 2 boxes that reach from level 2 to level 16: a number in
@@ -126,6 +164,7 @@ pub fn chain_of(cells: u8, level: usize) -> Vec<u8> {
 mod tests {
     use super::outline::{outline, rows_of};
     use super::*;
+    use reference::form::SUM;
     use reference::{check, run_unchecked, Limits};
 
     const SET: Limits = Limits::BASE;
@@ -139,10 +178,22 @@ mod tests {
     #[test]
     fn mixed_has_the_terms_asked_for_and_is_accepted() {
         for terms in 2..=512 {
-            let script = mixed(terms);
-            assert_eq!(outline(SET, &script).0, terms as u32);
-            assert_eq!(check(SET, &rows_of(SET, &script).1), Ok(terms as u32));
+            for script in [mixed(terms), with_sums(terms)] {
+                assert_eq!(outline(SET, &script).0, terms as u32);
+                assert_eq!(check(SET, &rows_of(SET, &script).1), Ok(terms as u32));
+            }
         }
+    }
+
+    #[test]
+    fn with_sums_has_them() {
+        let sums = |script: &[u8]| {
+            let rows = rows_of(SET, script).1;
+            rows.chunks(5).filter(|row| row[0] == SUM).count()
+        };
+        assert_eq!(sums(&with_sums(60)), 15);
+        assert_eq!(sums(&with_sums(512)), 147);
+        assert_eq!(sums(&mixed(512)), 0);
     }
 
     #[test]

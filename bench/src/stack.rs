@@ -3,7 +3,7 @@
 
 use crate::large;
 use crate::operations::OPERATIONS;
-use crate::scripts::{chain, full, mixed, E1};
+use crate::scripts::{chain, full, mixed, with_sums, E1};
 use crate::table::Table;
 use roomscript::Limits;
 use std::env;
@@ -64,6 +64,7 @@ pub fn table() -> Result<Table> {
         ("small", Limits::BASE, E1.to_vec()),
         ("middling", Limits::BASE, mixed(60)),
         ("full", Limits::BASE, full()),
+        ("sums, full", Limits::BASE, with_sums(512)),
         ("64 cells in a chain", Limits::BASE, chain()),
         ("small, largest set", Limits::LARGEST, E1.to_vec()),
         ("full, largest set", Limits::LARGEST, large::full()),

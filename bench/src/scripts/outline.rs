@@ -1,13 +1,13 @@
 //! How large a script is, for the tests of the scripts that are timed.
 
 use reference::form::{BLOCK, BOX, FIELDS, LET};
-use reference::{read, Limits};
+use reference::{read, Limits, NEWEST};
 
 /// The terms of a script and its rows.
 pub fn rows_of(limits: Limits, script: &[u8]) -> (u32, Vec<u32>) {
     let mut rows = vec![0; limits.row_numbers()];
-    let terms = read(limits, script, &mut rows).expect("a script");
-    (terms, rows)
+    let read = read(limits, NEWEST, script, &mut rows).expect("a script");
+    (read.terms, rows)
 }
 
 /// Terms, boxes and levels of a script.
