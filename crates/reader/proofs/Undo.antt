@@ -18,7 +18,7 @@ use Rattle.reader.specs.Reader.{parse, decodeIn}
 use Rattle.reader.specs.Measures.{size}
 use Rattle.reader.specs.Within.{Under, Within, Allowed}
 use Rattle.reader.specs.Answers.{Told, Answered, lengthsFit, parsedInto, onFit, readOf, rowsTree, judgedOf, givenWhole, writable, writtenInto, writtenOf}
-use Rattle.reader.specs.Undo.{ReadAfterWrite, WriteAfterRead, JudgedAreRead}
+use Rattle.reader.specs.Undo.{ReadAfterWrite, WriteAfterRead, JudgedAreRead, ReadIsAllowed, AllowedIsRead}
 use Rattle.reader.proofs.Promise.{tree-decoded}
 use Rattle.reader.proofs.SetFirst.{set-taken}
 use Rattle.reader.proofs.Answers.{err-ok, then, needed}
@@ -131,3 +131,12 @@ judged-are-read l rows n others u e h =
     let s : Whole = record { version = newest; term = t } in
     let allowed : Allowed l s = record { version = newest-known; kinds = version-most t; term = d .1 } in
     (bytesOf s, reads-tree l newest s others (c .ranges) allowed (omega arith) e ∙ ap₂ (λ (k : ℕ) (x : List ℕ). (ok (newest, k), x)) k (sym (d .0)))
+
+pub read-is-allowed : (l : Limits) → ReadIsAllowed l
+read-is-allowed l known script rows v n rows′ u h =
+    let r = read-says l known script rows (v, n) rows′ u h in
+    let version : v ≡ r .1 .version = ap (λ (x : Told). x .0) (r .5) in
+    (r .1, r .2, sym version, omega (arith, r .3, version), r .4, ap (λ (x : Told). x .1) (r .5), r .6)
+
+pub allowed-is-read : (l : Limits) → AllowedIsRead l
+allowed-is-read l s known others output r i m e room = (reads-tree l known s others r i m e, writes-tree l s output r i room)

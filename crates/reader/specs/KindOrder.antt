@@ -1,5 +1,5 @@
 -- The definition tried on the order of refusals at a kind byte (LANGUAGE 5.10): under limits so small that several are due at once,
--- it gives the first; and on a kind of a later version (2.3).
+-- it gives the first; on a kind of a later version (2.3); and on versions (5.9, 6.2).
 use Prim.Native.Nat.{ℕ}
 use mathlib.Core.Path.{_≡_, refl}
 use mathlib.Core.List.{List, [], _∷_}
@@ -22,8 +22,9 @@ outermost v kind = 0x52 ∷ 0x43 ∷ 0x53 ∷ 0 ∷ v ∷ kind ∷ []
 abbrev blockOf : List ℕ → List ℕ
 blockOf bytes = 0x52 ∷ 0x43 ∷ 0x53 ∷ 0 ∷ 1 ∷ 0x0B ∷ 1 ∷ bytes
 
--- No byte; an unknown kind, a sum in version 1 and in version 2, and a box, as the outermost term; and a box inside where a term, a level and
--- a box are too many, each without the one before.
+-- No byte; an unknown kind, a sum in version 1 and in version 2, and a box, as the outermost term; a box inside where a term, a level and a box
+-- are too many, each without the one before; one byte of a version, versions 257 and 3, versions that are newer than the newest known one, and a
+-- reader that is told a newer one than there is.
 pub order :
     (parse (few 1 1) 2 (blockOf []) ≡ err (12, 7))
     × (parse (few 0 0) 2 (outermost 2 0x0C) ≡ err (13, 5))
@@ -33,8 +34,14 @@ pub order :
     × (parse (few 1 1) 2 (blockOf (0x07 ∷ [])) ≡ err (16, 7))
     × (parse (few 2 1) 2 (blockOf (0x07 ∷ [])) ≡ err (15, 7))
     × (parse (few 2 2) 2 (blockOf (0x07 ∷ [])) ≡ err (17, 7))
+    × (parse (few 1 1) 2 (0x52 ∷ 0x43 ∷ 0x53 ∷ 1 ∷ []) ≡ err (12, 4))
+    × (parse (few 1 1) 2 (0x52 ∷ 0x43 ∷ 0x53 ∷ 1 ∷ 1 ∷ []) ≡ err (11, 3))
+    × (parse (few 1 1) 2 (outermost 3 0x0C) ≡ err (11, 3))
+    × (parse (few 1 1) 1 (outermost 2 0x0C) ≡ err (11, 3))
+    × (parse (few 1 1) 0 (outermost 1 0x0C) ≡ err (11, 3))
+    × (parse (few 1 1) 3 (outermost 2 0x0C) ≡ err (13, 5))
 unfolding
     need Result._>>=_
     Kinds.newest Kinds.knows Kinds.byteOf Kinds.kinds Kinds.among Kinds.kindOf Kinds.fields
     Reader._>>=_ Reader.done Reader.placeIn Reader.expect Reader.first Reader.peek Reader.skip Reader.next Reader.ranged Reader.field Reader.operands Reader.restOfRow Reader.is Reader.boxesOf Reader.ended Reader.known Reader.kind Reader.opening Reader.counted Reader.several Reader.built Reader.term Reader.nothingLeft Reader.over Reader.script Reader.mark Reader.version Reader.leading Reader.wholeScript Reader.answer Reader.parse
-order = (refl, refl, refl, refl, refl, refl, refl, refl)
+order = (refl, refl, refl, refl, refl, refl, refl, refl, refl, refl, refl, refl, refl, refl)

@@ -40,7 +40,7 @@ unfoldable mutual
   FormedAll l i (last t) = Formed l i t
   FormedAll l i (more t ts) = Formed l i t × FormedAll l (i + size t) ts
 
--- A script whose form is right (LANGUAGE 2). That its bytes are few enough follows for every set: 4,096 terms take no more than 20,485 (2.8).
+-- A script whose form is right (LANGUAGE 2), in some version. That its bytes are few enough follows for every set: 4,096 terms take no more than 20,485 (2.8).
 pub record Within (l : Limits) (t : Term) : Type 0 where
   pub levels : depth t ≤ l .levels
   pub terms : size t ≤ l .terms
