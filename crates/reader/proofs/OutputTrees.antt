@@ -6,7 +6,7 @@ use native.Mathlib.Numerals.{one-add}
 use mathlib.Core.Path.{_≡_, sym, ap, ap₂, _∙_}
 use mathlib.Core.List.{List, _∷_, _++_, append-nil, append-assoc}
 use Rattle.reader.specs.Limits.{Limits}
-use Rattle.reader.specs.Script.{Term, Terms, Whole, number, reading, copy, move, borrowShared, borrowExclusive, box, declare, assign, below, block, sum, last, more}
+use Rattle.reader.specs.Script.{Term, Terms, number, reading, copy, move, borrowShared, borrowExclusive, box, declare, assign, below, block, sum, last, more}
 use Rattle.reader.specs.Kinds.{newest, byteOf, fields}
 use Rattle.reader.specs.Layout.{inBytes, inRows, zeros, wordOf, unused, head, others, lay, lays, bytesOf, rowsOf}
 use Rattle.reader.specs.Measures.{size, sizes}

@@ -5,9 +5,9 @@ use mathlib.Core.Path.{_≡_, refl, sym, ap, _∙_}
 use mathlib.Core.Bool.{true, false}
 use mathlib.Core.List.{List}
 use lib.ListN.{length, drop, length-drop}
-use lib.Dec.{ltb, eqb}
+use lib.Dec.{ltb}
 use borrow.Author.Tests.{lt-ltb, le-ltb, eq-eqb, ne-eqb}
-use Rattle.reader.specs.Result.{Result, ok, err, need, Refusal, pick, _>>=_}
+use Rattle.reader.specs.Result.{ok, err, need, Refusal, pick, _>>=_}
 use Rattle.reader.specs.Limits.{Limits, inRanges, rowNumbers}
 use Rattle.reader.specs.Kinds.{newest}
 use Rattle.reader.specs.Script.{Term}

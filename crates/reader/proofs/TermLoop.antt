@@ -8,7 +8,7 @@ use mathlib.Core.List.{List}
 use lib.ListN.{length, getD, drop, take, length-drop}
 use lib.Seq.{sets, drop-drop, getD-drop}
 use Rattle.reader.specs.Limits.{Limits}
-use Rattle.reader.specs.Kinds.{byteOf, kBlock}
+use Rattle.reader.specs.Kinds.{byteOf}
 use Rattle.reader.specs.Layout.{inRows, lay, lays}
 use Rattle.reader.specs.Parts.{IsKind, fieldsOf, boxesWith}
 use Rattle.reader.specs.ByteParts.{openingNumber, rowWith, valuesAt, Filled, Ready, Got, Reading, readTerm, readBlock}

@@ -1,7 +1,6 @@
 -- `machine::around::run_box` meets its contract. Assumes nothing.
 use Rattle.machine.proofs.AroundLaws.{box-stops, box-goes}
 use Rattle.machine.proofs.WordLaws.{open-row}
-use borrow.Author.Needs.{needs}
 use native.Mathlib.Omega.{arith}
 use Rattle.machine.proofs.around.run_box.Statement.{statement}
 use Rattle.machine.proofs.around.run_box.Tie as tie

@@ -1,6 +1,5 @@
 -- `ownership::tables::judge_alone` meets its contract. Assumes nothing.
 use native.Mathlib.Omega.{arith}
-use borrow.Author.Needs.{needs}
 use Rattle.ownership.proofs.tables.judge_alone.Statement.{statement}
 use Rattle.ownership.proofs.tables.judge_alone.Tie as tie
 

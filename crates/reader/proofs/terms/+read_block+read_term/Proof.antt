@@ -2,7 +2,7 @@
 -- the block; the loops' invariants are `Inner` and `Going`. Assumes nothing.
 use Prim.Native.Nat.{ℕ, _<_, _+_, _-_, _*_}
 use native.Mathlib.Omega.{arith}
-use mathlib.Core.Path.{_≡_, refl, sym, _∙_}
+use mathlib.Core.Path.{_≡_, refl, _∙_}
 use mathlib.Core.Logic.{inl, inr, ⊎-elim}
 use borrow.Author.Needs.{needs}
 use borrow.Author.Tests.{eqb-true, eqb-false}
