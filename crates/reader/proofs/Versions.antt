@@ -1,8 +1,8 @@
 -- The versions that a reader knows, and that the newest version has every kind.
 use Prim.Native.Nat.{ℕ, _+_, _*_, _/_, _%_, _≤_, _<_}
 use native.Mathlib.Omega.{arith}
-use mathlib.Core.Path.{_≡_, refl}
-use mathlib.Core.Bool.{Bool, true, false, _&&_}
+use mathlib.Core.Path.{_≡_, refl, sym}
+use mathlib.Core.Bool.{Bool, true, false, _&&_, and-false}
 use mathlib.Core.Option.{Option, none, some}
 use lib.Dec.{leb}
 use borrow.Author.Tests.{leb-true, le-leb}
@@ -32,11 +32,7 @@ knows-most n m v e h = rw e (go (leb 1 v) (leb v 2) refl)
   where
     go : (a b : Bool) → leb v 2 ≡ b → (a && b && b) ≡ (a && leb v m && b)
     go a true q = rw (le-leb v m (omega (arith, leb-true v 2 q))) refl
-    go true false q = rest (leb v m)
-      where
-        rest : (c : Bool) → false ≡ (c && false)
-        rest true = refl
-        rest false = refl
+    go true false q = sym (and-false (leb v m))
     go false false q = refl
 
 -- There are few of them.

@@ -27,6 +27,9 @@ pub const BELOW: u32 = 10;
 
 pub const BLOCK: u32 = 11;
 
+// No version has a term of this kind.
+const NO_KIND: u32 = 12;
+
 pub const SUM: u32 = 13;
 
 // The newest version there is (LANGUAGE 2.1).
@@ -56,14 +59,16 @@ pub fn newest_known(newest: u32) -> usize
     }
 }
 
-// A kind of this version (LANGUAGE 2.3); any other is refused with 13 (5.4).
+// A kind of this version (LANGUAGE 2.3); any other is refused with 13 (5.4). The last one is the same for a whole script,
+// so that a term costs three comparisons.
 pub fn known(version: usize, kind: u32) -> bool
     ensures { λ r. ⌜ r ≡ knownIn version kind ⌝ }
 {
-    if kind <= BLOCK {
-        return 0 < kind;
+    let last = if version < SUM_SINCE { BLOCK } else { SUM };
+    if kind < NUMBER {
+        return false;
     }
-    kind == SUM && SUM_SINCE <= version
+    kind <= last && kind != NO_KIND
 }
 
 // Box, let and assign have one inner term (LANGUAGE 2.3), which is in the next row.
