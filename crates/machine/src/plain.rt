@@ -109,7 +109,8 @@ pub fn run_number(sizes: usize, store: &[u32], root: usize, follows: usize) -> G
     held
 }
 
-// What the kinds with two places make of the numbers at them (LANGUAGE 4.16): their sum held to the range; or 1 if the first is less, otherwise 0.
+// What the kinds with two places make of the numbers at them (LANGUAGE 4.16): their sum held to the range; or 1 if the
+// first is less, otherwise 0.
 fn paired(kind: u32, a: u32, b: u32) -> u32
     ensures { λ r. ⌜ r ≡ pairOf kind a b ⌝ }
 {
@@ -122,7 +123,8 @@ fn paired(kind: u32, a: u32, b: u32) -> u32
     0
 }
 
-// A term with two places (LANGUAGE 4.16): the number at the first, then that at the second, and what its kind makes of both.
+// A term with two places (LANGUAGE 4.16): the number at the first, then that at the second, and what its kind makes of
+// both.
 pub fn run_pair(
     sizes: usize,
     store: &[u32],

@@ -27,7 +27,7 @@ pub const BELOW: u32 = 10;
 
 pub const BLOCK: u32 = 11;
 
-// No version has a term of this kind.
+// No version has a kind with this byte (LANGUAGE 2.3).
 const NO_KIND: u32 = 12;
 
 pub const SUM: u32 = 13;
