@@ -22,12 +22,13 @@ outermost v kind = 0x52 ∷ 0x43 ∷ 0x53 ∷ 0 ∷ v ∷ kind ∷ []
 abbrev blockOf : List ℕ → List ℕ
 blockOf bytes = 0x52 ∷ 0x43 ∷ 0x53 ∷ 0 ∷ 1 ∷ 0x0B ∷ 1 ∷ bytes
 
--- No byte; an unknown kind, a sum in version 1 and in version 2, and a box, as the outermost term; a box inside where a term, a level and a box
+-- No byte; a choice and a sum in version 1 and in version 2, and a box, as the outermost term; a box inside where a term, a level and a box
 -- are too many, each without the one before; one byte of a version, versions 257 and 3, versions that are newer than the newest known one, and a
 -- reader that is told a newer one than there is.
 pub order :
     (parse (few 1 1) 2 (blockOf []) ≡ err (12, 7))
-    × (parse (few 0 0) 2 (outermost 2 0x0C) ≡ err (13, 5))
+    × (parse (few 0 0) 2 (outermost 1 0x0C) ≡ err (13, 5))
+    × (parse (few 0 0) 2 (outermost 2 0x0C) ≡ err (18, 5))
     × (parse (few 0 0) 2 (outermost 1 0x0D) ≡ err (13, 5))
     × (parse (few 0 0) 2 (outermost 2 0x0D) ≡ err (18, 5))
     × (parse (few 0 0) 2 (outermost 1 0x07) ≡ err (18, 5))
@@ -39,9 +40,9 @@ pub order :
     × (parse (few 1 1) 2 (outermost 3 0x0C) ≡ err (11, 3))
     × (parse (few 1 1) 1 (outermost 2 0x0C) ≡ err (11, 3))
     × (parse (few 1 1) 0 (outermost 1 0x0C) ≡ err (11, 3))
-    × (parse (few 1 1) 3 (outermost 2 0x0C) ≡ err (13, 5))
+    × (parse (few 1 1) 3 (outermost 2 0x0E) ≡ err (13, 5))
 unfolding
     need Result._>>=_
     Kinds.newest Kinds.knows Kinds.byteOf Kinds.kinds Kinds.among Kinds.kindOf Kinds.fields
     Reader._>>=_ Reader.done Reader.placeIn Reader.expect Reader.first Reader.peek Reader.skip Reader.next Reader.ranged Reader.field Reader.operands Reader.restOfRow Reader.is Reader.boxesOf Reader.ended Reader.known Reader.kind Reader.opening Reader.counted Reader.several Reader.built Reader.term Reader.nothingLeft Reader.over Reader.script Reader.mark Reader.version Reader.leading Reader.wholeScript Reader.answer Reader.parse
-order = (refl, refl, refl, refl, refl, refl, refl, refl, refl, refl, refl, refl, refl, refl)
+order = (refl, refl, refl, refl, refl, refl, refl, refl, refl, refl, refl, refl, refl, refl, refl)

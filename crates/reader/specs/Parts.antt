@@ -15,11 +15,11 @@ cursor tail at terms boxes = record { rest = tail; at = at; terms = terms; boxes
 
 -- A kind byte of a version, by its range.
 unfoldable pub knownIn : ℕ → ℕ → Bool
-knownIn v b = pick (leb b 11) (ltb 0 b) (eqb b 13 && leb 2 v)
+knownIn v b = pick (leb b 11) (ltb 0 b) (leb b 13 && leb 2 v)
 
 -- A kind byte of some version.
 abbrev pub IsKind : ℕ → Type 0
-IsKind b = (0 < b) × (b ≤ 13) × (b ≡ 12 → ⊥)
+IsKind b = (0 < b) × (b ≤ 13)
 
 unfoldable pub fieldsIn : Limits → Option Kind → List Field
 fieldsIn l none = []

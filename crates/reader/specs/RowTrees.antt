@@ -5,10 +5,11 @@ use Prim.Native.Nat.{ℕ, zero, suc, _+_, _*_}
 use mathlib.Core.Bool.{Bool, true, false}
 use mathlib.Core.Option.{Option, none, some}
 use mathlib.Core.List.{List}
-use lib.Dec.{leb, ltb}
+use lib.Dec.{leb, ltb, eqb}
 use lib.ListN.{length}
-use Rattle.reader.specs.Script.{Place, Term, Terms, number, reading, copy, move, borrowShared, borrowExclusive, box, declare, assign, below, block, sum, last, more}
-use Rattle.reader.specs.Kinds.{Kind, kNumber, kReading, kCopy, kMove, kShared, kExclusive, kBox, kLet, kAssign, kBelow, kBlock, kSum, newest, kindOf}
+use Rattle.reader.specs.Script.{Place, Term, Terms, number, reading, copy, move, borrowShared, borrowExclusive, box, declare, assign, below, block, choice, sum, last, more}
+use Rattle.reader.specs.Kinds.{Kind, kNumber, kReading, kCopy, kMove, kShared, kExclusive, kBox, kLet, kAssign, kBelow, kBlock, kChoice, kSum, newest, kindOf}
+use Rattle.reader.specs.Reader.{branch}
 use Rattle.reader.specs.RowParts.{fieldAt}
 
 -- The place in fields k and k + 1 of row i.
@@ -50,6 +51,19 @@ abbrev pub IsRest : (ℕ → RowTree Term) → ℕ → ℕ → Type 0
 IsRest term zero i = Unit {0}
 IsRest term (suc n) i = IsTree (severalAt term n i)
 
+-- A block from row i on: its number and its terms.
+abbrev pub blockAt : (ℕ → RowTree Term) → List ℕ → ℕ → RowTree (ℕ × Terms)
+blockAt term rows i = onlyIf (eqb (fieldAt rows i 0) 11) (around branch (term i))
+
+-- Two of them, the second after the first.
+abbrev pub thenBlock : RowTree (ℕ × Terms) → (ℕ → RowTree (ℕ × Terms)) → RowTree ((ℕ × Terms) × (ℕ × Terms))
+thenBlock none rest = none
+thenBlock (some r) rest = around (λ b. (r .0, b)) (rest (r .1))
+
+-- The choice with these two blocks.
+abbrev pub choiceOf : ℕ → Place → (ℕ × Terms) × (ℕ × Terms) → Term
+choiceOf i p b = choice i p (b .0 .0) (b .0 .1) (b .1 .0) (b .1 .1)
+
 -- A term that is one row, where a test of the row is met.
 abbrev leaf : Bool → Term → ℕ → RowTree Term
 leaf b t i = onlyIf b (some (t, i + 1))
@@ -68,6 +82,7 @@ kindAt (some kLet) nv term rows i = onlyIf (ltb (fieldAt rows i 1) nv) (around (
 kindAt (some kAssign) nv term rows i = onlyIf (ltb (fieldAt rows i 1) nv) (around (assign i (placeAt rows i 1)) (term (i + 1)))
 kindAt (some kBelow) nv term rows i = onlyIf (ltb (fieldAt rows i 1) nv) (leaf (ltb (fieldAt rows i 3) nv) (below i (placeAt rows i 1) (placeAt rows i 3)) i)
 kindAt (some kBlock) nv term rows i = around (block i) (termsAt term (fieldAt rows i 1) (i + 1))
+kindAt (some kChoice) nv term rows i = onlyIf (ltb (fieldAt rows i 1) nv) (around (choiceOf i (placeAt rows i 1)) (thenBlock (blockAt term rows (i + 1)) (blockAt term rows)))
 kindAt (some kSum) nv term rows i = onlyIf (ltb (fieldAt rows i 1) nv) (leaf (ltb (fieldAt rows i 3) nv) (sum i (placeAt rows i 1) (placeAt rows i 3)) i)
 
 -- The term at row i, with the levels that are left.

@@ -3,10 +3,10 @@ use Prim.Native.Nat.{ℕ, suc, _+_, _≤_, _<_}
 use mathlib.Core.Path.{_≡_}
 use mathlib.Core.List.{List, [], _∷_, _++_}
 use Rattle.reader.specs.Limits.{Limits}
-use Rattle.reader.specs.Script.{Term, Terms, Whole, number, reading, copy, move, borrowShared, borrowExclusive, box, declare, assign, below, block, sum, last, more}
-use Rattle.reader.specs.Kinds.{kNumber, kReading, kCopy, kMove, kShared, kExclusive, kBox, kLet, kAssign, kBelow, kBlock, kSum, newest, Field, word, until, fields}
+use Rattle.reader.specs.Script.{Term, Terms, Whole, number, reading, copy, move, borrowShared, borrowExclusive, box, declare, assign, below, block, choice, sum, last, more}
+use Rattle.reader.specs.Kinds.{kNumber, kReading, kCopy, kMove, kShared, kExclusive, kBox, kLet, kAssign, kBelow, kBlock, kChoice, kSum, newest, Field, word, until, fields}
 use Rattle.reader.specs.Layout.{placeOf, others}
-use Rattle.reader.specs.Measures.{size, boxesIn, depth, versionIn, kindIn}
+use Rattle.reader.specs.Measures.{size, sizes, boxesIn, depth, versionIn, kindIn}
 
 -- What an operand may be (LANGUAGE 2.4).
 abbrev pub InRange : Field → ℕ → Type 0
@@ -34,6 +34,10 @@ unfoldable mutual
   Formed l i (assign j p t) = (j ≡ i) × Ranges (fields l kAssign) (placeOf p) × Formed l (suc i) t
   Formed l i (below j p q) = (j ≡ i) × Ranges (fields l kBelow) (placeOf p ++ placeOf q)
   Formed l i (block j ts) = (j ≡ i) × Ranges (fields l kBlock) (suc (others ts) ∷ []) × FormedAll l (suc i) ts
+  Formed l i (choice m p j us k vs) =
+      (m ≡ i) × Ranges (fields l kChoice) (placeOf p)
+      × ((j ≡ suc i) × Ranges (fields l kBlock) (suc (others us) ∷ []) × FormedAll l (suc (suc i)) us)
+      × ((k ≡ suc i + suc (sizes us)) × Ranges (fields l kBlock) (suc (others vs) ∷ []) × FormedAll l (suc (suc i + suc (sizes us))) vs)
   Formed l i (sum j p q) = (j ≡ i) × Ranges (fields l kSum) (placeOf p ++ placeOf q)
 
   pub FormedAll : Limits → ℕ → Terms → Type 0
