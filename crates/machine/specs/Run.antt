@@ -2,8 +2,9 @@
 use Prim.Native.Nat.{ℕ, suc}
 use mathlib.Core.Bool.{not}
 use mathlib.Core.List.{List, [], _∷_}
+use lib.Dec.{eqb}
 use Rattle.reader.specs.Result.{ok, _>>=_, need, pick}
-use Rattle.reader.specs.Script.{Place, Term, number, reading, copy, move, borrowShared, borrowExclusive, box, declare, assign, below, block, sum, Terms, last, more}
+use Rattle.reader.specs.Script.{Place, Term, number, reading, copy, move, borrowShared, borrowExclusive, box, declare, assign, below, block, choice, sum, Terms, last, more}
 use Rattle.machine.specs.Values.{variable, cell, Value, empty, num, owner, reference, openWith}
 use Rattle.machine.specs.Store.{Store, cleared, put, isOpen, valueIn, State, withStore, Ran}
 use Rattle.machine.specs.Locate.{locate, filled, numberIn}
@@ -32,7 +33,7 @@ runMove s i p =
 unfoldable pub runBorrow : State → ℕ → Place → Ran Outcome
 runBorrow s i p = locate s i p >>= λ l. ok (s, reference l)
 
--- One of two places (LANGUAGE 4.16): locate, read; a number must be there.
+-- A place of a below, a sum or a choice (LANGUAGE 4.16, 4.21): locate, read; a number must be there.
 unfoldable pub runNumber : State → ℕ → Place → Ran ℕ
 runNumber s i p =
     locate s i p >>= λ l.
@@ -95,6 +96,12 @@ module _ (readings : ℕ → ℕ) where
     run (below i p q) s = runPair compared s i p q
     run (sum i p q) s = runPair heldSum s i p q
     run (block i ts) s = runs ts i (entered s) >>= λ o. runBlockEnd i (s .opened) o
+    -- The first block runs if the number at the place is not 0, else the second (LANGUAGE 4.21).
+    run (choice i p j us k vs) s =
+        runNumber s i p >>= λ n.
+        pick (eqb n 0)
+        (runs vs k (entered s) >>= λ o. runBlockEnd k (s .opened) o)
+        (runs us j (entered s) >>= λ o. runBlockEnd j (s .opened) o)
 
     -- The terms of block i (LANGUAGE 4.17): each value but the last is dropped after its term.
     pub runs : Terms → ℕ → State → Ran Outcome
