@@ -33,7 +33,7 @@ runMove s i p =
 unfoldable pub runBorrow : State → ℕ → Place → Ran Outcome
 runBorrow s i p = locate s i p >>= λ l. ok (s, reference l)
 
--- A place of a below, a sum or a choice (LANGUAGE 4.16, 4.21): locate, read; a number must be there.
+-- A place of a below, a sum or a choice (LANGUAGE 4.16, 4.23): locate, read; a number must be there.
 unfoldable pub runNumber : State → ℕ → Place → Ran ℕ
 runNumber s i p =
     locate s i p >>= λ l.
@@ -96,7 +96,7 @@ module _ (readings : ℕ → ℕ) where
     run (below i p q) s = runPair compared s i p q
     run (sum i p q) s = runPair heldSum s i p q
     run (block i ts) s = runs ts i (entered s) >>= λ o. runBlockEnd i (s .opened) o
-    -- The first block runs if the number at the place is not 0, else the second (LANGUAGE 4.21).
+    -- The first block runs if the number at the place is not 0, else the second (LANGUAGE 4.23).
     run (choice i p j us k vs) s =
         runNumber s i p >>= λ n.
         pick (eqb n 0)
