@@ -1,26 +1,19 @@
 -- Who holds a borrow (LANGUAGE 3.10), and what that bars (3.11, 3.12).
 use Prim.Native.Nat.{ℕ, zero, suc}
 use mathlib.Core.Bool.{Bool, true, false}
-use lib.Dec.{ltb, eqb}
 use Rattle.reader.specs.Result.{pick}
-use Rattle.rules.specs.Links.{leadingBoxes}
-use Rattle.rules.specs.Environment.{Borrow, noBorrow, sharedOf, exclusiveOf, Variable, Slot, free, used, live, Environment}
+use Rattle.rules.specs.Places.{rooted}
+use Rattle.rules.specs.Environment.{Borrow, noBorrow, sharedOf, exclusiveOf, places, Slot, free, used, live, Environment, holding}
 
 -- A borrow of a place with the root, of either kind; its follows do not count (LANGUAGE 3.12).
 unfoldable pub borrowsAny : Borrow → ℕ → Bool
-borrowsAny noBorrow x = false
-borrowsAny (sharedOf p) x = eqb (p .root) x
-borrowsAny (exclusiveOf p) x = eqb (p .root) x
+borrowsAny b x = rooted (places b) x
 
 -- The same, exclusive borrows only (LANGUAGE 3.11).
 unfoldable pub borrowsExclusive : Borrow → ℕ → Bool
 borrowsExclusive noBorrow x = false
-borrowsExclusive (sharedOf p) x = false
-borrowsExclusive (exclusiveOf p) x = eqb (p .root) x
-
--- Holding (LANGUAGE 3.10): the first borrow link is not moved away.
-unfoldable pub holding : Variable → Bool
-holding v = ltb (leadingBoxes (v .chain)) (v .movedFrom)
+borrowsExclusive (sharedOf ps) x = false
+borrowsExclusive (exclusiveOf ps) x = rooted ps x
 
 -- Variables in scope hold, nothing else does (LANGUAGE 3.10).
 unfoldable pub heldBy : (Borrow → ℕ → Bool) → Slot → ℕ → Bool

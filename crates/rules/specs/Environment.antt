@@ -1,16 +1,30 @@
 -- What is known of each variable number (LANGUAGE 3.6 to 3.9), and of a value (3.2, 3.3).
 use Prim.Native.Nat.{ℕ, suc}
 use mathlib.Core.Bool.{Bool, true, false}
-use mathlib.Core.List.{List}
+use mathlib.Core.List.{List, [], _∷_}
 use lib.Dec.{leb, ltb, eqb}
 use Rattle.reader.specs.Result.{pick}
 use Rattle.reader.specs.Script.{Place}
-use Rattle.rules.specs.Links.{Link, leadingBoxes}
+use Rattle.rules.specs.Links.{Link, boxed, shared, exclusive, leadingBoxes}
+use Rattle.rules.specs.Places.{every, unite, rooted}
 
--- The borrow end (LANGUAGE 3.3): the place that the first borrow link borrows, if there is such a link.
+-- The borrow end (LANGUAGE 3.3): the places that the first borrow link stands for, if there is such a link.
 pub data Borrow : Type 0 where
   noBorrow : Borrow
-  sharedOf exclusiveOf : Place → Borrow
+  sharedOf exclusiveOf : List Place → Borrow
+
+-- The borrowed places (LANGUAGE 3.3).
+abbrev pub places : Borrow → List Place
+places noBorrow = []
+places (sharedOf ps) = ps
+places (exclusiveOf ps) = ps
+
+-- The borrow end of a chain, with these places (LANGUAGE 3.3).
+unfoldable pub borrowEnd : List Link → List Place → Borrow
+borrowEnd [] ps = noBorrow
+borrowEnd (boxed ∷ ks) ps = borrowEnd ks ps
+borrowEnd (shared ∷ ks) ps = sharedOf ps
+borrowEnd (exclusive ∷ ks) ps = exclusiveOf ps
 
 -- A variable in scope (LANGUAGE 3.8). Its links before `movedFrom` are whole, those from there on moved away; where nothing is
 -- moved away, `movedFrom` is one past its own positions (3.9). `level` is how many blocks
@@ -58,6 +72,27 @@ refilled free b = free
 refilled used b = used
 refilled (live v) b = live (fresh (v .chain) b (v .level))
 
+-- One of several that a value may be written to (LANGUAGE 3.25): the new value's places are added to the old ones, and what is moved away
+-- stays so.
+abbrev pub wider : Variable → Borrow → Variable
+wider v b = record { chain = v .chain; movedFrom = v .movedFrom; borrow = borrowEnd (v .chain) (unite (places (v .borrow)) (places b)); level = v .level }
+
+-- The same of a number (LANGUAGE 3.25): what is not in scope stays as it is.
+abbrev pub widened : Slot → Borrow → Slot
+widened free b = free
+widened used b = used
+widened (live v) b = live (wider v b)
+
+-- Exactly one.
+abbrev pub single : List Place → Bool
+single [] = false
+single (q ∷ []) = true
+single (q ∷ r ∷ qs) = false
+
+-- A value with this borrow end is written to one of these places (LANGUAGE 3.25).
+unfoldable pub write : Environment → List Place → Borrow → Environment
+write Γ qs b = λ x. pick (rooted qs x) (pick (single qs) (refilled (Γ x) b) (widened (Γ x) b)) (Γ x)
+
 -- Not taken (30; LANGUAGE 3.6).
 unfoldable pub isFree : Slot → Bool
 isFree free = true
@@ -76,11 +111,14 @@ borrowOf free = noBorrow
 borrowOf used = noBorrow
 borrowOf (live v) = v .borrow
 
--- The borrowed root, if any, lives at the level or around it (40; LANGUAGE 3.25, 3.28).
+-- The places that are borrowed by what stands at any of these (LANGUAGE 3.19).
+unfoldable pub borrowsAt : Environment → List Place → List Place
+borrowsAt Γ [] = []
+borrowsAt Γ (q ∷ qs) = unite (places (borrowOf (Γ (q .root)))) (borrowsAt Γ qs)
+
+-- The borrowed roots, if any, live at the level or around it (40; LANGUAGE 3.25, 3.28).
 unfoldable pub livesAt : Environment → Borrow → ℕ → Bool
-livesAt Γ noBorrow l = true
-livesAt Γ (sharedOf p) l = leb (levelOf (Γ (p .root))) l
-livesAt Γ (exclusiveOf p) l = leb (levelOf (Γ (p .root))) l
+livesAt Γ b l = every (λ p. leb (levelOf (Γ (p .root))) l) (places b)
 
 -- The end of a block (LANGUAGE 3.28): the variables deeper than the level leave scope.
 unfoldable pub leaveSlot : ℕ → Slot → Slot
@@ -91,3 +129,7 @@ leaveSlot l (live v) = pick (ltb l (v .level)) used (live v)
 -- The same of all numbers (LANGUAGE 3.28).
 unfoldable pub leave : ℕ → Environment → Environment
 leave l Γ = λ x. leaveSlot l (Γ x)
+
+-- Holding (LANGUAGE 3.10): the first borrow link is not moved away.
+unfoldable pub holding : Variable → Bool
+holding v = ltb (leadingBoxes (v .chain)) (v .movedFrom)

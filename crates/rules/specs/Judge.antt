@@ -3,14 +3,15 @@ use Prim.Native.Nat.{ℕ, suc}
 use mathlib.Core.Bool.{Bool, false}
 use mathlib.Core.Option.{Option, none, some}
 use Rattle.reader.specs.Result.{ok, need, _>>=_}
-use Rattle.reader.specs.Script.{Term, Terms, number, reading, copy, move, borrowShared, borrowExclusive, box, declare, assign, below, block, sum, last, more}
+use Rattle.reader.specs.Script.{Term, Terms, number, reading, copy, move, borrowShared, borrowExclusive, box, declare, assign, below, block, choice, sum, last, more}
 use Rattle.rules.specs.Links.{isNumber}
 use Rattle.rules.specs.Environment.{Environment, free, used, Ty, update, isFree}
-use Rattle.rules.specs.Rules.{Judged, Out, numberTy, judgeCopy, judgeMove, judgeShared, judgeExclusive, judgeBox, judgeLet, judgeAssign, judgeBelow, judgeBlockEnd}
+use Rattle.rules.specs.Choice.{carried}
+use Rattle.rules.specs.Rules.{Judged, Out, numberTy, judgeCopy, judgeMove, judgeShared, judgeExclusive, judgeBox, judgeLet, judgeAssign, judgeNumber, judgeBelow, judgeBlockEnd, judgeChoice}
 
 module _ (nv : ℕ) where
   -- level is how many blocks are around the term; a let's variable lives in the innermost of them (LANGUAGE 3.7). It is not that of 2.7.
-  -- A number and a reading are never refused (3.18); each other case is the rule of its kind (3.19 to 3.28).
+  -- A number and a reading are never refused (3.18); each other case is the rule of its kind (3.19 to 3.28, 3.30).
   unfoldable mutual
     pub judge : Term → ℕ → Environment → Judged Out
     judge (number i n) level Γ = ok (Γ, some numberTy)
@@ -30,6 +31,12 @@ module _ (nv : ℕ) where
     judge (below i p q) level Γ = judgeBelow nv Γ i p q
     judge (sum i p q) level Γ = judgeBelow nv Γ i p q
     judge (block i ts) level Γ = judges ts (suc level) Γ >>= λ o. judgeBlockEnd nv level (o .0) i (o .1)
+    -- Choice (LANGUAGE 3.30): the place as in below, then both blocks from the same state, but numbers that the first takes stay taken.
+    judge (choice i p j us k vs) level Γ =
+        judgeNumber nv Γ i p >>= λ _.
+        (judges us (suc level) Γ >>= λ o. judgeBlockEnd nv level (o .0) j (o .1)) >>= λ a.
+        (judges vs (suc level) (carried Γ (a .0)) >>= λ o. judgeBlockEnd nv level (o .0) k (o .1)) >>= λ b.
+        judgeChoice nv Γ i a b
 
     -- A block's terms in order (LANGUAGE 3.28), and the last one's value for the block's (3.4).
     pub judges : Terms → ℕ → Environment → Judged Out

@@ -1,11 +1,17 @@
 -- The ownership rules (LANGUAGE 3): types, variables, following places, bars, one definition per rule, the judge; then what the code's table
 -- and answers say in these terms.
 pub mod Links
+pub mod Places
 pub mod Environment
 pub mod Follow
 pub mod Bars
+pub mod Choice
 pub mod Rules
 pub mod Judge
+pub mod Neat
+pub mod Met
+pub mod Closure
+pub mod Roots
 pub mod Chains
 pub mod Table
 pub mod Steps

@@ -1,16 +1,18 @@
--- One definition per ownership rule (LANGUAGE 3.16 to 3.28), its tests in the rule's order (3.17). nv is the number of variables, i the term.
-use Prim.Native.Nat.{ℕ}
+-- One definition per ownership rule (LANGUAGE 3.16 to 3.28, 3.30), its tests in the rule's order (3.17). nv is the number of variables, i the term.
+use Prim.Native.Nat.{ℕ, suc}
 use mathlib.Core.Bool.{not}
 use mathlib.Core.Option.{Option, none, some}
-use mathlib.Core.List.{[], _∷_}
+use mathlib.Core.List.{List, [], _∷_}
 use lib.ListN.{length, take, drop}
 use lib.Dec.{leb}
-use Rattle.reader.specs.Result.{Result, ok, err, Refusal, need, pick, _>>=_}
+use Rattle.reader.specs.Result.{Result, ok, err, Refusal, need, _>>=_}
 use Rattle.reader.specs.Script.{Place}
 use Rattle.rules.specs.Links.{boxed, shared, exclusive, maxLinks, leadingBoxes, noShared, isNumber, copies, sameLinks}
-use Rattle.rules.specs.Environment.{Borrow, noBorrow, sharedOf, exclusiveOf, Variable, Slot, free, used, live, Environment, Ty, update, fresh, movedAway, refilled, levelOf, borrowOf, livesAt, leave}
-use Rattle.rules.specs.Follow.{follow, valueWhole}
+use Rattle.rules.specs.Places.{every, only}
+use Rattle.rules.specs.Environment.{Borrow, noBorrow, sharedOf, exclusiveOf, borrowEnd, Variable, Slot, free, used, live, Environment, Ty, update, fresh, movedAway, write, levelOf, borrowsAt, livesAt, leave}
+use Rattle.rules.specs.Follow.{Met, follow, ownLink, ownPath, valueWhole}
 use Rattle.rules.specs.Bars.{readBarred, writeBarred}
+use Rattle.rules.specs.Choice.{agreeing, either, joined}
 
 -- What a rule gives, or the first test that fails (LANGUAGE 3.17).
 abbrev pub Judged : Type 0 → Type 0
@@ -30,31 +32,33 @@ inScope free e = err e
 inScope used e = err e
 inScope (live v) e = ok v
 
--- Nothing is moved away on the path (33; LANGUAGE 3.14, 3.16).
-unfoldable pub reached : Option Place → Refusal → Judged Place
+-- The places met (LANGUAGE 3.13); the refusal is never given, since the bound of following never runs out (7.5).
+unfoldable pub reached : Met → Refusal → Judged (List Place)
 reached none e = err e
-reached (some q) e = ok q
+reached (some ps) e = ok ps
 
 -- The inner term has a value (41; LANGUAGE 3.23 to 3.25).
 unfoldable pub valued : Option Ty → Refusal → Judged Ty
 valued none e = err e
 valued (some t) e = ok t
 
--- The root's variable, and the own link of a variable that the place leads to (LANGUAGE 3.13).
+-- The root's variable, and the own links of variables that the place may lead to (LANGUAGE 3.13).
 pub record Located : Type 0 where
   pub root : Variable
-  pub to : Place
+  pub to : List Place
 
 module _ (nv : ℕ) where
-  -- Judging a place (LANGUAGE 3.16): the root is in scope (31), the chain is long enough (32), the path is not moved away (33).
+  -- Judging a place (LANGUAGE 3.16): the root is in scope (31), the chain is long enough (32), and of each place met while following it the own
+  -- path is not moved away (33).
   unfoldable pub judgePlace : Environment → ℕ → Place → Judged Located
   judgePlace Γ i p =
       inScope (Γ (p .root)) (31, i) >>= λ v.
       need (leb (p .follows) (length (v .chain))) (32, i) >>= λ _.
-      reached (follow nv Γ (p .root) (p .follows)) (33, i) >>= λ q.
-      ok (record { root = v; to = q })
+      reached (follow (suc nv) Γ p []) (33, i) >>= λ ps.
+      need (every (λ q. ownPath (Γ (q .root)) (q .follows)) ps) (33, i) >>= λ _.
+      ok (record { root = v; to = only (λ q. ownLink (Γ (q .root)) (q .follows)) ps })
 
-  -- The place of a copy, a shared borrow, a below and a sum (LANGUAGE 3.19, 3.21, 3.27): judged, its value whole (33), reading not barred
+  -- The place of a copy, a shared borrow, a below, a sum and a choice (LANGUAGE 3.19, 3.21, 3.27, 3.30): judged, its value whole (33), reading not barred
   -- (34).
   unfoldable pub judgeReadable : Environment → ℕ → Place → Judged Located
   judgeReadable Γ i p =
@@ -69,7 +73,7 @@ module _ (nv : ℕ) where
       judgeReadable Γ i p >>= λ l.
       let ks = drop (p .follows) (l .root .chain) in
       need (copies ks) (37, i) >>= λ _.
-      ok (Γ, some (record { links = ks; borrow = pick (isNumber ks) noBorrow (borrowOf (Γ (l .to .root))) }))
+      ok (Γ, some (record { links = ks; borrow = borrowEnd ks (borrowsAt Γ (l .to)) }))
 
   -- Move (LANGUAGE 3.20): 31 and 32 of the place, no borrow link passed (38), the value whole (33), writing not barred (35); then the mark.
   unfoldable pub judgeMove : Environment → ℕ → Place → Judged Out
@@ -87,7 +91,7 @@ module _ (nv : ℕ) where
       judgeReadable Γ i p >>= λ l.
       let ks = shared ∷ drop (p .follows) (l .root .chain) in
       need (leb (length ks) maxLinks) (42, i) >>= λ _.
-      ok (Γ, some (record { links = ks; borrow = sharedOf p }))
+      ok (Γ, some (record { links = ks; borrow = sharedOf (p ∷ []) }))
 
   -- Exclusive borrow (LANGUAGE 3.22): the place, its value whole (33), no shared link passed (36), writing not barred (35), at most 8 links (42).
   unfoldable pub judgeExclusive : Environment → ℕ → Place → Judged Out
@@ -98,7 +102,7 @@ module _ (nv : ℕ) where
       need (not (writeBarred nv Γ (p .root))) (35, i) >>= λ _.
       let ks = exclusive ∷ drop (p .follows) (l .root .chain) in
       need (leb (length ks) maxLinks) (42, i) >>= λ _.
-      ok (Γ, some (record { links = ks; borrow = exclusiveOf p }))
+      ok (Γ, some (record { links = ks; borrow = exclusiveOf (p ∷ []) }))
 
   -- Box (LANGUAGE 3.23), after the inner term, whose value is o: there is one (41), and a box link more makes at most 8 (42).
   unfoldable pub judgeBox : Environment → ℕ → Option Ty → Judged Out
@@ -115,19 +119,20 @@ module _ (nv : ℕ) where
       ok (update Γ x (live (fresh (t .links) (t .borrow) level)), none)
 
   -- Assign (LANGUAGE 3.25), after the right side: it has a value (41), the path of the place (31, 32, 33), no shared link passed (36), the same
-  -- links (39), the borrowed root lives long enough for the variable finally written (40). In the new state writing the root is not barred (35).
+  -- links (39), every borrowed root lives long enough for every variable that may be written (40). In the new state writing the root is not
+  -- barred (35).
   unfoldable pub judgeAssign : Environment → ℕ → Place → Option Ty → Judged Out
   judgeAssign Γ i p o =
       valued o (41, i) >>= λ t.
       judgePlace Γ i p >>= λ l.
       need (noShared (take (p .follows) (l .root .chain))) (36, i) >>= λ _.
       need (sameLinks (drop (p .follows) (l .root .chain)) (t .links)) (39, i) >>= λ _.
-      need (livesAt Γ (t .borrow) (levelOf (Γ (l .to .root)))) (40, i) >>= λ _.
-      let Γ′ = update Γ (l .to .root) (refilled (Γ (l .to .root)) (t .borrow)) in
+      need (every (λ q. livesAt Γ (t .borrow) (levelOf (Γ (q .root)))) (l .to)) (40, i) >>= λ _.
+      let Γ′ = write Γ (l .to) (t .borrow) in
       need (not (writeBarred nv Γ′ (p .root))) (35, i) >>= λ _.
       ok (Γ′, none)
 
-  -- A place of a below or a sum (LANGUAGE 3.27): readable, then a number (39).
+  -- A place of a below, a sum or a choice (LANGUAGE 3.27, 3.30): readable, then a number (39).
   unfoldable pub judgeNumber : Environment → ℕ → Place → Judged (Unit {0})
   judgeNumber Γ i p =
       judgeReadable Γ i p >>= λ l.
@@ -140,7 +145,7 @@ module _ (nv : ℕ) where
       judgeNumber Γ i q >>= λ _.
       ok (Γ, some numberTy)
 
-  -- The borrowed place of a value, if there is one (LANGUAGE 3.3).
+  -- The borrowed places of a value, if there are any (LANGUAGE 3.3).
   abbrev pub borrowIn : Option Ty → Borrow
   borrowIn none = noBorrow
   borrowIn (some t) = t .borrow
@@ -151,3 +156,9 @@ module _ (nv : ℕ) where
   judgeBlockEnd level Γ i o =
       need (livesAt Γ (borrowIn o) level) (40, i) >>= λ _.
       ok (leave level Γ, o)
+
+  -- The end of a choice (LANGUAGE 3.30), from the state before it and what its blocks left: their values agree (39), and what is known joins.
+  unfoldable pub judgeChoice : Environment → ℕ → Out → Out → Judged Out
+  judgeChoice Γ i a b =
+      need (agreeing (a .1) (b .1)) (39, i) >>= λ _.
+      ok (joined Γ (a .0) (b .0), either (a .1) (b .1))
