@@ -1,4 +1,4 @@
--- The two blocks of a choice (LANGUAGE 3.30): what the second is judged from, and what is known after either.
+-- The two blocks of a choice (LANGUAGE 3.31): what the second is judged from, and what is known after either.
 use Prim.Native.Nat.{ℕ}
 use mathlib.Core.Bool.{Bool, true, false}
 use mathlib.Core.Option.{Option, none, some}
@@ -8,7 +8,7 @@ use Rattle.rules.specs.Links.{sameLinks}
 use Rattle.rules.specs.Places.{unite}
 use Rattle.rules.specs.Environment.{places, borrowEnd, Slot, free, used, live, Environment, Ty, borrowOf}
 
--- What the second block is judged from (LANGUAGE 3.30): the state before the choice, but numbers that the first block took stay taken.
+-- What the second block is judged from (LANGUAGE 3.31): the state before the choice, but numbers that the first block took stay taken.
 abbrev pub carriedSlot : Slot → Slot → Slot
 carriedSlot free free = free
 carriedSlot free used = used
@@ -30,7 +30,7 @@ movedFromOf (live v) = v .movedFrom
 unfoldable pub earlier : ℕ → ℕ → ℕ
 earlier a b = pick (leb a b) a b
 
--- What is known after the choice (LANGUAGE 3.30), from the state before it and those after its blocks: a variable is moved away from the earlier
+-- What is known after the choice (LANGUAGE 3.31), from the state before it and those after its blocks: a variable is moved away from the earlier
 -- of the two links, and its borrow link stands for the places of both.
 abbrev pub joinedSlot : Slot → Slot → Slot → Slot
 joinedSlot free a b = carriedSlot (carriedSlot free a) b
@@ -46,14 +46,14 @@ joinedSlot (live v) a b = live (record {
 unfoldable pub joined : Environment → Environment → Environment → Environment
 joined Γ Γ₁ Γ₂ = λ x. joinedSlot (Γ x) (Γ₁ x) (Γ₂ x)
 
--- The values of both have equal links, or both are none (39; LANGUAGE 3.30).
+-- The values of both have equal links, or both are none (39; LANGUAGE 3.31).
 unfoldable pub agreeing : Option Ty → Option Ty → Bool
 agreeing none none = true
 agreeing none (some u) = false
 agreeing (some t) none = false
 agreeing (some t) (some u) = sameLinks (t .links) (u .links)
 
--- The value of either block, where they agree (LANGUAGE 3.30): the places of both.
+-- The value of either block, where they agree (LANGUAGE 3.31): the places of both.
 abbrev pub either : Option Ty → Option Ty → Option Ty
 either none o = none
 either (some t) none = none

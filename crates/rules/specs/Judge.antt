@@ -11,7 +11,7 @@ use Rattle.rules.specs.Rules.{Judged, Out, numberTy, judgeCopy, judgeMov
 
 module _ (nv : ℕ) where
   -- level is how many blocks are around the term; a let's variable lives in the innermost of them (LANGUAGE 3.7). It is not that of 2.7.
-  -- A number and a reading are never refused (3.18); each other case is the rule of its kind (3.19 to 3.28, 3.30).
+  -- A number and a reading are never refused (3.18); each other case is the rule of its kind (3.19 to 3.28, 3.31).
   unfoldable mutual
     pub judge : Term → ℕ → Environment → Judged Out
     judge (number i n) level Γ = ok (Γ, some numberTy)
@@ -31,7 +31,7 @@ module _ (nv : ℕ) where
     judge (below i p q) level Γ = judgeBelow nv Γ i p q
     judge (sum i p q) level Γ = judgeBelow nv Γ i p q
     judge (block i ts) level Γ = judges ts (suc level) Γ >>= λ o. judgeBlockEnd nv level (o .0) i (o .1)
-    -- Choice (LANGUAGE 3.30): the place as in below, then both blocks from the same state, but numbers that the first takes stay taken.
+    -- Choice (LANGUAGE 3.31): the place as in below, then both blocks from the same state, but numbers that the first takes stay taken.
     judge (choice i p j us k vs) level Γ =
         judgeNumber nv Γ i p >>= λ _.
         (judges us (suc level) Γ >>= λ o. judgeBlockEnd nv level (o .0) j (o .1)) >>= λ a.

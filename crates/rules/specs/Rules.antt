@@ -1,4 +1,4 @@
--- One definition per ownership rule (LANGUAGE 3.16 to 3.28, 3.30), its tests in the rule's order (3.17). nv is the number of variables, i the term.
+-- One definition per ownership rule (LANGUAGE 3.16 to 3.28, 3.31), its tests in the rule's order (3.17). nv is the number of variables, i the term.
 use Prim.Native.Nat.{ℕ, suc}
 use mathlib.Core.Bool.{not}
 use mathlib.Core.Option.{Option, none, some}
@@ -58,7 +58,7 @@ module _ (nv : ℕ) where
       need (every (λ q. ownPath (Γ (q .root)) (q .follows)) ps) (33, i) >>= λ _.
       ok (record { root = v; to = only (λ q. ownLink (Γ (q .root)) (q .follows)) ps })
 
-  -- The place of a copy, a shared borrow, a below, a sum and a choice (LANGUAGE 3.19, 3.21, 3.27, 3.30): judged, its value whole (33), reading not barred
+  -- The place of a copy, a shared borrow, a below, a sum and a choice (LANGUAGE 3.19, 3.21, 3.27, 3.31): judged, its value whole (33), reading not barred
   -- (34).
   unfoldable pub judgeReadable : Environment → ℕ → Place → Judged Located
   judgeReadable Γ i p =
@@ -132,7 +132,7 @@ module _ (nv : ℕ) where
       need (not (writeBarred nv Γ′ (p .root))) (35, i) >>= λ _.
       ok (Γ′, none)
 
-  -- A place of a below, a sum or a choice (LANGUAGE 3.27, 3.30): readable, then a number (39).
+  -- A place of a below, a sum or a choice (LANGUAGE 3.27, 3.31): readable, then a number (39).
   unfoldable pub judgeNumber : Environment → ℕ → Place → Judged (Unit {0})
   judgeNumber Γ i p =
       judgeReadable Γ i p >>= λ l.
@@ -157,7 +157,7 @@ module _ (nv : ℕ) where
       need (livesAt Γ (borrowIn o) level) (40, i) >>= λ _.
       ok (leave level Γ, o)
 
-  -- The end of a choice (LANGUAGE 3.30), from the state before it and what its blocks left: their values agree (39), and what is known joins.
+  -- The end of a choice (LANGUAGE 3.31), from the state before it and what its blocks left: their values agree (39), and what is known joins.
   unfoldable pub judgeChoice : Environment → ℕ → Out → Out → Judged Out
   judgeChoice Γ i a b =
       need (agreeing (a .1) (b .1)) (39, i) >>= λ _.
