@@ -10,14 +10,15 @@ use lib.ListN.{take, drop}
 use Rattle.reader.specs.Result.{ok, _>>=_}
 use Rattle.reader.specs.Script.{Place}
 use Rattle.rules.specs.Links.{Link, leadingBoxes, noShared}
-use Rattle.rules.specs.Environment.{Variable, Slot, used, live, Environment, Ty, update, fresh}
+use Rattle.rules.specs.Environment.{Variable, used, live, Environment, Ty, update}
 use Rattle.rules.specs.Rules.{Located}
+use Rattle.rules.proofs.Slots.{used≢live}
+use Rattle.rules.proofs.LinkChains.{boxes-drop}
 use Rattle.machine.specs.Values.{Location, cell, Value, empty, closed, openWith}
 use Rattle.machine.specs.Store.{Store, put, isOpen, State, withStore}
 use Rattle.machine.specs.Locate.{locate}
 use Rattle.machine.specs.Drop.{dropValue}
 use Rattle.machine.specs.Run.{runAssign}
-use Rattle.safety.proofs.Apart.{used≢live}
 use Rattle.machine.proofs.StoreLaws.{put-other}
 use Rattle.safety.proofs.Memory.{Name, inFlight, inDrop, var, Spot, top, inCell, Content, noRow, has, nameDec, p-empty, Memory, var≢flight, var≢drop, drop≢flight, row-open, top-only}
 use Rattle.safety.proofs.NameMaps.{upd, upd-same, upd-other}
@@ -28,7 +29,6 @@ use Rattle.safety.proofs.Dropping.{Gone, dropped}
 use Rattle.safety.proofs.Ghost.{vacant}
 use Rattle.safety.proofs.Ghost as Gh
 use Rattle.safety.proofs.Typing.{borrowed, boxes, Reach, Holds, Typed, avoid}
-use Rattle.safety.proofs.Chains.{boxes-drop}
 use Rattle.safety.proofs.Paths.{end-live, has-row}
 use Rattle.safety.proofs.OnPath.{agreed}
 use Rattle.safety.proofs.Writing.{written}

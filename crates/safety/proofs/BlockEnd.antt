@@ -9,13 +9,13 @@ use mathlib.Core.Option.{Option, none, some}
 use mathlib.Core.List.{List}
 use Rattle.reader.specs.Result.{ok, _>>=_}
 use Rattle.reader.specs.Script.{Place}
-use Rattle.rules.specs.Environment.{Variable, Slot, free, used, live, Environment, Ty, fresh, livesAt, leaveSlot, leave}
+use Rattle.rules.specs.Environment.{Variable, Slot, free, used, live, Environment, Ty, livesAt, leaveSlot, leave}
 use Rattle.rules.specs.Rules.{borrowIn}
+use Rattle.rules.proofs.Slots.{free≢live, used≢live, leave-live}
 use Rattle.machine.specs.Values.{Value, empty}
 use Rattle.machine.specs.Store.{State, withStore}
 use Rattle.machine.specs.Drop.{closeAll}
 use Rattle.machine.specs.Run.{runBlockEnd, entered}
-use Rattle.safety.proofs.Apart.{free≢live, used≢live}
 use Rattle.safety.proofs.Choose.{choose, choose-yes, choose-no}
 use Rattle.safety.proofs.Memory.{Name, inFlight, inDrop, var, Spot, Content, noRow, var≢flight, drop≢flight}
 use Rattle.safety.proofs.NameMaps.{upd, upd-same, upd-other}
@@ -27,7 +27,7 @@ use Rattle.safety.proofs.Covering.{borrow-among, covers, vacant≢live,
 use Rattle.safety.proofs.Invariant.{Member, flightSlot, flightRow, nobody, Invariant, covers-same, drop-noRow, level-of}
 use Rattle.safety.proofs.InFlight.{flying, flying-whole, flying-borrow}
 use Rattle.safety.proofs.Closing.{Closed, closing}
-use Rattle.safety.proofs.Leaving.{late, late-dec, leave-same, leave-late, leave-live, lateName, late-name, late-level, late-var}
+use Rattle.safety.proofs.Leaving.{late, late-dec, leave-same, leave-late, lateName, late-name, late-level, late-var}
 
 -- A block is entered.
 pub entering : {nv : ℕ} {Γ : Environment} {lv : ℕ} {s : State} → Invariant nv Γ none lv s empty → Invariant nv Γ none (suc lv) (entered s) empty

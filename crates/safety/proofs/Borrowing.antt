@@ -5,13 +5,13 @@ use mathlib.Core.Path.{_≡_, refl, sym, ap, ap₂, _∙_, subst}
 use mathlib.Core.Logic.{_≢_, inl}
 use mathlib.Core.Bool.{true, false≢true, not}
 use mathlib.Core.Option.{none, some}
-use mathlib.Core.List.{List, _∷_}
+use mathlib.Core.List.{List, [], _∷_}
 use lib.ListN.{take, drop}
 use borrow.Author.Tests.{not-true}
 use Rattle.reader.specs.Result.{ok, _>>=_, need}
 use Rattle.reader.specs.Script.{Place}
 use Rattle.rules.specs.Links.{Link, shared, exclusive, leadingBoxes, noShared}
-use Rattle.rules.specs.Environment.{Borrow, sharedOf, exclusiveOf, Variable, Slot, live, Environment, Ty, fresh}
+use Rattle.rules.specs.Environment.{Borrow, sharedOf, exclusiveOf, Environment, Ty}
 use Rattle.rules.specs.Follow.{valueWhole}
 use Rattle.rules.specs.Bars.{writeBarred}
 use Rattle.rules.specs.Rules.{Out, Located, judgePlace, judgeReadable, judgeShared, judgeExclusive}
@@ -98,9 +98,9 @@ module _ {nv : ℕ} {Γ : Environment} {lv : ℕ} {s : State} (I : Invariant nv 
       let b = readable-ok nv Γ i p (a .0) (a .1) in
       let c = then (need _ (42, i)) _ out (a .2) in
       let F = judged-found I i i p (a .0) (b .0) in
-      let R = borrowing i p (a .0) shared (Gh.sharedOf p) (sharedOf p) F (root-whole Γ (p .root) (a .0 .root) (F .is) (is-whole I (p .root) (a .0 .root) (F .is) (b .1))) refl refl tt (in-shared p p (inl refl)) (λ e. absurd (false≢true e))
+      let R = borrowing i p (a .0) shared (Gh.sharedOf p) (sharedOf (p ∷ [])) F (root-whole Γ (p .root) (a .0 .root) (F .is) (is-whole nv Γ (p .root) (a .0 .root) (b .1))) refl refl tt (in-shared p (p ∷ []) (inl refl)) (λ e. absurd (false≢true e))
       (λ y B q K e. (λ k. absurd (false≢true k), λ k. let u = holder I y B q K in read-allowed nv Γ (p .root) (u .0) (u .1) q (b .2) (u .3) (u .4) (u .5) (borrow-among (u .6) q (K .at)) (borrow-exclusive (u .6) k) (sym e))) in
-      let z : (Γ, some (record { links = shared ∷ drop (p .follows) (a .0 .root .chain); borrow = sharedOf p })) ≡ out = let k = c .2 in cc in
+      let z : (Γ, some (record { links = shared ∷ drop (p .follows) (a .0 .root .chain); borrow = sharedOf (p ∷ []) })) ≡ out = let k = c .2 in cc in
       subst (λ (q : Out). Progress nv Γ (q .0) (q .1) lv (runBorrow s i p)) z R
 
   pub case-exclusive : (i : ℕ) (p : Place) (out : Out) → judgeExclusive nv Γ i p ≡ ok out → Progress nv Γ (out .0) (out .1) lv (runBorrow s i p)
@@ -112,7 +112,7 @@ module _ {nv : ℕ} {Γ : Environment} {lv : ℕ} {s : State} (I : Invariant nv 
       let b = then (need (not (writeBarred nv Γ (p .root))) (35, i)) _ out (u .2) in
       let c = then (need _ (42, i)) _ out (b .2) in
       let F = judged-found I i i p (a .0) (a .1) in
-      let R = borrowing i p (a .0) exclusive (Gh.exclusiveOf p) (exclusiveOf p) F (root-whole Γ (p .root) (a .0 .root) (F .is) (is-whole I (p .root) (a .0 .root) (F .is) (needed _ _ _ (w .1)))) refl refl tt (in-exclusive p p (inl refl)) (λ e. needed _ _ _ (u .1))
+      let R = borrowing i p (a .0) exclusive (Gh.exclusiveOf p) (exclusiveOf (p ∷ [])) F (root-whole Γ (p .root) (a .0 .root) (F .is) (is-whole nv Γ (p .root) (a .0 .root) (needed _ _ _ (w .1)))) refl refl tt (in-exclusive p (p ∷ []) (inl refl)) (λ e. needed _ _ _ (u .1))
       (λ y B q K e. absurd (let u = holder I y B q K in write-allowed nv Γ (p .root) (u .0) (u .1) q (not-true _ (needed _ _ _ (b .1))) (u .3) (u .4) (u .5) (borrow-among (u .6) q (K .at)) (sym e))) in
-      let z : (Γ, some (record { links = exclusive ∷ drop (p .follows) (a .0 .root .chain); borrow = exclusiveOf p })) ≡ out = let k = c .2 in cc in
+      let z : (Γ, some (record { links = exclusive ∷ drop (p .follows) (a .0 .root .chain); borrow = exclusiveOf (p ∷ []) })) ≡ out = let k = c .2 in cc in
       subst (λ (q : Out). Progress nv Γ (q .0) (q .1) lv (runBorrow s i p)) z R

@@ -2,35 +2,15 @@
 use Prim.Native.Nat.{ℕ, suc, _+_, _-_, _≤_, _<_}
 use mathlib.Core.Path.{_≡_, subst}
 use mathlib.Core.Logic.{_⊎_}
-use mathlib.Core.Bool.{Bool, true, false}
-use mathlib.Core.List.{List, [], _∷_}
+use mathlib.Core.Bool.{true}
+use mathlib.Core.List.{List}
 use lib.ListN.{length}
 use Rattle.reader.specs.Script.{Place}
 use Rattle.rules.specs.Links.{leadingBoxes}
-use Rattle.rules.specs.Environment.{Borrow, noBorrow, sharedOf, exclusiveOf, Variable, live, Environment}
+use Rattle.rules.specs.Environment.{places, Variable, live, Environment}
+use Rattle.rules.specs.Follow.{isBorrow}
 use Rattle.rules.specs.Rules.{Located}
-
-abbrev pub place : ℕ → ℕ → Place
-place x r = record { root = x; follows = r }
-
-abbrev pub Among : Place → List Place → Type 0
-Among p [] = ⊥
-Among p (q ∷ qs) = (p ≡ q) ⊎ Among p qs
-
--- The places that a borrow link may stand for. The judge records one.
-abbrev pub places : Borrow → List Place
-places noBorrow = []
-places (sharedOf p) = p ∷ []
-places (exclusiveOf p) = p ∷ []
-
--- Where a place may lead: the judge gives one place.
-abbrev pub ends : Located → List Place
-ends l = l .to ∷ []
-
-abbrev pub isBorrow : Borrow → Bool
-isBorrow noBorrow = false
-isBorrow (sharedOf p) = true
-isBorrow (exclusiveOf p) = true
+use Rattle.rules.specs.Neat.{place, Among}
 
 -- The places met on the way from p: with each one that goes on behind a borrow link, the places that it goes on to.
 pub record Path (Γ : Environment) (p : Place) : Type 0 where
@@ -51,7 +31,7 @@ pub record Passed (Γ : Environment) (p : Place) (l : Located) : Type 0 where
   pub long : p .follows ≤ length (l .root .chain)
   pub path : Path Γ p
   pub own : (q : Place) → Among q (path .ps) → Own Γ q
-  pub to : (q : Place) (v : Variable) → Among q (path .ps) → Γ (q .root) ≡ live v → q .follows ≤ leadingBoxes (v .chain) → Among q (ends l)
+  pub to : (q : Place) (v : Variable) → Among q (path .ps) → Γ (q .root) ≡ live v → q .follows ≤ leadingBoxes (v .chain) → Among q (l .to)
 
 -- What a whole value gives (33; LANGUAGE 3.15): nothing is moved away on the way to the end of the chain.
 pub record Whole (Γ : Environment) (x : ℕ) (v : Variable) : Type 0 where

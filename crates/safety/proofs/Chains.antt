@@ -2,7 +2,7 @@
 use Prim.Native.Nat.{ℕ, zero, suc, _+_, _≤_, _<_}
 use native.Mathlib.Omega.{arith}
 use native.Mathlib.Nat.{zero-add, suc-add}
-use mathlib.Core.Path.{_≡_, refl, ap, _∙_}
+use mathlib.Core.Path.{_≡_, refl}
 use mathlib.Core.Bool.{true, false≢true}
 use mathlib.Core.Option.{some}
 use mathlib.Core.List.{List, [], _∷_}
@@ -12,20 +12,6 @@ use Rattle.rules.specs.Links.{Link, boxed, shared, exclusive, leadingBoxes, noS
 use Rattle.machine.proofs.Apart.{none≢some}
 use Rattle.safety.proofs.Ghost.{Borrow, noBorrow, stale, sharedOf, exclusiveOf}
 use Rattle.safety.proofs.Typing.{borrowed, isExclusive, Fits}
-
-pub drop-add : {A : Type 0} (a b : ℕ) (l : List A) → drop (a + b) l ≡ drop b (drop a l)
-drop-add zero b l = ap (λ (k : ℕ). drop k l) (zero-add b)
-drop-add (suc a) zero [] = ap (λ (k : ℕ). drop k []) (suc-add a 0)
-drop-add (suc a) (suc b) [] = ap (λ (k : ℕ). drop k []) (suc-add a (suc b))
-drop-add {A} (suc a) b (x ∷ l) = ap (λ (k : ℕ). drop {A = A} k (x ∷ l)) (suc-add a b) ∙ drop-add a b l
-
-pub boxes-drop : (d : ℕ) (ks : List Link) → d ≤ leadingBoxes ks → d + leadingBoxes (drop d ks) ≡ leadingBoxes ks
-unfolding leadingBoxes
-boxes-drop zero ks h = omega arith
-boxes-drop (suc d) [] h = absurd (omega arith)
-boxes-drop (suc d) (boxed ∷ ks) h = let z = boxes-drop d ks (omega arith) in omega arith
-boxes-drop (suc d) (shared ∷ ks) h = absurd (omega arith)
-boxes-drop (suc d) (exclusive ∷ ks) h = absurd (omega arith)
 
 pub fits-up : (d : ℕ) (ks : List Link) (b : Borrow) → d ≤ leadingBoxes ks → Fits (drop d ks) b → Fits ks b
 unfolding leadingBoxes

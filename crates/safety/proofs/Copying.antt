@@ -2,16 +2,18 @@
 use Prim.Native.Nat.{ℕ, suc, _+_, _≤_, _<_}
 use native.Mathlib.Omega.{arith}
 use mathlib.Core.Path.{_≡_, refl, sym, ap, _∙_, subst}
-use mathlib.Core.Logic.{inl, inr}
 use mathlib.Core.Bool.{true, false≢true}
 use mathlib.Core.Option.{none, some}
 use mathlib.Core.List.{List, [], _∷_}
 use lib.ListN.{length, drop}
-use Rattle.reader.specs.Result.{Result, ok, Refusal, _>>=_, need, pick}
+use Rattle.reader.specs.Result.{Result, ok, Refusal, _>>=_, need}
 use Rattle.reader.specs.Script.{Place}
-use Rattle.rules.specs.Links.{Link, boxed, shared, exclusive, leadingBoxes, isNumber, copies}
-use Rattle.rules.specs.Environment.{Borrow, noBorrow, sharedOf, Variable, Slot, live, Environment, Ty, fresh, borrowOf}
+use Rattle.rules.specs.Links.{Link, boxed, shared, exclusive, leadingBoxes, copies}
+use Rattle.rules.specs.Environment.{Borrow, sharedOf, places, borrowEnd, Variable, Slot, live, Environment, Ty, borrowOf, borrowsAt}
 use Rattle.rules.specs.Rules.{Out, numberTy, Located, judgeReadable, judgeCopy}
+use Rattle.rules.specs.Neat.{place, Among}
+use Rattle.rules.proofs.LinkChains.{drop-add, boxes-drop}
+use Rattle.rules.proofs.SetLaws.{borrows-in}
 use Rattle.machine.specs.Values.{Location, empty, reference, openWith}
 use Rattle.machine.specs.Store.{State}
 use Rattle.machine.specs.Locate.{locate, filled}
@@ -21,10 +23,10 @@ use Rattle.safety.proofs.Memory.{Name, inFlight, var, has, p-ref, var�
 use Rattle.safety.proofs.NameMaps.{upd, upd-same, upd-other}
 use Rattle.safety.proofs.Ghost as Gh
 use Rattle.safety.proofs.Typing.{borrowed, isExclusive, Fits, boxes, Ref, Holds}
-use Rattle.safety.proofs.Chains.{drop-add, boxes-drop, fits-down, fits-shared}
+use Rattle.safety.proofs.Chains.{fits-down, fits-shared}
 use Rattle.safety.proofs.OnPath.{agreed}
-use Rattle.safety.proofs.Certificates.{place, Among, ends, Whole, root-whole}
-use Rattle.safety.proofs.Covering.{BorrowIn, borrow-known, Covered, covered-back, covered-whole}
+use Rattle.safety.proofs.Certificates.{Whole, root-whole}
+use Rattle.safety.proofs.Covering.{BorrowIn, in-shared, borrow-among, borrow-known, Covered, covered-back, covered-whole}
 use Rattle.safety.proofs.Inversion.{readable-ok}
 use Rattle.safety.proofs.Invariant.{Invariant, deep-ghost}
 use Rattle.safety.proofs.Finding.{along, Found, whole-along, reads, number-there}
@@ -43,7 +45,7 @@ module _ {nv : ℕ} {Γ : Environment} {lv : ℕ} {s : State} (I : Invariant nv 
   -- A copy of a shared borrow holds what the original holds. j is the judge's borrow, that of whatever the place may lead to.
   copy-shared : (i : ℕ) (p : Place) (l : Located) (ks : List Link) (j : Borrow) → Found I p l i → Whole Γ (p .root) (l .root)
       → drop (p .follows) (l .root .chain) ≡ shared ∷ ks
-      → ((k : Place) (u : Variable) (q : Place) → Among k (ends l) → Γ (k .root) ≡ live u → BorrowIn (Gh.sharedOf q) (u .borrow) → BorrowIn (Gh.sharedOf q) j)
+      → ((k : Place) (u : Variable) (q : Place) → Among k (l .to) → Γ (k .root) ≡ live u → BorrowIn (Gh.sharedOf q) (u .borrow) → BorrowIn (Gh.sharedOf q) j)
       → Progress nv Γ Γ (some (record { links = shared ∷ ks; borrow = j })) lv (runCopy s i p)
   unfolding leadingBoxes
   copy-shared i p l ks j F wh e give = make (f .0) (f .1)
@@ -134,16 +136,16 @@ module _ {nv : ℕ} {Γ : Environment} {lv : ℕ} {s : State} (I : Invariant nv 
           )))
 
   pub case-copy : (i : ℕ) (p : Place) (out : Out) → judgeCopy nv Γ i p ≡ ok out → Progress nv Γ (out .0) (out .1) lv (runCopy s i p)
-  unfolding judgeCopy copies isNumber borrowOf
+  unfolding judgeCopy copies borrowEnd borrowOf
   case-copy i p out h =
       let a = then (judgeReadable nv Γ i p) _ out h in
       let b = readable-ok nv Γ i p (a .0) (a .1) in
       let c = then (need (copies (drop (p .follows) (a .0 .root .chain))) (37, i)) _ out (a .2) in
       let F = judged-found I i i p (a .0) (b .0) in
-      go (a .0) F (is-whole I (p .root) (a .0 .root) (F .is) (b .1)) (drop (p .follows) (a .0 .root .chain)) refl (needed _ _ _ (c .1)) (c .2)
+      go (a .0) F (is-whole nv Γ (p .root) (a .0 .root) (b .1)) (drop (p .follows) (a .0 .root .chain)) refl (needed _ _ _ (c .1)) (c .2)
     where
       go : (l : Located) → Found I p l i → Whole Γ (p .root) (l .root) → (ks : List Link) → drop (p .follows) (l .root .chain) ≡ ks → copies ks ≡ true
-          → _≡_ {A = Result Refusal Out} (ok (Γ, some (record { links = ks; borrow = pick (isNumber ks) noBorrow (borrowOf (Γ (l .to .root))) }))) (ok out)
+          → _≡_ {A = Result Refusal Out} (ok (Γ, some (record { links = ks; borrow = borrowEnd ks (borrowsAt Γ (l .to)) }))) (ok out)
           → Progress nv Γ (out .0) (out .1) lv (runCopy s i p)
       go l F wh [] e k q =
           let N = number-there I p l i F wh e in
@@ -151,7 +153,7 @@ module _ {nv : ℕ} {Γ : Environment} {lv : ℕ} {s : State} (I : Invariant nv 
           subst (λ (y : Out). Progress nv Γ (y .0) (y .1) lv (runCopy s i p)) z (case-number I (N .0) (runCopy s i p) (run-num I i p (F .loc) (N .0) (F .run) (N .2 (F .loc) (F .run)) .1))
       go l F wh (boxed ∷ ks) e k q = absurd (false≢true k)
       go l F wh (shared ∷ ks) e k q =
-          let z : (Γ, some (record { links = shared ∷ ks; borrow = borrowOf (Γ (l .to .root)) })) ≡ out = cc in
-          subst (λ (y : Out). Progress nv Γ (y .0) (y .1) lv (runCopy s i p)) z (copy-shared i p l ks (borrowOf (Γ (l .to .root))) F wh e
-          (λ k u q m f B. elim m [ inl y ↦ subst (λ (n : Slot). BorrowIn (Gh.sharedOf q) (borrowOf n)) (sym f ∙ ap (λ (n : Place). Γ (n .root)) y) B | inr y ↦ absurd y ]))
+          let z : (Γ, some (record { links = shared ∷ ks; borrow = sharedOf (borrowsAt Γ (l .to)) })) ≡ out = cc in
+          subst (λ (y : Out). Progress nv Γ (y .0) (y .1) lv (runCopy s i p)) z (copy-shared i p l ks (sharedOf (borrowsAt Γ (l .to))) F wh e
+          (λ k u q m f B. in-shared q (borrowsAt Γ (l .to)) (borrows-in Γ q k (l .to) m (subst (λ (n : Slot). Among q (places (borrowOf n))) (sym f) (borrow-among B q refl)))))
       go l F wh (exclusive ∷ ks) e k q = absurd (false≢true k)

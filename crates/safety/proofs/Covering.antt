@@ -9,19 +9,20 @@ use mathlib.Core.Option.{some}
 use mathlib.Core.List.{List}
 use Rattle.reader.specs.Script.{Place}
 use Rattle.rules.specs.Links.{Link, leadingBoxes}
-use Rattle.rules.specs.Environment.{Borrow, noBorrow, sharedOf, exclusiveOf, Variable, Slot, free, used, live, fresh, movedAway}
+use Rattle.rules.specs.Environment.{Borrow, noBorrow, sharedOf, exclusiveOf, places, Variable, Slot, free, used, live, fresh, movedAway}
+use Rattle.rules.specs.Follow.{isBorrow}
+use Rattle.rules.specs.Neat.{Among}
+use Rattle.rules.proofs.Slots.{free≢live, used≢live}
 use Rattle.machine.proofs.Apart.{none≢some}
-use Rattle.safety.proofs.Apart.{free≢live, used≢live}
 use Rattle.safety.proofs.Ghost.{stale, vacant}
 use Rattle.safety.proofs.Ghost as Gh
 use Rattle.safety.proofs.Typing.{borrowed, isExclusive, boxes}
-use Rattle.safety.proofs.Certificates.{Among, places, isBorrow}
 
 -- A borrow of the proof's is one that the judge has recorded.
 pub data BorrowIn : Gh.Borrow → Borrow → Type 0 where
   in-none : BorrowIn Gh.noBorrow noBorrow
-  in-shared : (p q : Place) → Among p (places (sharedOf q)) → BorrowIn (Gh.sharedOf p) (sharedOf q)
-  in-exclusive : (p q : Place) → Among p (places (exclusiveOf q)) → BorrowIn (Gh.exclusiveOf p) (exclusiveOf q)
+  in-shared : (p : Place) (ps : List Place) → Among p (places (sharedOf ps)) → BorrowIn (Gh.sharedOf p) (sharedOf ps)
+  in-exclusive : (p : Place) (ps : List Place) → Among p (places (exclusiveOf ps)) → BorrowIn (Gh.exclusiveOf p) (exclusiveOf ps)
 
 -- The judge's borrow is exclusive.
 abbrev pub exclusiveIn : Borrow → Bool

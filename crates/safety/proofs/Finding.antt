@@ -11,7 +11,10 @@ use Rattle.reader.specs.Result.{ok}
 use Rattle.reader.specs.Script.{Place}
 use Rattle.rules.specs.Links.{Link, leadingBoxes}
 use Rattle.rules.specs.Environment.{Variable, live, Environment, Ty}
+use Rattle.rules.specs.Follow.{isBorrow}
 use Rattle.rules.specs.Rules.{Located}
+use Rattle.rules.specs.Neat.{place, Among}
+use Rattle.rules.proofs.LinkChains.{boxes-drop}
 use Rattle.machine.specs.Values.{Location, Value, empty, num, Row, closed, openWith}
 use Rattle.machine.specs.Store.{State}
 use Rattle.machine.specs.Locate.{locate}
@@ -19,10 +22,10 @@ use Rattle.safety.proofs.Memory.{Name, var, Spot, Plain, p-num}
 use Rattle.safety.proofs.Lifted.{spotOf, lift, lift-at}
 use Rattle.safety.proofs.Ghost as Gh
 use Rattle.safety.proofs.Typing.{Fits, boxes, Reach, here, hop}
-use Rattle.safety.proofs.Chains.{boxes-drop, fits-down, fits-nil}
+use Rattle.safety.proofs.Chains.{fits-down, fits-nil}
 use Rattle.safety.proofs.Paths.{located}
 use Rattle.safety.proofs.OnPath.{agreed}
-use Rattle.safety.proofs.Certificates.{Path, place, Among, ends, isBorrow, Own, Passed, Whole, root-whole}
+use Rattle.safety.proofs.Certificates.{Path, Own, Passed, Whole, root-whole}
 use Rattle.safety.proofs.Covering.{borrow-among, borrow-some, Covered, covered-live, covered-back, covered-whole, covered-holds}
 use Rattle.safety.proofs.Invariant.{flightRow, Invariant}
 
@@ -83,7 +86,7 @@ module _ {nv : ℕ} {Γ : Environment} {o : Option Ty} {lv : ℕ} {s : State} {v
     pub c : ℕ
     pub d : ℕ
     pub reach : Reach (I .Θ) (var c) d (var (p .root)) (p .follows)
-    pub among : Among (place c d) (ends l)
+    pub among : Among (place c d) (l .to)
     pub loc : Location
     pub row : spotOf loc ≡ I .ρ (var c) d
     pub run : locate s i p ≡ ok loc

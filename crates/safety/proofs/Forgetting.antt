@@ -4,11 +4,11 @@ use mathlib.Core.Path.{_≡_, refl, sym, ap, _∙_}
 use mathlib.Core.Logic.{_≢_, _⊎_, inl, inr}
 use mathlib.Core.Option.{Option, none, some}
 use Rattle.reader.specs.Result.{ok}
-use Rattle.rules.specs.Environment.{Variable, Slot, used, live, Environment, Ty}
+use Rattle.rules.specs.Environment.{used, Environment, Ty}
+use Rattle.rules.proofs.Slots.{used≢live}
 use Rattle.machine.specs.Values.{Value, empty, closed}
 use Rattle.machine.specs.Store.{State, withStore}
 use Rattle.machine.specs.Drop.{dropValue}
-use Rattle.safety.proofs.Apart.{used≢live}
 use Rattle.machine.proofs.DropLaws.{drop-empty}
 use Rattle.safety.proofs.Memory.{Name, inFlight, inDrop, var, noRow, has, nameDec, eitherDec, var≢flight, drop≢flight}
 use Rattle.safety.proofs.NameMaps.{upd, upd-same, upd-other}

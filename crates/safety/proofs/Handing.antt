@@ -8,12 +8,13 @@ use mathlib.Core.Option.{some}
 use lib.ListN.{drop}
 use Rattle.reader.specs.Script.{Place}
 use Rattle.rules.specs.Links.{leadingBoxes}
+use Rattle.rules.proofs.LinkChains.{drop-add, boxes-drop}
 use Rattle.machine.specs.Values.{Value, empty, num, reference}
 use Rattle.safety.proofs.Memory.{Name, inDrop, var, Spot, Content, noRow, has, nameDec, eitherDec}
 use Rattle.safety.proofs.NameMaps.{upd, upd-same, upd-other}
 use Rattle.safety.proofs.Ghost.{Variable, Slot, live, fresh, movedAway}
 use Rattle.safety.proofs.Typing.{borrowed, isExclusive, boxes, Ref, At, Holds, Typed, avoid-back}
-use Rattle.safety.proofs.Chains.{drop-add, boxes-drop, fits-down}
+use Rattle.safety.proofs.Chains.{fits-down}
 use Rattle.safety.proofs.Frames.{frame}
 
 module _ {nv : ℕ} {G : Name → Type 0} {Γ : Name → Slot} {H : Name → Content} {ρ : Name → ℕ → Spot} {rank : Name → ℕ} (T : Typed nv G Γ H ρ rank)

@@ -7,16 +7,16 @@ use mathlib.Core.Option.{Option, none, some}
 use mathlib.Core.List.{List, [], _∷_}
 use Rattle.reader.specs.Script.{Place}
 use Rattle.rules.specs.Links.{leadingBoxes}
-use Rattle.rules.specs.Environment.{Borrow, Variable, Slot, used, live, Environment, Ty, fresh, levelOf, livesAt}
+use Rattle.rules.specs.Environment.{Borrow, places, Variable, Slot, used, live, Environment, Ty, fresh, levelOf, livesAt}
+use Rattle.rules.specs.Neat.{Among}
+use Rattle.rules.proofs.Slots.{used≢live}
 use Rattle.machine.specs.Values.{Value, empty, Row, closed, openWith}
 use Rattle.machine.specs.Store.{State}
-use Rattle.safety.proofs.Apart.{used≢live}
 use Rattle.safety.proofs.Memory.{Name, inFlight, inDrop, var, Spot, Content, noRow, Memory}
 use Rattle.safety.proofs.Lifted.{lift}
 use Rattle.safety.proofs.Ghost.{vacant}
 use Rattle.safety.proofs.Ghost as Gh
 use Rattle.safety.proofs.Typing.{Holds, Typed}
-use Rattle.safety.proofs.Certificates.{Among, places}
 use Rattle.safety.proofs.Covering.{BorrowIn, covers, vacant≢live, covered-back, covered-none, covered-holds}
 use Rattle.safety.proofs.Inversion.{level-in}
 

@@ -5,12 +5,12 @@ use Rattle.reader.specs.Result.{ok}
 use Rattle.reader.specs.Limits.{Limits}
 use Rattle.reader.specs.Script.{Term}
 use Rattle.reader.proofs.MoreLimits.{within-more}
+use Rattle.rules.proofs.LargerJudge.{verdict-same}
 use Rattle.machine.specs.Store.{Store, State, Ran}
 use Rattle.machine.specs.Run.{runScript}
 use Rattle.safety.specs.Safety.{Safe}
 use Rattle.safety.specs.Larger.{SameEnd, LargerSets}
 use Rattle.safety.proofs.Demand3.{demand-three}
-use Rattle.safety.proofs.LargerJudge.{same-verdict}
 
 -- No set and no earlier store is in the run, so two safe runs of a script with the same readings end alike.
 pub one-end : (l m : Limits) (t : Term) (readings : ℕ → ℕ) (a b : Store) (p : Safe l t readings a) (q : Safe m t readings b)
@@ -27,10 +27,10 @@ same-ends l m t readings a b p q =
 
 pub larger-sets : LargerSets
 larger-sets l m le = record {
-  verdict = same-verdict l m le;
+  verdict = verdict-same l m le;
   stays = λ t within accepted.
       let w = within-more l m le t within in
-      let j = same-verdict l m le t within ∙ accepted in
+      let j = verdict-same l m le t within ∙ accepted in
       record {
         within = w;
         judged = j;

@@ -1,14 +1,10 @@
 -- The variables that leave scope at the end of a block.
-use Prim.Native.Nat.{ℕ, _≤_, _<_}
+use Prim.Native.Nat.{ℕ, _<_}
 use native.Mathlib.Omega.{arith}
 use native.Mathlib.Decide.{decLt}
 use mathlib.Core.Path.{_≡_, refl}
-use mathlib.Core.Bool.{Bool, true, false}
-use lib.Dec.{ltb}
-use borrow.Author.Tests.{ltb-false, lt-ltb, le-ltb}
-use Rattle.reader.specs.Result.{pick}
+use borrow.Author.Tests.{lt-ltb, le-ltb}
 use Rattle.rules.specs.Environment.{Variable, Slot, free, used, live, Environment, leaveSlot}
-use Rattle.safety.proofs.Apart.{free≢live, used≢live}
 use Rattle.safety.proofs.Memory.{Name, inFlight, inDrop, var}
 
 -- It is in scope, and lives deeper than the level.
@@ -33,16 +29,6 @@ unfolding leaveSlot
 leave-late lv free h = absurd h
 leave-late lv used h = refl
 leave-late lv (live q) h = rw (lt-ltb lv (q .level) h)
-
-pub leave-live : (lv : ℕ) (sl : Slot) (q : Variable) → leaveSlot lv sl ≡ live q → (sl ≡ live q) × (q .level ≤ lv)
-unfolding leaveSlot
-leave-live lv free q h = absurd (free≢live h)
-leave-live lv used q h = absurd (used≢live h)
-leave-live lv (live k) q h = go (ltb lv (k .level)) refl h
-  where
-    go : (b : Bool) → ltb lv (k .level) ≡ b → pick b used (live k) ≡ live q → (live k ≡ live q) × (q .level ≤ lv)
-    go true e g = absurd (used≢live g)
-    go false e g = let z : k ≡ q = cc in (g, rw (← z) (ltb-false lv (k .level) e))
 
 -- A name that is such a variable.
 abbrev pub lateName : Environment → ℕ → Name → Type 0

@@ -9,11 +9,11 @@ use mathlib.Core.List.{_∷_}
 use Rattle.reader.specs.Result.{ok, _>>=_, need}
 use Rattle.rules.specs.Environment.{Variable, Slot, free, used, live, Environment, Ty, update, fresh}
 use Rattle.rules.specs.Rules.{Out, valued, judgeLet}
+use Rattle.rules.proofs.Slots.{free≢live, used≢live, update-same, update-other}
 use Rattle.machine.specs.Values.{variable, Value, empty, closed, openWith}
 use Rattle.machine.specs.Store.{Store, put, isOpen, State}
 use Rattle.machine.specs.Run.{runLet}
 use Rattle.machine.proofs.Apart.{err≢ok}
-use Rattle.safety.proofs.Apart.{free≢live, used≢live}
 use Rattle.machine.proofs.StoreLaws.{put-same}
 use Rattle.safety.proofs.Memory.{Name, inFlight, inDrop, var, Spot, Content, noRow, has, p-empty, Memory, var≢flight, var≢drop, drop≢flight}
 use Rattle.safety.proofs.NameMaps.{upd, upd-same, upd-other}
@@ -25,7 +25,6 @@ use Rattle.safety.proofs.Ghost as Gh
 use Rattle.safety.proofs.Typing.{boxes, Typed}
 use Rattle.safety.proofs.Handing.{handed}
 use Rattle.safety.proofs.Covering.{covers, vacant≢live, covered-none, vac-covers, live-covers, covered-fresh}
-use Rattle.safety.proofs.Inversion.{update-same, update-other}
 use Rattle.safety.proofs.Invariant.{Member, nobody, Invariant, covers-same, deep-ghost}
 use Rattle.safety.proofs.InFlight.{Full, content, flying, flying-whole, flying-borrow}
 

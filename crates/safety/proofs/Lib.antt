@@ -3,7 +3,6 @@
 -- The examples.
 pub mod ExampleTable
 -- What the layers share.
-pub mod Apart
 pub mod Choose
 pub mod EndNumbers
 -- The memory layer: names own chains of cells. No types in it.
@@ -24,16 +23,18 @@ pub mod OnPath
 pub mod Frames
 pub mod Handing
 pub mod Writing
+pub mod Fading
 -- What is asked of the judge: certificates, and that its environment covers the proof's.
 pub mod Certificates
 pub mod Covering
+pub mod Widening
 pub mod Inversion
-pub mod Leads
 -- The invariant, and where places lead.
 pub mod Invariant
 pub mod Finding
 pub mod Following
 pub mod Progress
+pub mod Wider
 -- The terms: conditions give the result, and the judge gives the conditions.
 pub mod NewValue
 pub mod Numbers
@@ -45,24 +46,21 @@ pub mod Moving
 pub mod Boxing
 pub mod Letting
 pub mod Assigning
+pub mod WriteJudged
 pub mod AssignJudged
 pub mod Emptying
 pub mod Forgetting
 pub mod Closing
 pub mod Leaving
 pub mod BlockEnd
+pub mod Joining
 -- All terms, and the whole script.
 pub mod Ranges
 pub mod Soundness
 pub mod Start
 pub mod ScriptEnd
 pub mod Demand3
--- The bound of following.
-pub mod Pigeon
-pub mod FollowBound
 -- Larger sets of limits.
-pub mod LargerRules
-pub mod LargerJudge
 pub mod Larger
 -- The numbers of refusals.
 pub mod RefusalNumbers

@@ -12,10 +12,11 @@ use borrow.Author.Tests.{leb-true, not-true}
 use Rattle.reader.specs.Result.{ok, _>>=_, need}
 use Rattle.reader.specs.Script.{Place}
 use Rattle.rules.specs.Links.{Link, leadingBoxes}
-use Rattle.rules.specs.Environment.{Variable, Slot, live, Environment, update, fresh, movedAway}
+use Rattle.rules.specs.Environment.{Variable, live, Environment, update, fresh, movedAway}
 use Rattle.rules.specs.Follow.{valueWhole}
 use Rattle.rules.specs.Bars.{writeBarred}
 use Rattle.rules.specs.Rules.{Out, inScope, judgeMove}
+use Rattle.rules.proofs.Answers.{scoped}
 use Rattle.machine.specs.Values.{Location, variable, Value, empty, num, owner, reference, closed, openWith}
 use Rattle.machine.specs.Store.{Store, put, State, withStore}
 use Rattle.machine.specs.Locate.{locateFrom, locate, filled}
@@ -32,7 +33,7 @@ use Rattle.safety.proofs.Paths.{located}
 use Rattle.safety.proofs.Handing.{handed}
 use Rattle.safety.proofs.Certificates.{root-whole}
 use Rattle.safety.proofs.Covering.{borrow-among, Covered, vacant≢live, covered-live, live-covers, covered-whole, covered-fresh, covered-moved}
-use Rattle.safety.proofs.Inversion.{scoped, write-allowed}
+use Rattle.safety.proofs.Inversion.{write-allowed}
 use Rattle.safety.proofs.Invariant.{nobody, Invariant, deep-ghost, flight-vacant, holder}
 use Rattle.safety.proofs.Finding.{reads}
 use Rattle.safety.proofs.Following.{is-whole}
@@ -208,6 +209,6 @@ module _ {nv : ℕ} {Γ : Environment} {lv : ℕ} {s : State} (I : Invariant nv 
       let d = then (need (valueWhole nv Γ (p .root) (a .0)) (33, i)) _ out (c .2) in
       let e = then (need (not (writeBarred nv Γ (p .root))) (35, i)) _ out (d .2) in
       let eX = scoped _ _ _ (a .1) in
-      let R = moving i p (a .0) eX (root-whole Γ (p .root) (a .0) eX (is-whole I (p .root) (a .0) eX (needed _ _ _ (d .1)))) (leb-true _ _ (needed _ _ _ (c .1))) (not-true _ (needed _ _ _ (e .1))) in
+      let R = moving i p (a .0) eX (root-whole Γ (p .root) (a .0) eX (is-whole nv Γ (p .root) (a .0) (needed _ _ _ (d .1)))) (leb-true _ _ (needed _ _ _ (c .1))) (not-true _ (needed _ _ _ (e .1))) in
       let z : (update Γ (p .root) (live (movedAway (a .0) (p .follows))), some (record { links = drop (p .follows) (a .0 .chain); borrow = a .0 .borrow })) ≡ out = let k = e .2 in cc in
       subst (λ (q : Out). Progress nv Γ (q .0) (q .1) lv (runMove s i p)) z R

@@ -1,4 +1,4 @@
--- Number, reading, below.
+-- Number, reading, below, sum; and the number at the place of a choice.
 use Prim.Native.Nat.{ℕ}
 use mathlib.Core.Path.{_≡_, refl}
 use mathlib.Core.Option.{none, some}
@@ -33,7 +33,7 @@ module _ {nv : ℕ} {Γ : Environment} {lv : ℕ} {s : State} (I : Invariant nv 
       let a = then (judgeReadable nv Γ j p) _ u h in
       let b = readable-ok nv Γ j p (a .0) (a .1) in
       let F = judged-found I i j p (a .0) (b .0) in
-      let N = number-there I p (a .0) i F (is-whole I (p .root) (a .0 .root) (F .is) (b .1)) (number-nil _ (needed _ _ _ (a .2))) in
+      let N = number-there I p (a .0) i F (is-whole nv Γ (p .root) (a .0 .root) (b .1)) (number-nil _ (needed _ _ _ (a .2))) in
       (N .0, run-num i p (F .loc) (N .0) (F .run) (N .2 (F .loc) (F .run)) .0)
 
   run-both : (f : ℕ → ℕ → ℕ) (i : ℕ) (p q : Place) (a b : ℕ) → runNumber s i p ≡ ok a → runNumber s i q ≡ ok b → runPair f s i p q ≡ ok (s, num (f a b))

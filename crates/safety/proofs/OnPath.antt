@@ -9,10 +9,11 @@ use mathlib.Core.List.{List}
 use lib.ListN.{take, drop}
 use Rattle.reader.specs.Script.{Place}
 use Rattle.rules.specs.Links.{Link, noShared}
+use Rattle.rules.proofs.LinkChains.{drop-add}
 use Rattle.safety.proofs.Memory.{Name, var, Spot, Content, nameDec}
 use Rattle.safety.proofs.Ghost.{Variable, Slot, live}
 use Rattle.safety.proofs.Typing.{borrowed, isExclusive, boxes, Reach, here, hop, Holds, Typed}
-use Rattle.safety.proofs.Chains.{drop-add, exclusive-passed, pure-rest, pure-both}
+use Rattle.safety.proofs.Chains.{exclusive-passed, pure-rest, pure-both}
 
 -- The variables that a path visits.
 abbrev pub On : {Γ : Name → Slot} {w : Name} {d : ℕ} {x : Name} {r : ℕ} → Reach Γ w d x r → Name → Type 0

@@ -6,13 +6,12 @@ use mathlib.Core.Path.{_≡_, refl, sym, ap, _∙_, subst}
 use mathlib.Core.Logic.{_≢_}
 use mathlib.Core.Option.{Option}
 use Rattle.rules.specs.Environment.{Variable, Slot, used, live, Environment, Ty, update}
+use Rattle.rules.proofs.Slots.{used≢live, update-same, update-other}
 use Rattle.machine.specs.Values.{Value}
 use Rattle.machine.specs.Store.{State}
-use Rattle.safety.proofs.Apart.{used≢live}
 use Rattle.safety.proofs.Memory.{Name, var}
 use Rattle.safety.proofs.Ghost as Gh
 use Rattle.safety.proofs.Covering.{Covered, covers, live-covers}
-use Rattle.safety.proofs.Inversion.{update-same, update-other}
 use Rattle.safety.proofs.Invariant.{Member, Invariant, covers-same}
 
 module _ {nv : ℕ} {Γ : Environment} {o : Option Ty} {lv : ℕ} {s : State} {v : Value} (I : Invariant nv Γ o lv s v) where

@@ -3,9 +3,9 @@ use Prim.Native.Nat.{ℕ, suc, _+_, _<_}
 use native.Mathlib.Omega.{arith}
 use mathlib.Core.Path.{_≡_, refl}
 use Rattle.reader.specs.Limits.{Limits}
-use Rattle.reader.specs.Script.{Term, number, reading, copy, move, borrowShared, borrowExclusive, box, declare, assign, below, block, sum, Terms, last, more}
+use Rattle.reader.specs.Script.{Term, number, reading, copy, move, borrowShared, borrowExclusive, box, declare, assign, below, block, choice, sum, Terms, last, more}
 use Rattle.reader.specs.Kinds.{kBlock, fields}
-use Rattle.reader.specs.Measures.{size, kindIn}
+use Rattle.reader.specs.Measures.{size, sizes, kindIn}
 use Rattle.reader.specs.Within.{Formed, FormedAll}
 
 -- The variables that lets name are in range.
@@ -23,6 +23,7 @@ unfoldable mutual
   Ranged nv (below i p q) = Unit {0}
   Ranged nv (sum i p q) = Unit {0}
   Ranged nv (block i ts) = Rangeds nv ts
+  Ranged nv (choice i p j us k vs) = (Rangeds nv us) × (Rangeds nv vs)
 
   pub Rangeds : ℕ → Terms → Type 0
   Rangeds nv (last t) = Ranged nv t
@@ -44,6 +45,7 @@ mutual
   formed-ranged l i (below j p q) f = tt
   formed-ranged l i (sum j p q) f = tt
   formed-ranged l i (block j ts) f = formed-all-ranged l (suc i) ts (f .2)
+  formed-ranged l i (choice h p j us k vs) f = (formed-all-ranged l (suc (suc i)) us (f .2 .2), formed-all-ranged l (suc (suc i + suc (sizes us))) vs (f .3 .2))
 
   formed-all-ranged : (l : Limits) (i : ℕ) (ts : Terms) → FormedAll l i ts → Rangeds (l .variables) ts
   formed-all-ranged l i (last t) f = formed-ranged l i t f
@@ -63,3 +65,4 @@ is-block (assign i p t) e = let z : _≡_ {A = ℕ} 0 1 = cc in absurd (omega ar
 is-block (below i p q) e = let z : _≡_ {A = ℕ} 0 1 = cc in absurd (omega arith)
 is-block (sum i p q) e = let z : _≡_ {A = ℕ} 0 1 = cc in absurd (omega arith)
 is-block (block i ts) e = (i, ts, refl)
+is-block (choice i p j us k vs) e = let z : _≡_ {A = ℕ} 0 1 = cc in absurd (omega arith)

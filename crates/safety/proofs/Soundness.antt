@@ -3,23 +3,27 @@ use Prim.Native.Nat.{ℕ, suc}
 use native.Mathlib.Omega.{arith}
 use mathlib.Core.Path.{_≡_, refl, sym, ap, _∙_, subst}
 use mathlib.Core.Logic.{_≢_}
-use mathlib.Core.Option.{none, some}
-use Rattle.reader.specs.Result.{Result, ok, Refusal, _>>=_, need}
-use Rattle.reader.specs.Script.{Place, Term, number, reading, copy, move, borrowShared, borrowExclusive, box, declare, assign, below, block, sum, Terms, last, more}
-use Rattle.rules.specs.Environment.{Variable, Slot, free, used, live, Environment, update, isFree, livesAt, leaveSlot, leave}
-use Rattle.rules.specs.Rules.{Out, numberTy, judgeNumber, judgeBelow, borrowIn, judgeBlockEnd}
+use mathlib.Core.Bool.{Bool, true, false}
+use mathlib.Core.Option.{Option, none, some}
+use lib.Dec.{eqb}
+use Rattle.reader.specs.Result.{Result, ok, Refusal, _>>=_, need, pick}
+use Rattle.reader.specs.Script.{Place, Term, number, reading, copy, move, borrowShared, borrowExclusive, box, declare, assign, below, block, choice, sum, Terms, last, more}
+use Rattle.rules.specs.Environment.{Slot, free, used, Environment, Ty, update, isFree, livesAt, leaveSlot, leave}
+use Rattle.rules.specs.Choice.{carried, joined, agreeing, either}
+use Rattle.rules.specs.Rules.{Out, numberTy, judgeNumber, judgeBelow, borrowIn, judgeBlockEnd, judgeChoice}
 use Rattle.rules.specs.Judge.{judge, judges}
+use Rattle.rules.proofs.Answers.{was-free}
+use Rattle.rules.proofs.Slots.{free≢live, used≢live, update-same, update-other, leave-live}
+use Rattle.rules.proofs.NeatSteps.{Lived}
 use Rattle.machine.specs.Values.{empty, num}
-use Rattle.machine.specs.Store.{State}
+use Rattle.machine.specs.Store.{State, Ran}
 use Rattle.machine.specs.Drop.{dropValue}
 use Rattle.machine.specs.Signed.{compared, heldSum}
-use Rattle.machine.specs.Run.{runPair, runBlockEnd, entered, run, runs}
-use Rattle.safety.proofs.Apart.{free≢live, used≢live}
+use Rattle.machine.specs.Run.{Outcome, runNumber, runPair, runBlockEnd, entered, run, runs}
 use Rattle.machine.proofs.Results.{then, after, needed}
-use Rattle.safety.proofs.Inversion.{was-free, update-same, update-other}
 use Rattle.safety.proofs.Invariant.{Invariant}
 use Rattle.safety.proofs.Progress.{Progress, and-then}
-use Rattle.safety.proofs.Numbers.{case-number, case-pair}
+use Rattle.safety.proofs.Numbers.{case-number, one-number, case-pair}
 use Rattle.safety.proofs.Borrowing.{case-shared, case-exclusive}
 use Rattle.safety.proofs.Copying.{case-copy}
 use Rattle.safety.proofs.Moving.{case-move}
@@ -27,8 +31,9 @@ use Rattle.safety.proofs.Boxing.{after-box}
 use Rattle.safety.proofs.Letting.{taking, after-let}
 use Rattle.safety.proofs.AssignJudged.{after-assign}
 use Rattle.safety.proofs.Forgetting.{forget}
-use Rattle.safety.proofs.Leaving.{leave-same, leave-live, late-level}
+use Rattle.safety.proofs.Leaving.{leave-same, late-level}
 use Rattle.safety.proofs.BlockEnd.{entering, block-ends}
+use Rattle.safety.proofs.Joining.{carrying, after-first, after-second}
 use Rattle.safety.proofs.Ranges.{Ranged, Rangeds}
 
 module _ (nv : ℕ) (readings : ℕ → ℕ) where
@@ -81,7 +86,7 @@ module _ (nv : ℕ) (readings : ℕ → ℕ) where
   SoundBlock : ℕ → Terms → Type 0
   SoundBlock i ts = (lv : ℕ) (Γ : Environment) (s : State) (out : Out) → Rangeds nv ts → (judges nv ts (suc lv) Γ >>= λ o. judgeBlockEnd nv lv (o .0) i (o .1)) ≡ ok out → Invariant nv Γ none lv s empty
       → (Progress nv Γ (out .0) (out .1) lv (runs readings ts i (entered s) >>= λ o. runBlockEnd i (s .opened) o))
-      × ((x : ℕ) (q : Variable) → out .0 x ≡ live q → (k : Variable) × (Γ x ≡ live k) × (k .level ≡ q .level))
+      × (Lived Γ (out .0))
 
   sound-terms : (i : ℕ) (ts : Terms) → Sounds ts → SoundBlock i ts
   unfolding SoundBlock Sounds judgeBlockEnd leave leaveSlot
@@ -89,12 +94,12 @@ module _ (nv : ℕ) (readings : ℕ → ℕ) where
       let a = then (judges nv ts (suc lv) Γ) _ out h in
       let b = then (need (livesAt (a .0 .0) (borrowIn nv (a .0 .1)) lv) (40, i)) _ out (a .2) in
       let R = ih (suc lv) Γ (entered s) i (a .0) w (a .1) (entering I) in
-      let K : (x : ℕ) (q : Variable) → leave lv (a .0 .0) x ≡ live q → (k : Variable) × (Γ x ≡ live k) × (k .level ≡ q .level) =
+      let K : Lived Γ (leave lv (a .0 .0)) =
       λ x q e. let l = leave-live lv (a .0 .0 x) q e in R .keep x q (l .0) (omega (arith, l .1)) in
       let E = block-ends (a .0 .1) (R .inv) (needed _ _ _ (b .1)) (s .opened) i
       (λ x q e. let k = K x q e in let c = I .scope x (k .0) (k .1) in (λ l. c .0 (omega (arith, k .2)), λ l. let d = c .1 l in omega (arith, k .2))) in
       let z : (leave lv (a .0 .0), a .0 .1) ≡ out = let k = b .2 in cc in
-      subst (λ (q : Out). (Progress nv Γ (q .0) (q .1) lv (runs readings ts i (entered s) >>= λ o. runBlockEnd i (s .opened) o)) × ((x : ℕ) (r : Variable) → q .0 x ≡ live r → (k : Variable) × (Γ x ≡ live k) × (k .level ≡ r .level))) z (
+      subst (λ (q : Out). (Progress nv Γ (q .0) (q .1) lv (runs readings ts i (entered s) >>= λ o. runBlockEnd i (s .opened) o)) × (Lived Γ (q .0))) z (
         record {
           s = E .0;
           v = R .v;
@@ -113,6 +118,43 @@ module _ (nv : ℕ) (readings : ℕ → ℕ) where
   sound-block : (i : ℕ) (ts : Terms) → Sounds ts → Sound (block i ts)
   unfolding Sound SoundBlock Ranged judge run
   sound-block i ts ih lv Γ s out w h I = sound-terms i ts ih lv Γ s out w h I .0
+
+  run-choice : (i : ℕ) (p : Place) (s : State) (n : ℕ) (a b : Ran Outcome) → runNumber s i p ≡ ok n
+      → (runNumber s i p >>= λ n. pick (eqb n 0) b a) ≡ pick (eqb n 0) b a
+  unfolding _>>=_
+  run-choice i p s n a b e = rw e refl
+
+  -- A choice: whichever block runs, what is known after either holds after that one.
+  sound-choice : (i : ℕ) (p : Place) (j : ℕ) (us : Terms) (k : ℕ) (vs : Terms) → Sounds us → Sounds vs → Sound (choice i p j us k vs)
+  unfolding Sound SoundBlock Ranged judge run judgeChoice
+  sound-choice i p j us k vs ihu ihv lv Γ s out w h I =
+      let a = then (judgeNumber nv Γ i p) _ out h in
+      let A = then (judges nv us (suc lv) Γ >>= λ o. judgeBlockEnd nv lv (o .0) j (o .1)) _ out (a .2) in
+      let B = then (judges nv vs (suc lv) (carried Γ (A .0 .0)) >>= λ o. judgeBlockEnd nv lv (o .0) k (o .1)) _ out (A .2) in
+      let M = then (need (agreeing (A .0 .1) (B .0 .1)) (39, i)) _ out (B .2) in
+      let N = one-number I i i p (a .0) (a .1) in
+      subst (λ (r : Ran Outcome). Progress nv Γ (out .0) (out .1) lv r) (sym (run-choice i p s (N .0) first second (N .1)))
+      (go (A .0 .0) (A .0 .1) (B .0 .0) (B .0 .1)
+      (sound-terms j us ihu lv Γ s (A .0) (w .0) (A .1) I) (sound-terms k vs ihv lv (carried Γ (A .0 .0)) s (B .0) (w .1) (B .1) (carrying (A .0 .0) I))
+      (needed _ _ _ (M .1)) (M .2) (eqb (N .0) 0))
+    where
+      first : Ran Outcome
+      first = runs readings us j (entered s) >>= λ o. runBlockEnd j (s .opened) o
+
+      second : Ran Outcome
+      second = runs readings vs k (entered s) >>= λ o. runBlockEnd k (s .opened) o
+
+      go : (Γ₁ : Environment) (o₁ : Option Ty) (Γ₂ : Environment) (o₂ : Option Ty) → (Progress nv Γ Γ₁ o₁ lv first) × (Lived Γ Γ₁)
+          → (Progress nv (carried Γ Γ₁) Γ₂ o₂ lv second) × (Lived (carried Γ Γ₁) Γ₂) → agreeing o₁ o₂ ≡ true
+          → _≡_ {A = Result Refusal Out} (ok (joined Γ Γ₁ Γ₂, either o₁ o₂)) (ok out) → (c : Bool) → Progress nv Γ (out .0) (out .1) lv (pick c second first)
+      go Γ₁ o₁ Γ₂ o₂ R S agree e c = subst (λ (q : Out). Progress nv Γ (q .0) (q .1) lv (pick c second first)) z (either-block c)
+        where
+          z : (joined Γ Γ₁ Γ₂, either o₁ o₂) ≡ out
+          z = cc
+
+          either-block : (c : Bool) → Progress nv Γ (joined Γ Γ₁ Γ₂) (either o₁ o₂) lv (pick c second first)
+          either-block false = after-first Γ₂ o₂ (R .0) (R .1) agree
+          either-block true = after-second Γ₁ o₁ (S .0) (S .1) agree
 
   sound-last : (t : Term) → Sound t → Sounds (last t)
   unfolding Sound Sounds Ranged judge run
@@ -168,6 +210,7 @@ module _ (nv : ℕ) (readings : ℕ → ℕ) where
     sound (below i p q) = sound-pair (below i p q) compared i p q (λ s. refl) (λ lv Γ. refl)
     sound (sum i p q) = sound-pair (sum i p q) heldSum i p q (λ s. refl) (λ lv Γ. refl)
     sound (block i ts) = sound-block i ts (sounds ts)
+    sound (choice i p j us k vs) = sound-choice i p j us k vs (sounds us) (sounds vs)
 
     pub sounds : (ts : Terms) → Sounds ts
     sounds (last t) = sound-last t (sound t)

@@ -13,12 +13,13 @@ use mathlib.Core.List.{List}
 use lib.ListN.{take, drop}
 use Rattle.reader.specs.Script.{Place}
 use Rattle.rules.specs.Links.{Link, leadingBoxes, noShared}
+use Rattle.rules.proofs.LinkChains.{drop-add, boxes-drop}
 use Rattle.machine.specs.Values.{Value, num, reference}
 use Rattle.safety.proofs.Choose.{choose, choose-yes, choose-no}
 use Rattle.safety.proofs.Memory.{Name, inFlight, inDrop, var, Spot, Content, noRow, has, nameDec, var≢flight, var≢drop}
 use Rattle.safety.proofs.Ghost.{Variable, Slot, live, fresh}
 use Rattle.safety.proofs.Typing.{borrowed, isExclusive, boxes, Reach, here, hop, Ref, At, Holds, Typed, avoid-back, at-off}
-use Rattle.safety.proofs.Chains.{drop-add, boxes-drop, fits-up}
+use Rattle.safety.proofs.Chains.{fits-up}
 use Rattle.safety.proofs.Paths.{inv-here, inv-hop, unique, prefix}
 use Rattle.safety.proofs.OnPath.{On, onDec, on-end, on-var, agreed, ranked, Pred, pred, next-on}
 

@@ -1,5 +1,4 @@
--- The safety of accepted scripts; larger sets of limits; the environments that judging meets; the examples.
+-- The safety of accepted scripts; larger sets of limits; the examples.
 pub mod Safety
 pub mod Larger
-pub mod Met
 pub mod Examples
