@@ -8,12 +8,13 @@ use mathlib.Core.List.{List, [], _∷_}
 use lib.Dec.{T, leb, leb→le}
 use Rattle.reader.specs.Result.{Result, ok, err, Refusal, need, _>>=_}
 use Rattle.reader.specs.Limits.{Limits}
-use Rattle.reader.specs.Script.{Place, Term, number, reading, copy, move, borrowShared, borrowExclusive, box, declare, assign, below, block, sum, Terms, last, more}
-use Rattle.reader.specs.Kinds.{Kind, kNumber, kReading, kCopy, kMove, kShared, kExclusive, kBox, kLet, kAssign, kBelow, kBlock, kSum, Field, word, until}
+use Rattle.reader.specs.Script.{Place, Term, number, reading, copy, move, borrowShared, borrowExclusive, box, declare, assign, below, block, choice, sum, Terms, last, more}
+use Rattle.reader.specs.Kinds.{Kind, kNumber, kReading, kCopy, kMove, kShared, kExclusive, kBox, kLet, kAssign, kBelow, kBlock, kChoice, kSum, Field, word, until}
 use Rattle.reader.specs.Layout.{Form, inBytes, inRows}
 use Rattle.reader.specs.Reader.{Cursor, Reads, _>>=_ as _&_, done, expect, first, peek, skip, next, ranged, field, operands, zeroFields, restOfRow, known, kind, opening, counted, several, built, term, nothingLeft, over, script, mark, version, leading, wholeScript, answer, parse, decodeIn, decode}
 use Rattle.rules.specs.Environment.{Slot, free, used, live, Environment, Ty}
-use Rattle.rules.specs.Rules.{inScope, reached, valued, judgePlace, judgeReadable, judgeCopy, judgeMove, judgeShared, judgeExclusive, judgeBox, judgeLet, judgeAssign, judgeNumber, judgeBelow, judgeBlockEnd}
+use Rattle.rules.specs.Follow.{Met}
+use Rattle.rules.specs.Rules.{inScope, reached, valued, judgePlace, judgeReadable, judgeCopy, judgeMove, judgeShared, judgeExclusive, judgeBox, judgeLet, judgeAssign, judgeNumber, judgeBelow, judgeBlockEnd, judgeChoice}
 use Rattle.rules.specs.Judge.{judge, judges, judgeScript}
 
 -- If the result is a refusal, its number is from a to b.
@@ -111,6 +112,7 @@ module _ (inner : Bool → Reads Term) (h : (o : Bool) (s : Cursor) → Only 12 
   built-only kBelow i vs = search of-reading
   built-only kSum i vs = search of-reading
   built-only kBlock i vs = search (of-reading, several-only)
+  built-only kChoice i vs = search of-reading
 
 opening-only : (l : Limits) (v : ℕ) (w : Form) (outer : Bool) (s : Cursor) → Only 12 19 (opening l v w outer s)
 unfolding opening kind peek expect done
@@ -162,7 +164,7 @@ scope-only free i = search steps
 scope-only used i = search steps
 scope-only (live v) i = search steps
 
-reached-only : (o : Option Place) (i : ℕ) → Only 30 43 (reached o (33, i))
+reached-only : (o : Met) (i : ℕ) → Only 30 43 (reached o (33, i))
 unfolding reached
 reached-only none i = search steps
 reached-only (some q) i = search steps
@@ -175,9 +177,13 @@ valued-only (some t) i = search steps
 ruleset of-rules = (steps, scope-only, reached-only, valued-only)
 
 module _ (nv : ℕ) where
-  -- The rules are unfolded too. An inner term comes first, then the rule.
+  number-only : (Γ : Environment) (i : ℕ) (p : Place) → Only 30 43 (judgeNumber nv Γ i p)
+  unfolding judgeNumber judgeReadable judgePlace
+  number-only Γ i p = search of-rules depth 8
+
+  -- The other rules are unfolded too. An inner term comes first, then the rule.
   mutual
-    unfolding judge judgePlace judgeReadable judgeCopy judgeMove judgeShared judgeExclusive judgeBox judgeLet judgeAssign judgeNumber judgeBelow judgeBlockEnd
+    unfolding judge judgePlace judgeReadable judgeCopy judgeMove judgeShared judgeExclusive judgeBox judgeLet judgeAssign judgeBelow judgeBlockEnd judgeChoice
 
     judge-only : (t : Term) (level : ℕ) (Γ : Environment) → Only 30 43 (judge nv t level Γ)
     judge-only (number i n) level Γ = search of-rules
@@ -189,9 +195,13 @@ module _ (nv : ℕ) where
     judge-only (box i t) level Γ = onward (judge-only t level Γ) (λ o. search of-rules)
     judge-only (declare i x t) level Γ = onward (search of-rules) (λ u. onward (judge-only t level _) (λ o. search of-rules))
     judge-only (assign i p t) level Γ = onward (judge-only t level Γ) (λ o. search of-rules depth 8)
-    judge-only (below i p q) level Γ = search of-rules depth 8
-    judge-only (sum i p q) level Γ = search of-rules depth 8
+    judge-only (below i p q) level Γ = search (of-rules, number-only)
+    judge-only (sum i p q) level Γ = search (of-rules, number-only)
     judge-only (block i ts) level Γ = onward (judges-only ts (suc level) Γ) (λ o. search of-rules)
+    judge-only (choice i p j us k vs) level Γ =
+        onward (number-only Γ i p) (λ u.
+        onward (onward (judges-only us (suc level) Γ) (λ o. search of-rules)) (λ a.
+        onward (onward (judges-only vs (suc level) _) (λ o. search of-rules)) (λ b. search of-rules)))
 
     judges-only : (ts : Terms) (level : ℕ) (Γ : Environment) → Only 30 43 (judges nv ts level Γ)
     judges-only (last t) level Γ = judge-only t level Γ
