@@ -1,4 +1,4 @@
--- E1 to E11 (LANGUAGE 8.4): the rules give the outcomes that the table lists.
+-- E1 to E11 (LANGUAGE 8.4), and scripts with a choice: the rules give the outcomes that the table lists.
 use Prim.Native.Nat.{ℕ}
 use mathlib.Core.Path.{_≡_, refl}
 use mathlib.Core.List.{List}
@@ -9,9 +9,11 @@ use Rattle.reader.specs.Layout.{bytesOf}
 use Rattle.reader.specs.Layout
 use Rattle.reader.specs.Measures
 use Rattle.rules.specs.Links
+use Rattle.rules.specs.Places
 use Rattle.rules.specs.Environment
 use Rattle.rules.specs.Follow
 use Rattle.rules.specs.Bars
+use Rattle.rules.specs.Choice
 use Rattle.rules.specs.Rules
 use Rattle.rules.specs.Judge
 use Rattle.machine.specs.Store
@@ -24,21 +26,23 @@ use Rattle.safety.specs.Examples
 
 pub examples : _≡_ {A = List ℕ × List Line} (bytesOf (record { version = 1; term = e1 }), lines) (e1Bytes, table)
 unfolding
-    lines table Examples.e1Bytes Examples.checked Examples.unchecked Examples.verdict Examples.ranTo Examples.readings Examples.boxed Examples.e1 Examples.e2 Examples.e3 Examples.e4 Examples.e5 Examples.e6 Examples.e7 Examples.e9 Examples.nine Examples.eight Examples.e11
+    lines table Examples.e1Bytes Examples.checked Examples.unchecked Examples.atZero Examples.verdict Examples.ranTo Examples.readings Examples.boxed Examples.e1 Examples.e2 Examples.e3 Examples.e4 Examples.e5 Examples.e6 Examples.e7 Examples.e9 Examples.nine Examples.eight Examples.e11 Examples.lent Examples.written Examples.away Examples.unlike
     Result._>>=_ Result.need
     Limits.base
     Kinds.byteOf
     Layout.bytesOf Layout.lay Layout.head Layout.wordOf Layout.unused Layout.zeros Layout.others
     Measures.size
     Links.leadingBoxes Links.maxLinks Links.noShared Links.isNumber Links.copies Links.sameLink Links.sameLinks
-    Environment.update Environment.isFree Environment.levelOf Environment.borrowOf Environment.livesAt Environment.leaveSlot Environment.leave
-    Follow.through Follow.followAt Follow.follow Follow.wholeAt Follow.wholeThere Follow.valueWhole
-    Bars.borrowsAny Bars.borrowsExclusive Bars.holding Bars.heldBy Bars.held
-    Rules.inScope Rules.reached Rules.valued Rules.judgePlace Rules.judgeReadable Rules.judgeCopy Rules.judgeMove Rules.judgeShared Rules.judgeExclusive Rules.judgeBox Rules.judgeLet Rules.judgeAssign Rules.judgeNumber Rules.judgeBelow Rules.judgeBlockEnd
+    Places.samePlace Places.before Places.member Places.insert Places.unite Places.every Places.someOf Places.only Places.rooted
+    Environment.borrowEnd Environment.update Environment.write Environment.isFree Environment.levelOf Environment.borrowOf Environment.borrowsAt Environment.livesAt Environment.leaveSlot Environment.leave Environment.holding
+    Follow.past Follow.onward Follow.onMet Follow.meetAll Follow.follow Follow.ownLink Follow.ownPath Follow.wholeSlot Follow.wholeThere Follow.valueWhole
+    Bars.borrowsAny Bars.borrowsExclusive Bars.heldBy Bars.held
+    Choice.carried Choice.earlier Choice.joined Choice.agreeing
+    Rules.inScope Rules.reached Rules.valued Rules.judgePlace Rules.judgeReadable Rules.judgeCopy Rules.judgeMove Rules.judgeShared Rules.judgeExclusive Rules.judgeBox Rules.judgeLet Rules.judgeAssign Rules.judgeNumber Rules.judgeBelow Rules.judgeBlockEnd Rules.judgeChoice
     Judge.judge Judge.judgeScript
     Store.sameLocation Store.put Store.isOpen
     Locate.followed Locate.locateFrom Locate.locate Locate.filled Locate.numberIn
     Drop.giveBack Drop.dropStep Drop.isGivenBack Drop.cellsGivenBack Drop.cellsLeft Drop.dropAlong Drop.dropValue Drop.closeAll
-    Signed.less Signed.compared
+    Signed.held Signed.less Signed.compared Signed.heldSum
     Run.runCopy Run.runMove Run.runBorrow Run.runNumber Run.runPair Run.runBox Run.runLet Run.runAssign Run.runBlockEnd Run.run Run.runScript
 examples = refl

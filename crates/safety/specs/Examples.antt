@@ -1,9 +1,9 @@
--- Scripts E1 to E11, what they come to, and what LANGUAGE 8.4 says they come to.
+-- Scripts E1 to E11 and some with a choice, what they come to, and what LANGUAGE says they come to: 8.4, and 3.31 and 4.23.
 use Prim.Native.Nat.{ℕ, zero, suc}
 use mathlib.Core.List.{List, [], _∷_}
 use Rattle.reader.specs.Result.{Result, ok, err, Refusal}
 use Rattle.reader.specs.Limits.{base}
-use Rattle.reader.specs.Script.{Place, Term, number, reading, copy, move, borrowShared, borrowExclusive, box, declare, assign, below, block, sum, Terms, last, more}
+use Rattle.reader.specs.Script.{Place, Term, number, reading, copy, move, borrowShared, borrowExclusive, box, declare, assign, below, block, choice, sum, Terms, last, more}
 use Rattle.reader.specs.Measures.{size}
 use Rattle.rules.specs.Judge.{judgeScript}
 use Rattle.machine.specs.Values.{closed}
@@ -133,6 +133,49 @@ e11 =
     ⨾ assign 7 (v 2) (block 8 (declare 9 3 (borrowShared 10 (v 1)) ⨾ last (borrowShared 11 (star (v 3)))))
     ⨾ last (copy 12 (star (v 2))))
 
+-- `let v0=reading 0; let v1=1; let v2=2; let v3=choice v0 {&v1} {&v2}; copy *v3`
+unfoldable pub lent : Term
+lent =
+    block 0 (
+    declare 1 0 (reading 2 0)
+    ⨾ declare 3 1 (number 4 1)
+    ⨾ declare 5 2 (number 6 2)
+    ⨾ declare 7 3 (choice 8 (v 0) 9 (last (borrowShared 10 (v 1))) 11 (last (borrowShared 12 (v 2))))
+    ⨾ last (copy 13 (star (v 3))))
+
+-- `let v0=reading 0; let v1=box 1; let v2=box 2; {let v3=&mut *v1; choice v0 {v3=&mut *v2; 0} {0}; *v3=5}; sum *v1, *v2`
+unfoldable pub written : Term
+written =
+    block 0 (
+    declare 1 0 (reading 2 0)
+    ⨾ declare 3 1 (box 4 (number 5 1))
+    ⨾ declare 6 2 (box 7 (number 8 2))
+    ⨾ block 9 (
+    declare 10 3 (borrowExclusive 11 (star (v 1)))
+    ⨾ choice 12 (v 0) 13 (assign 14 (v 3) (borrowExclusive 15 (star (v 2))) ⨾ last (number 16 0)) 17 (last (number 18 0))
+    ⨾ last (assign 19 (star (v 3)) (number 20 5)))
+    ⨾ last (sum 21 (star (v 1)) (star (v 2))))
+
+-- `let v0=reading 0; let v1=box 1; let v2=box 2; let v3=&mut *v1; choice v0 {v3=&mut *v2; move v1; 1} {1}; *v3=5; 1`
+unfoldable pub away : Term
+away =
+    block 0 (
+    declare 1 0 (reading 2 0)
+    ⨾ declare 3 1 (box 4 (number 5 1))
+    ⨾ declare 6 2 (box 7 (number 8 2))
+    ⨾ declare 9 3 (borrowExclusive 10 (star (v 1)))
+    ⨾ choice 11 (v 0) 12 (assign 13 (v 3) (borrowExclusive 14 (star (v 2))) ⨾ move 15 (v 1) ⨾ last (number 16 1)) 17 (last (number 18 1))
+    ⨾ assign 19 (star (v 3)) (number 20 5)
+    ⨾ last (number 21 1))
+
+-- `let v0=reading 0; choice v0 {1} {&v0}; 0`
+unfoldable pub unlike : Term
+unlike =
+    block 0 (
+    declare 1 0 (reading 2 0)
+    ⨾ choice 3 (v 0) 4 (last (number 5 1)) 6 (last (borrowShared 7 (v 0)))
+    ⨾ last (number 8 0))
+
 -- Readings 185 and then 200.
 unfoldable pub readings : ℕ → ℕ
 readings zero = 185
@@ -150,6 +193,10 @@ ranTo t (err f) = faulted (f .number) (f .term)
 unfoldable pub unchecked : Term → Line
 unchecked t = ranTo t (runScript readings t (λ l. closed))
 
+-- The same with every reading 0.
+unfoldable pub atZero : Term → Line
+atZero t = ranTo t (runScript (λ n. 0) t (λ l. closed))
+
 unfoldable pub verdict : Term → Result Refusal (Unit {0}) → Line
 verdict t (ok u) = unchecked t
 verdict t (err e) = refused (e .0) (e .1)
@@ -160,7 +207,8 @@ checked t = verdict t (judgeScript (base .variables) t)
 unfoldable pub lines : List Line
 lines =
     checked e1 ∷ checked e2 ∷ checked e3 ∷ checked e4 ∷ checked e5 ∷ checked e6 ∷ checked e7 ∷ unchecked e3
-    ∷ checked e9 ∷ unchecked e9 ∷ checked nine ∷ checked eight ∷ checked e11 ∷ []
+    ∷ checked e9 ∷ unchecked e9 ∷ checked nine ∷ checked eight ∷ checked e11
+    ∷ checked lent ∷ atZero lent ∷ checked written ∷ atZero written ∷ checked away ∷ checked unlike ∷ []
 
 unfoldable pub table : List Line
 table =
@@ -181,4 +229,13 @@ table =
     ∷ refused 42 2
     ∷ accepted 12 0 8
     ∷ refused 40 8
+    -- A choice whose value is either borrow, with each block run.
+    ∷ accepted 14 1 0
+    ∷ accepted 14 2 0
+    -- A write that may land in either box, with each block run.
+    ∷ accepted 22 6 2
+    ∷ accepted 22 7 2
+    -- The same once one of the boxes may have been moved away; blocks whose values differ.
+    ∷ refused 33 19
+    ∷ refused 39 3
     ∷ []
