@@ -6,7 +6,7 @@ use mathlib.Core.Option.{Option, none, some}
 use mathlib.Core.List.{List, _∷_}
 use Rattle.reader.specs.Result.{ok, _>>=_, need}
 use Rattle.rules.specs.Links.{Link, boxed, leadingBoxes}
-use Rattle.rules.specs.Environment.{Variable, Slot, live, Environment, Ty, fresh}
+use Rattle.rules.specs.Environment.{live, Environment, Ty, fresh}
 use Rattle.rules.specs.Rules.{Out, valued, judgeBox}
 use Rattle.machine.specs.Values.{cell, Value, owner, closed, openWith}
 use Rattle.machine.specs.Store.{Store, put, State}

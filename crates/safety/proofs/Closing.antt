@@ -4,7 +4,7 @@ use mathlib.Core.Path.{_≡_, refl, sym, ap, _∙_, subst, fun-ext}
 use mathlib.Core.Logic.{_≢_, _⊎_, inl, inr}
 use mathlib.Core.List.{List, [], _∷_}
 use Rattle.reader.specs.Result.{ok}
-use Rattle.rules.specs.Environment.{Variable, Slot, live}
+use Rattle.rules.specs.Environment.{}
 use Rattle.machine.specs.Values.{Location, variable, Value, Row, closed, openWith}
 use Rattle.machine.specs.Store.{Store, put, valueIn, State, withStore, Ran}
 use Rattle.machine.specs.Drop.{dropValue, closeAll}

@@ -3,7 +3,7 @@ use Prim.Native.Nat.{ℕ, _<_}
 use native.Mathlib.Omega.{arith}
 use mathlib.Core.Path.{_≡_, refl, ap}
 use mathlib.Core.Option.{Option, some}
-use Rattle.rules.specs.Environment.{Borrow, noBorrow, sharedOf, exclusiveOf, Variable, live, Environment, Ty, fresh}
+use Rattle.rules.specs.Environment.{live, Environment, Ty, fresh}
 use Rattle.machine.specs.Values.{Location, Value, num, reference}
 use Rattle.machine.specs.Store.{State}
 use Rattle.safety.proofs.Memory.{Name, inFlight, has}

@@ -6,7 +6,7 @@ use mathlib.Core.Bool.{true}
 use mathlib.Core.Option.{none, some}
 use Rattle.reader.specs.Script.{Place}
 use Rattle.rules.specs.Links.{leadingBoxes}
-use Rattle.rules.specs.Environment.{Borrow, noBorrow, Variable, Slot, live, Environment, Ty, fresh}
+use Rattle.rules.specs.Environment.{Environment, Ty}
 use Rattle.rules.specs.Rules.{numberTy}
 use Rattle.machine.specs.Values.{Value, empty, num, closed, openWith}
 use Rattle.machine.specs.Store.{State}

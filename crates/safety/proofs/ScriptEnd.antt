@@ -6,7 +6,7 @@ use mathlib.Core.Logic.{_≢_}
 use mathlib.Core.Option.{some}
 use mathlib.Core.List.{List, []}
 use Rattle.rules.specs.Links.{Link, leadingBoxes}
-use Rattle.rules.specs.Environment.{noBorrow, Variable, live, Environment, Ty}
+use Rattle.rules.specs.Environment.{Variable, live, Environment, Ty}
 use Rattle.machine.specs.Values.{variable, cell, Value, num, Row, closed, givenBack, openWith}
 use Rattle.machine.specs.Store.{State}
 use Rattle.safety.proofs.Memory.{Name, inFlight, inDrop, var, Spot, inCell, noRow, has, nameDec, var≢flight, top≢cell, has≢noRow}
