@@ -1,5 +1,5 @@
 -- The judge at a row: the rules' judge at the tree that stands there, and the row after it. No rule of the language is stated here.
-use Prim.Native.Nat.{ℕ, zero, suc, _+_, _*_, _≤_, _<_}
+use Prim.Native.Nat.{ℕ, zero, suc, _+_, _-_, _*_, _≤_, _<_}
 use mathlib.Core.Path.{_≡_}
 use mathlib.Core.Bool.{true}
 use mathlib.Core.Option.{Option, none, some}
@@ -8,14 +8,19 @@ use lib.Dec.{eqb}
 use lib.ListN.{length}
 use Rattle.reader.specs.Result.{ok, err, pick, _>>=_}
 use Rattle.reader.specs.Script.{Place, Term, Terms}
-use Rattle.reader.specs.Kinds.{Kind, kNumber, kReading, kCopy, kMove, kShared, kExclusive, kBox, kLet, kAssign, kBelow, kBlock, kSum, wrapsOf}
+use Rattle.reader.specs.Kinds.{Kind, kNumber, kReading, kCopy, kMove, kShared, kExclusive, kBox, kLet, kAssign, kBelow, kBlock, kChoice, kSum, wrapsOf}
 use Rattle.reader.specs.RowParts.{fieldAt}
-use Rattle.reader.specs.RowTrees.{placeAt, RowTree, severalAt}
+use Rattle.reader.specs.RowTrees.{placeAt, RowTree, severalAt, blockAt, thenBlock, treeAt}
 use Rattle.rules.specs.declared.table.Place as table
 use Rattle.rules.specs.declared.verdicts.Value.{Value}
-use Rattle.rules.specs.Environment.{Environment}
-use Rattle.rules.specs.Rules.{Judged, Out, numberTy, judgeCopy, judgeMove, judgeShared, judgeExclusive, judgeBox, judgeLet, judgeAssign, judgeBelow}
+use Rattle.rules.specs.declared.verdicts.Verdict.the-variants as verdict
+use Rattle.rules.specs.Environment.{used, Environment, Ty}
+use Rattle.rules.specs.Choice.{carried}
+use Rattle.rules.specs.Rules.{Judged, Out, numberTy, judgeCopy, judgeMove, judgeShared, judgeExclusive, judgeBox, judgeLet, judgeAssign, judgeBelow, judgeChoice}
 use Rattle.rules.specs.Judge.{judge, judges, judgeScript}
+use Rattle.rules.specs.Neat.{Neat, NeatValue}
+use Rattle.rules.specs.Met.{judgeBranch}
+use Rattle.rules.specs.Table.{environmentOf}
 use Rattle.rules.specs.Verdicts.{beginLet, asValue, answered}
 use Rattle.ownership.specs.declared.judge.JudgedTerm.{JudgedTerm}
 
@@ -30,8 +35,8 @@ abbrev pub atRow : ℕ → Judged Out → Ended
 atRow j r = r >>= λ o. ok (o, j)
 
 -- The code's answer. A refusal has no row after it.
-unfoldable pub ended : Environment → JudgedTerm → Ended
-ended Γ r = atRow (r .next) (answered Γ (r .verdict))
+unfoldable pub ended : List ℕ → JudgedTerm → Ended
+ended env r = atRow (r .next) (answered env (r .verdict))
 
 -- Where no tree stands the answer does not matter: the code asks that one does.
 unfoldable pub judgedAt : {A : Type 0} → (A → Judged Out) → RowTree A → Ended
@@ -64,15 +69,33 @@ ruleAfter nv level rows i o =
 abbrev pub afterAt : ℕ → ℕ → List ℕ → ℕ → Ended → Ended
 afterAt nv level rows i inner = inner >>= λ o. atRow (o .1) (ruleAfter nv level rows i (o .0))
 
+-- What is asked of the table after the inner term: its state and the value are neat, and the number of a let is taken.
+pub record AfterReady (nv level : ℕ) (rows : List ℕ) (i : ℕ) (env : List ℕ) (inner : JudgedTerm) : Type 0 where
+  pub neat : (v : Value) → inner .verdict ≡ verdict.Fine v → Neat nv (environmentOf env) level
+  pub value : (v : Value) → inner .verdict ≡ verdict.Fine v → NeatValue (environmentOf env) level (asValue env v)
+  pub taken : (v : Value) → inner .verdict ≡ verdict.Fine v → fieldAt rows i 0 ≡ 8 → environmentOf env (fieldAt rows i 1) ≡ used
+
 -- What follows the innermost term, of n around it from row i on.
 unfoldable pub outwards : ℕ → ℕ → List ℕ → ℕ → ℕ → Ended → Ended
 outwards nv level rows i zero inner = inner
 outwards nv level rows i (suc n) inner = outwards nv level rows i n (afterAt nv level rows (i + n) inner)
 
 -- What is left of a block: n terms from row i on, after one with this value.
-unfoldable pub restAt : ℕ → (ℕ → RowTree Term) → ℕ → ℕ → ℕ → Value → Environment → Ended
-restAt nv term level zero i value Γ = ok ((Γ, asValue value), i)
-restAt nv term level (suc n) i value Γ = judgesAt nv (severalAt term n i) level Γ
+unfoldable pub restAt : ℕ → (ℕ → RowTree Term) → ℕ → ℕ → ℕ → Option Ty → Environment → Ended
+restAt nv term level zero i o Γ = ok ((Γ, o), i)
+restAt nv term level (suc n) i o Γ = judgesAt nv (severalAt term n i) level Γ
+
+-- The two blocks of a choice, once its place is judged (LANGUAGE 3.31), and what is known after either.
+unfoldable pub judgeBranches : ℕ → ℕ → Environment → ℕ → (ℕ × Terms) × (ℕ × Terms) → Judged Out
+judgeBranches nv level Γ i b =
+    judgeBranch nv (b .0 .1) (b .0 .0) level Γ >>= λ one.
+    judgeBranch nv (b .1 .1) (b .1 .0) level (carried Γ (one .0)) >>= λ other.
+    judgeChoice nv Γ i one other
+
+-- Those of the choice at row i, which has so many levels left.
+abbrev pub branchesAt : ℕ → ℕ → List ℕ → ℕ → ℕ → Environment → Ended
+branchesAt nv levels rows i level Γ =
+    judgedAt (judgeBranches nv level Γ i) (thenBlock (blockAt (treeAt nv (levels - 1) rows) rows (i + 1)) (blockAt (treeAt nv (levels - 1) rows) rows))
 
 -- A term with no inner term, by its kind.
 unfoldable pub judgeLeaf : ℕ → Option Kind → ℕ → Place → Place → Environment → Judged Out
@@ -88,6 +111,7 @@ judgeLeaf nv (some kLet) i p q Γ = ok (Γ, some numberTy)
 judgeLeaf nv (some kAssign) i p q Γ = ok (Γ, some numberTy)
 judgeLeaf nv (some kBelow) i p q Γ = judgeBelow nv Γ i p q
 judgeLeaf nv (some kBlock) i p q Γ = ok (Γ, some numberTy)
+judgeLeaf nv (some kChoice) i p q Γ = ok (Γ, some numberTy)
 judgeLeaf nv (some kSum) i p q Γ = judgeBelow nv Γ i p q
 
 unfoldable pub scriptAt : ℕ → RowTree Term → Judged (Unit {0})

@@ -2,35 +2,45 @@
 // down; after a refusal it is not looked at again.
 ghost use mathlib.Core.Path.{_≡_};
 ghost use mathlib.Core.Bool.{false};
-ghost use Prim.Native.Nat.{_<_, _+_};
+ghost use mathlib.Core.Option.{none};
+ghost use Prim.Native.Nat.{suc, _<_, _≤_, _+_, _*_};
+ghost use lib.ListN.{length};
 ghost use Rattle.reader.specs.Kinds.{newest, kindOf, wrapsOf};
 ghost use Rattle.reader.specs.RowParts.{fieldAt};
 ghost use Rattle.reader.specs.RowTrees.{IsTree, IsRest, treeAt};
 ghost use Rattle.rules.specs.Judge.{nothingTaken};
-ghost use Rattle.rules.specs.Table.{TableFor, environmentOf, asPlace};
-ghost use Rattle.rules.specs.Verdicts.{asRequirement, begun, answered};
-ghost use Rattle.ownership.specs.JudgeRows.{judgeLeaf, ended, judgeAt, Wraps, beginAt, afterAt, restAt, scriptAt};
+ghost use Rattle.rules.specs.Neat.{Neat};
+ghost use Rattle.rules.specs.Table.{TableFor, environmentOf, noteAt, asPlace};
+ghost use Rattle.rules.specs.Verdicts.{NeatTable, asRequirement, begun, answered};
+ghost use Rattle.ownership.specs.JudgeRows.{judgeLeaf, ended, judgeAt, Wraps, beginAt, AfterReady, afterAt, restAt, branchesAt, scriptAt};
 use crate::row::place_at;
 use reader::fields::field_at;
 use reader::fields::index_at;
 use reader::kinds;
 use reader::kinds::wraps;
+use rules::KEPT;
 use rules::Place;
 use rules::Requirement;
 use rules::Value;
 use rules::Verdict;
 use rules::begin_let;
+use rules::exchange;
+use rules::join;
 use rules::judge_answer;
 use rules::judge_assign;
 use rules::judge_below;
 use rules::judge_block_end;
 use rules::judge_box;
 use rules::judge_copy;
+use rules::judge_either;
 use rules::judge_exclusive;
 use rules::judge_let;
 use rules::judge_move;
+use rules::judge_number;
 use rules::judge_shared;
+use rules::keep;
 use rules::number_value;
+use rules::numbers_taken;
 
 // The verdict, and the row after the term. After a refusal `next` says nothing.
 pub struct JudgedTerm {
@@ -38,17 +48,23 @@ pub struct JudgedTerm {
     pub verdict: Verdict,
 }
 
+// How many numbers' state a choice keeps in the smaller of two places, and in the larger, for the most variables that a
+// set may have (LANGUAGE 2.8).
+const FEW: usize = 16;
+
+const MANY: usize = 128;
+
 // The terms that have no inner term: the rule of each kind (LANGUAGE 3.18 to 3.22, 3.27).
 fn judge_leaf(
-    env: &mut [u32],
+    env: &mut [u64],
     variables: usize,
     i: usize,
     kind: u32,
     first: Place,
     second: Place,
 ) -> Verdict
-    requires { ⌜ TableFor (now env) variables ⌝ }
-    ensures { λ r. ⌜ (answered (environmentOf (now (env .exit))) r ≡ judgeLeaf variables (kindOf newest kind) i (asPlace first) (asPlace second) (environmentOf (now (env .entry)))) × TableFor (now (env .exit)) variables ⌝ }
+    requires { ⌜ NeatTable (now env) variables ⌝ }
+    ensures { λ r. ⌜ (answered (now (env .exit)) r ≡ judgeLeaf variables (kindOf newest kind) i (asPlace first) (asPlace second) (environmentOf (now (env .entry)))) × TableFor (now (env .exit)) variables ⌝ }
 {
     match kind {
         kinds::COPY => judge_copy(env, variables, i, first),
@@ -62,7 +78,7 @@ fn judge_leaf(
 
 // What comes before the inner term of a box, let or assign, which is in the next row: a let takes its number
 // (LANGUAGE 3.24).
-fn judge_before(rows: &[u32], i: usize, env: &mut [u32], variables: usize) -> Requirement
+fn judge_before(rows: &[u32], i: usize, env: &mut [u64], variables: usize) -> Requirement
     requires { ⌜ Wraps variables (now rows) i × TableFor (now env) variables ⌝ }
     ensures { λ r. ⌜ (begun (environmentOf (now (env .exit))) r ≡ beginAt (now (rows .entry)) i (environmentOf (now (env .entry)))) × TableFor (now (env .exit)) variables ⌝ }
 {
@@ -78,13 +94,13 @@ fn judge_before(rows: &[u32], i: usize, env: &mut [u32], variables: usize) -> Re
 fn judge_after(
     rows: &[u32],
     i: usize,
-    env: &mut [u32],
+    env: &mut [u64],
     variables: usize,
-    level: u32,
+    level: u64,
     inner: JudgedTerm,
 ) -> JudgedTerm
-    requires { ⌜ Wraps variables (now rows) i × TableFor (now env) variables ⌝ }
-    ensures { λ r. ⌜ (ended (environmentOf (now (env .exit))) r ≡ afterAt variables level (now (rows .entry)) i (ended (environmentOf (now (env .entry))) inner)) × TableFor (now (env .exit)) variables ⌝ }
+    requires { ⌜ Wraps variables (now rows) i × TableFor (now env) variables × AfterReady variables level (now rows) i (now env) inner ⌝ }
+    ensures { λ r. ⌜ (ended (now (env .exit)) r ≡ afterAt variables level (now (rows .entry)) i (ended (now (env .entry)) inner)) × TableFor (now (env .exit)) variables ⌝ }
 {
     let verdict = inner.verdict;
     let Verdict::Fine(value) = verdict else {
@@ -113,36 +129,133 @@ fn judge_after(
     }
 }
 
-// The term at row i, which has no inner term or is a block: its terms, then its end (LANGUAGE 3.28).
+// The block at row i: its terms, then its end (LANGUAGE 3.28). `level` is that of the block around it.
+fn judge_block(
+    rows: &[u32],
+    i: usize,
+    levels: usize,
+    env: &mut [u64],
+    variables: usize,
+    level: u64,
+) -> JudgedTerm
+    requires { ⌜ IsTree (treeAt variables levels (now rows) i) × (fieldAt (now rows) i 0 ≡ 11) × TableFor (now env) variables × Neat variables (environmentOf (now env)) level × (level + levels < 4294967296) ⌝ }
+    ensures { λ r. ⌜ (ended (now (env .exit)) r ≡ judgeAt variables (treeAt variables levels (now (rows .entry)) i) level (environmentOf (now (env .entry)))) × TableFor (now (env .exit)) variables ⌝ }
+{
+    let count = index_at(rows, i, 1);
+    let inner = judge_terms(rows, i + 1, count, levels - 1, env, variables, level + 1);
+    let verdict = inner.verdict;
+    let Verdict::Fine(value) = verdict else {
+        return inner;
+    };
+    JudgedTerm {
+        next: inner.next,
+        verdict: judge_block_end(env, variables, level, i, value),
+    }
+}
+
+// The two blocks of the choice at row i, one after the other, and what is known after either (LANGUAGE 3.31). The state of
+// the first count numbers, all that are taken, is kept meanwhile.
+fn judge_branches(
+    rows: &[u32],
+    i: usize,
+    levels: usize,
+    env: &mut [u64],
+    variables: usize,
+    level: u64,
+    kept: &mut [u64],
+    count: usize,
+) -> JudgedTerm
+    requires { ⌜ IsTree (treeAt variables levels (now rows) i) × (fieldAt (now rows) i 0 ≡ 12) × TableFor (now env) variables × Neat variables (environmentOf (now env)) level × (level + levels < 4294967296) × (count ≡ noteAt (now env) (suc variables)) × (count * 3 ≤ length (now kept)) ⌝ }
+    ensures { λ r. ⌜ (ended (now (env .exit)) r ≡ branchesAt variables levels (now (rows .entry)) i level (environmentOf (now (env .entry)))) × TableFor (now (env .exit)) variables ⌝ }
+{
+    keep(env, variables, kept, count);
+    let first = judge_block(rows, i + 1, levels - 1, env, variables, level);
+    let verdict = first.verdict;
+    let Verdict::Fine(value) = verdict else {
+        return first;
+    };
+    exchange(env, variables, kept, count);
+    let second = judge_block(rows, first.next, levels - 1, env, variables, level);
+    let other_verdict = second.verdict;
+    let Verdict::Fine(other_value) = other_verdict else {
+        return second;
+    };
+    join(env, variables, kept, count);
+    JudgedTerm {
+        next: second.next,
+        verdict: judge_either(i, value, other_value),
+    }
+}
+
+// The same with room for as many numbers as FEW.
+fn judge_few(
+    rows: &[u32],
+    i: usize,
+    levels: usize,
+    env: &mut [u64],
+    variables: usize,
+    level: u64,
+    count: usize,
+) -> JudgedTerm
+    requires { ⌜ IsTree (treeAt variables levels (now rows) i) × (fieldAt (now rows) i 0 ≡ 12) × TableFor (now env) variables × Neat variables (environmentOf (now env)) level × (level + levels < 4294967296) × (count ≡ noteAt (now env) (suc variables)) × (count ≤ 16) ⌝ }
+    ensures { λ r. ⌜ (ended (now (env .exit)) r ≡ branchesAt variables levels (now (rows .entry)) i level (environmentOf (now (env .entry)))) × TableFor (now (env .exit)) variables ⌝ }
+{
+    let mut kept: [u64; FEW * KEPT] = [0; FEW * KEPT];
+    judge_branches(rows, i, levels, env, variables, level, &mut kept, count)
+}
+
+// The same with room for all numbers of the largest set (LANGUAGE 2.8).
+fn judge_many(
+    rows: &[u32],
+    i: usize,
+    levels: usize,
+    env: &mut [u64],
+    variables: usize,
+    level: u64,
+    count: usize,
+) -> JudgedTerm
+    requires { ⌜ IsTree (treeAt variables levels (now rows) i) × (fieldAt (now rows) i 0 ≡ 12) × TableFor (now env) variables × Neat variables (environmentOf (now env)) level × (level + levels < 4294967296) × (count ≡ noteAt (now env) (suc variables)) ⌝ }
+    ensures { λ r. ⌜ (ended (now (env .exit)) r ≡ branchesAt variables levels (now (rows .entry)) i level (environmentOf (now (env .entry)))) × TableFor (now (env .exit)) variables ⌝ }
+{
+    let mut kept: [u64; MANY * KEPT] = [0; MANY * KEPT];
+    judge_branches(rows, i, levels, env, variables, level, &mut kept, count)
+}
+
+// The term at row i, which has no one inner term: a block, a choice, whose place is a number before its blocks are judged
+// (LANGUAGE 3.31), or a term with no inner term.
 fn judge_inmost(
     rows: &[u32],
     i: usize,
     levels: usize,
-    env: &mut [u32],
+    env: &mut [u64],
     variables: usize,
-    level: u32,
+    level: u64,
 ) -> JudgedTerm
-    requires { ⌜ IsTree (treeAt variables levels (now rows) i) × (wrapsOf (fieldAt (now rows) i 0) ≡ false) × TableFor (now env) variables × (level + levels < 4294967296) ⌝ }
-    ensures { λ r. ⌜ (ended (environmentOf (now (env .exit))) r ≡ judgeAt variables (treeAt variables levels (now (rows .entry)) i) level (environmentOf (now (env .entry)))) × TableFor (now (env .exit)) variables ⌝ }
+    requires { ⌜ IsTree (treeAt variables levels (now rows) i) × (wrapsOf (fieldAt (now rows) i 0) ≡ false) × TableFor (now env) variables × Neat variables (environmentOf (now env)) level × (level + levels < 4294967296) ⌝ }
+    ensures { λ r. ⌜ (ended (now (env .exit)) r ≡ judgeAt variables (treeAt variables levels (now (rows .entry)) i) level (environmentOf (now (env .entry)))) × TableFor (now (env .exit)) variables ⌝ }
 {
-    let next = i + 1;
     let kind = field_at(rows, i, 0);
     if kind == kinds::BLOCK {
-        let count = index_at(rows, i, 1);
-        let inner = judge_block(rows, next, count, levels - 1, env, variables, level + 1);
-        let verdict = inner.verdict;
-        let Verdict::Fine(value) = verdict else {
-            return inner;
-        };
-        return JudgedTerm {
-            next: inner.next,
-            verdict: judge_block_end(env, variables, level, i, value),
-        };
+        return judge_block(rows, i, levels, env, variables, level);
     }
     let first = place_at(rows, i, 1);
+    if kind == kinds::CHOICE {
+        let number = judge_number(env, variables, i, first);
+        if let Requirement::Refused(refusal, term) = number {
+            return JudgedTerm {
+                next: i,
+                verdict: Verdict::Refused(refusal, term),
+            };
+        }
+        let count = numbers_taken(env, variables);
+        if count <= FEW {
+            return judge_few(rows, i, levels, env, variables, level, count);
+        }
+        return judge_many(rows, i, levels, env, variables, level, count);
+    }
     let second = place_at(rows, i, 3);
     JudgedTerm {
-        next: next,
+        next: i + 1,
         verdict: judge_leaf(env, variables, i, kind, first, second),
     }
 }
@@ -154,12 +267,12 @@ fn judge_term(
     rows: &[u32],
     i: usize,
     levels: usize,
-    env: &mut [u32],
+    env: &mut [u64],
     variables: usize,
-    level: u32,
+    level: u64,
 ) -> JudgedTerm
-    requires { ⌜ IsTree (treeAt variables levels (now rows) i) × TableFor (now env) variables × (level + levels < 4294967296) ⌝ }
-    ensures { λ r. ⌜ (ended (environmentOf (now (env .exit))) r ≡ judgeAt variables (treeAt variables levels (now (rows .entry)) i) level (environmentOf (now (env .entry)))) × TableFor (now (env .exit)) variables ⌝ }
+    requires { ⌜ IsTree (treeAt variables levels (now rows) i) × TableFor (now env) variables × Neat variables (environmentOf (now env)) level × (level + levels < 4294967296) ⌝ }
+    ensures { λ r. ⌜ (ended (now (env .exit)) r ≡ judgeAt variables (treeAt variables levels (now (rows .entry)) i) level (environmentOf (now (env .entry)))) × TableFor (now (env .exit)) variables ⌝ }
 {
     let mut around: usize = 0;
     while wraps(field_at(rows, i + around, 0)) {
@@ -181,17 +294,17 @@ fn judge_term(
 }
 
 // A block's terms in order (LANGUAGE 3.28), count of them from row i on: the value of the last (3.4).
-fn judge_block(
+fn judge_terms(
     rows: &[u32],
     i: usize,
     count: usize,
     levels: usize,
-    env: &mut [u32],
+    env: &mut [u64],
     variables: usize,
-    level: u32,
+    level: u64,
 ) -> JudgedTerm
-    requires { ⌜ IsRest (treeAt variables levels (now rows)) count i × TableFor (now env) variables × (level + levels < 4294967296) ⌝ }
-    ensures { λ r. ⌜ (ended (environmentOf (now (env .exit))) r ≡ restAt variables (treeAt variables levels (now (rows .entry))) level count i Value.None (environmentOf (now (env .entry)))) × TableFor (now (env .exit)) variables ⌝ }
+    requires { ⌜ IsRest (treeAt variables levels (now rows)) count i × TableFor (now env) variables × Neat variables (environmentOf (now env)) level × (level + levels < 4294967296) ⌝ }
+    ensures { λ r. ⌜ (ended (now (env .exit)) r ≡ restAt variables (treeAt variables levels (now (rows .entry))) level count i none (environmentOf (now (env .entry)))) × TableFor (now (env .exit)) variables ⌝ }
 {
     let mut judged = JudgedTerm {
         next: i,
@@ -210,11 +323,11 @@ fn judge_block(
 }
 
 // The script (LANGUAGE 3.29), with no number taken before it (3.1).
-pub fn judge_script(rows: &[u32], levels: usize, env: &mut [u32], variables: usize) -> Requirement
+pub fn judge_script(rows: &[u32], levels: usize, env: &mut [u64], variables: usize) -> Requirement
     requires { ⌜ IsTree (treeAt variables levels (now rows) 0) × TableFor (now env) variables × (environmentOf (now env) ≡ nothingTaken variables) × (levels < 4294967296) ⌝ }
     ensures { λ r. ⌜ asRequirement r ≡ scriptAt variables (treeAt variables levels (now (rows .entry)) 0) ⌝ }
 {
-    let judged = judge_block(rows, 0, 1, levels, env, variables, 0);
+    let judged = judge_terms(rows, 0, 1, levels, env, variables, 0);
     let verdict = judged.verdict;
     match verdict {
         Verdict::Refused(number, term) => Requirement::Refused(number, term),

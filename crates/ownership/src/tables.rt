@@ -28,7 +28,7 @@ fn judge_few(rows: &[u32], levels: usize, variables: usize) -> Requirement
     requires { ⌜ IsTree (treeAt variables levels (now rows) 0) × (variables ≤ 64) × (levels < 4294967296) ⌝ }
     ensures { λ r. ⌜ asRequirement r ≡ scriptAt variables (treeAt variables levels (now (rows .entry)) 0) ⌝ }
 {
-    let mut env: [u32; SMALLER] = [0; SMALLER];
+    let mut env: [u64; SMALLER] = [0; SMALLER];
     let words = variables * ENTRY + NOTES;
     judge_script(rows, levels, &mut env[..words], variables)
 }
@@ -38,7 +38,7 @@ fn judge_many(rows: &[u32], levels: usize, variables: usize) -> Requirement
     requires { ⌜ IsTree (treeAt variables levels (now rows) 0) × (variables ≤ 128) × (levels < 4294967296) ⌝ }
     ensures { λ r. ⌜ asRequirement r ≡ scriptAt variables (treeAt variables levels (now (rows .entry)) 0) ⌝ }
 {
-    let mut env: [u32; LARGER] = [0; LARGER];
+    let mut env: [u64; LARGER] = [0; LARGER];
     let words = variables * ENTRY + NOTES;
     judge_script(rows, levels, &mut env[..words], variables)
 }
