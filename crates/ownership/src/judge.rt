@@ -188,7 +188,7 @@ fn judge_branches(
 }
 
 // The same with room for as many numbers as FEW.
-fn judge_few(
+fn judge_few_kept(
     rows: &[u32],
     i: usize,
     levels: usize,
@@ -205,7 +205,7 @@ fn judge_few(
 }
 
 // The same with room for all numbers of the largest set (LANGUAGE 2.8).
-fn judge_many(
+fn judge_many_kept(
     rows: &[u32],
     i: usize,
     levels: usize,
@@ -249,9 +249,9 @@ fn judge_inmost(
         }
         let count = numbers_taken(env, variables);
         if count <= FEW {
-            return judge_few(rows, i, levels, env, variables, level, count);
+            return judge_few_kept(rows, i, levels, env, variables, level, count);
         }
-        return judge_many(rows, i, levels, env, variables, level, count);
+        return judge_many_kept(rows, i, levels, env, variables, level, count);
     }
     let second = place_at(rows, i, 3);
     JudgedTerm {
