@@ -96,7 +96,7 @@ fn refusals_by_the_rows() {
         assert_rows(&[two, copy, copy], 31, 1);
         assert_rows(&[], 12, 0);
         assert_rows(&[two, copy], 12, 2);
-        for unknown in [12, 14, 255, 259, u32::MAX] {
+        for unknown in [14, 255, 259, u32::MAX] {
             assert_rows(&[two, copy, row(unknown, 0, 0)], 13, 2);
         }
         assert_rows(&[two, copy, row(3, limits.variables, 0)], 14, 2);

@@ -161,7 +161,7 @@ fn mark_and_version() {
 
 #[test]
 fn unknown_kinds_come_before_no_block() {
-    for kind in (0x0E..=0xFF).chain([0x00, 0x0C]) {
+    for kind in (0x0E..=0xFF).chain([0x00]) {
         assert_eq!(read_body(&[kind]), refused(13, 5));
         assert_eq!(read_body(&[0x0B, 2, 2, 0, kind]), refused(13, 9));
     }
@@ -210,7 +210,7 @@ fn sixteen_levels_and_no_more() {
     let full = [0x0B, 1].repeat(16);
     assert_eq!(read_body(&full), refused(12, 37));
     assert_eq!(read_body(&[&full[..], &[0x02]].concat()), refused(15, 37));
-    assert_eq!(read_body(&[&full[..], &[0x0C]].concat()), refused(13, 37));
+    assert_eq!(read_body(&[&full[..], &[0x0E]].concat()), refused(13, 37));
     // A let, a box and an assign are levels too.
     let mixed = |inner: &[u8]| {
         let mut body = [0x0B, 1, 0x08, 0, 0x07, 0x09, 0, 0].repeat(3);
@@ -285,12 +285,13 @@ fn rows_of_a_script_are_judged_by_12_to_19() {
         judge(&[[0x0B, 1, 0, 0, 0], [0, 1, 0, 0, 0]]),
         refused(12, 1)
     );
-    assert_eq!(judge(&[[0x0C, 1, 0, 0, 0]]), refused(13, 0));
+    assert_eq!(judge(&[[0x0E, 1, 0, 0, 0]]), refused(13, 0));
     assert_eq!(
         judge(&[[0x0B, 1, 0, 0, 0], [0x10B, 1, 0, 0, 0]]),
         refused(13, 1)
     );
     assert_eq!(judge(&[number]), refused(18, 0));
+    assert_eq!(judge(&[[0x0C, 1, 0, 0, 0]]), refused(18, 0));
     assert_eq!(judge(&[[0x0B, 0, 0, 0, 0]]), refused(14, 0));
     assert_eq!(judge(&[[0x0B, 256, 0, 0, 0]]), refused(14, 0));
     assert_eq!(judge(&[[0x0B, 1, 0, 0, 1]]), refused(14, 0));
@@ -306,7 +307,7 @@ fn rows_of_a_script_are_judged_by_12_to_19() {
 #[test]
 fn each_field_of_each_kind_has_its_range() {
     const ANY: u32 = u32::MAX;
-    let most: [(u32, [u32; 4]); 12] = [
+    let most: [(u32, [u32; 4]); 13] = [
         (1, [ANY, 0, 0, 0]),
         (2, [7, 0, 0, 0]),
         (3, [63, 8, 0, 0]),
@@ -318,6 +319,7 @@ fn each_field_of_each_kind_has_its_range() {
         (9, [63, 8, 0, 0]),
         (10, [63, 8, 63, 8]),
         (11, [255, 0, 0, 0]),
+        (12, [63, 8, 0, 0]),
         (13, [63, 8, 63, 8]),
     ];
     for (kind, most) in &most {

@@ -48,6 +48,7 @@ fn ranges(limits: Limits, version: u32, kind: u32) -> Option<Vec<(u32, u32)>> {
         8 => vec![variable],
         10 => vec![variable, FOLLOWS, variable, FOLLOWS],
         11 => vec![(1, 255)],
+        12 if version == 2 => vec![variable, FOLLOWS],
         13 if version == 2 => vec![variable, FOLLOWS, variable, FOLLOWS],
         _ => return None,
     })
@@ -57,12 +58,13 @@ fn term(
     source: &mut impl Source,
     counts: &mut Counts,
     level: u32,
+    only_a_block: bool,
     terms: &mut Vec<u32>,
 ) -> Result<(), Refused> {
     let kind = source.kind()?;
     let place = source.place();
     let ranges = ranges(counts.limits, counts.version, kind).ok_or((13, place))?;
-    if level == 1 && kind != 11 {
+    if only_a_block && kind != 11 {
         return Err((18, place));
     }
     if counts.terms + 1 > counts.limits.terms {
@@ -84,10 +86,11 @@ fn term(
     let inner = match kind {
         7..=9 => 1,
         11 => operands[0],
+        12 => 2,
         _ => 0,
     };
     for _ in 0..inner {
-        term(source, counts, level + 1, terms)?;
+        term(source, counts, level + 1, kind == 12, terms)?;
     }
     Ok(())
 }
@@ -159,7 +162,7 @@ fn literal_read(
     }
     let mut counts = Counts::new(limits, version);
     let mut terms = Vec::new();
-    term(&mut bytes, &mut counts, 1, &mut terms)?;
+    term(&mut bytes, &mut counts, 1, true, &mut terms)?;
     if bytes.offset < script.len() {
         return Err((19, bytes.offset as u32));
     }
@@ -207,7 +210,7 @@ fn literal_judge(limits: Limits, version: u32, rows: &[u32]) -> Result<u32, Refu
         next: 0,
     };
     let mut counts = Counts::new(limits, version);
-    term(&mut source, &mut counts, 1, &mut Vec::new())?;
+    term(&mut source, &mut counts, 1, true, &mut Vec::new())?;
     for row in counts.terms..limits.terms {
         if source.rows[row as usize].iter().any(|field| *field != 0) {
             return Err((19, row));

@@ -311,8 +311,7 @@ fn rows_need_no_version() {
         let mut store = junk(LIMITS);
         assert_eq!(run(LIMITS, &rows, &READINGS, &mut store), ran(MAX, 0));
     }
-    // A choice is no kind, whatever stands in its fields.
-    for unknown in [12, 14, 0x10D, 0x8000_000D] {
+    for unknown in [14, 0x10D, 0x8000_000D] {
         let mut rows = rows.clone();
         rows[15] = unknown;
         assert_eq!(check(LIMITS, &rows), refused(13, 3));

@@ -127,11 +127,9 @@ fn sums_are_of_version_2() {
     // As the outermost term it is known and no block, or unknown.
     assert_eq!(by_version(&[0x0D]), wrong(18, 5));
     assert_eq!(by_version(&[0x0D, 0, 0, 0, 0]), wrong(18, 5));
-    assert_eq!(by_version(&[0x0C]), [refused(13, 5); 2]);
     assert_eq!(by_version(&[0x0E]), [refused(13, 5); 2]);
     let inner = |bytes: &[u8]| by_version(&around(1, bytes));
     assert_eq!(inner(&[0x0D, 63, 8, 63, 8]), [refused(13, 7), Ok(2)]);
-    assert_eq!(inner(&[0x0C, 63, 8, 63, 8]), [refused(13, 7); 2]);
     assert_eq!(inner(&[0x0E, 63, 8, 63, 8]), [refused(13, 7); 2]);
     let v2 = |bytes: &[u8], number, place| {
         assert_eq!(inner(bytes), [refused(13, 7), refused(number, place)]);
@@ -240,7 +238,7 @@ fn the_writers_order() {
         }
     }
     for version in [1, 2] {
-        let bad = rows(&[[11, 1, 0, 0, 0], [12, 0, 0, 0, 0]]);
+        let bad = rows(&[[11, 1, 0, 0, 0], [14, 0, 0, 0, 0]]);
         assert_eq!(write_with(version, &bad, 0), refused(13, 1));
         assert_eq!(write_with(version, &good, 11), refused(5, 0));
         assert!(write_with(version, &good, 12).is_ok());
@@ -274,7 +272,7 @@ fn the_writer_judges_rows_by_its_version() {
         [refused(13, 2), Ok(12 + 5)]
     );
     assert_eq!(both(&[added]), [refused(13, 0), refused(18, 0)]);
-    for unknown in [12, 14, 0x10D, 0xD00, 0xD00_0000] {
+    for unknown in [14, 0x10C, 0x10D, 0xD00, 0xC00_0000] {
         let row = [unknown, 0, 0, 0, 0];
         assert_eq!(both(&[block(1), row]), [refused(13, 1); 2]);
     }

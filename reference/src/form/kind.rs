@@ -13,6 +13,7 @@ pub const LET: u32 = 0x08;
 pub const ASSIGN: u32 = 0x09;
 pub const BELOW: u32 = 0x0A;
 pub const BLOCK: u32 = 0x0B;
+pub const CHOICE: u32 = 0x0C;
 pub const SUM: u32 = 0x0D;
 
 /// The largest reading index.
@@ -69,11 +70,11 @@ pub(super) static LAYOUTS: [Layout; KINDS] = [
     layout(3, 1),
     layout(5, 0),
     layout(2, 0),
-    layout(0, 0), // no kind
+    layout(3, 2),
     layout(5, 0),
 ];
 
-/// One more than the last kind. 0 and 0C are none.
+/// One more than the last kind. 0 is none.
 const KINDS: usize = SUM as usize + 1;
 
 /// The ranges of one kind's operands.
@@ -109,7 +110,7 @@ const fn ranges(variables: u32) -> Ranges {
         place,
         two_places,
         range(1, [MAX_COUNT, 0, 0, 0]),
-        range(0, [0; 4]), // no kind
+        place,
         two_places,
     ]
 }
@@ -143,6 +144,20 @@ pub(crate) fn inner_terms(row: &super::Row) -> u8 {
     } else {
         LAYOUTS[row[0] as usize].inner
     }
+}
+
+/// Where the term at `at` ends with everything inside it. The rows are those
+/// of a right form.
+#[inline]
+pub(crate) fn end_of(rows: &[super::Row], at: usize) -> usize {
+    let mut end = at;
+    let mut waiting = 1;
+    while waiting > 0 {
+        waiting += inner_terms(&rows[end]) as usize;
+        waiting -= 1;
+        end += 1;
+    }
+    end
 }
 
 /// Whether the operands of a row with a known kind are in range and its

@@ -2,8 +2,9 @@
 //! many there are so far, how many of them are boxes, and which terms around
 //! the next one still wait for inner terms. Reader and row judge share it.
 
-use super::kind;
+use super::kind::{inner_terms, BLOCK, BOX, CHOICE};
 use super::version::Kinds;
+use super::Row;
 use crate::limits::Limits;
 use crate::refusal::{NO_BLOCK, TOO_DEEP, TOO_MANY_BOXES, TOO_MANY_TERMS, UNKNOWN_KIND};
 
@@ -16,6 +17,9 @@ pub(super) struct Outline {
     depth: usize,
     /// For each open term, the inner terms it still waits for.
     left: [u8; Limits::LARGEST.levels as usize],
+    /// A bit for each depth at which nothing but a block may stand: the
+    /// outermost one, and those inside a choice.
+    only_blocks: u64,
 }
 
 impl Outline {
@@ -28,6 +32,7 @@ impl Outline {
             boxes: 0,
             depth: 0,
             left: [0; Limits::LARGEST.levels as usize],
+            only_blocks: 1,
         }
     }
 
@@ -39,7 +44,7 @@ impl Outline {
         if !self.kinds.has(kind) {
             return Err(UNKNOWN_KIND);
         }
-        if self.terms == 0 && kind != kind::BLOCK {
+        if kind != BLOCK && self.only_blocks >> self.depth & 1 == 1 {
             return Err(NO_BLOCK);
         }
         if self.terms == self.limits.terms as usize {
@@ -48,7 +53,7 @@ impl Outline {
         if self.depth == self.limits.levels as usize {
             return Err(TOO_DEEP);
         }
-        if kind == kind::BOX {
+        if kind == BOX {
             if self.boxes == self.limits.boxes {
                 return Err(TOO_MANY_BOXES);
             }
@@ -58,13 +63,17 @@ impl Outline {
         Ok(())
     }
 
-    /// The operands of the last term are through; `inner` terms follow inside
-    /// it. Answers whether the whole script is complete.
+    /// The operands of the last term are through, and its inner terms follow.
+    /// Answers whether the whole script is complete.
     #[inline(always)]
-    pub(super) fn end(&mut self, inner: u8) -> bool {
+    pub(super) fn end(&mut self, row: &Row) -> bool {
+        let inner = inner_terms(row);
         if inner > 0 {
             self.left[self.depth] = inner;
             self.depth += 1;
+            let choice = (row[0] == CHOICE) as u64;
+            self.only_blocks &= !(1 << self.depth);
+            self.only_blocks |= choice << self.depth;
             return false;
         }
         // A term without inner terms completes every term that waited for

@@ -73,7 +73,7 @@ fn terms(limits: Limits, version: u32, script: &[u8], rows: &mut [Row]) -> Resul
         };
         rows[outline.terms - 1] = row;
         offset += LAYOUTS[kind as usize].bytes as usize;
-        if outline.end(inner_terms(&row)) {
+        if outline.end(&row) {
             break;
         }
     }
@@ -118,7 +118,7 @@ fn term(variables: u32, script: &[u8], offset: usize, kind: u32) -> Result<Row, 
         LET => [kind, variable(1)?, 0, 0, 0],
         BELOW | SUM => [kind, variable(1)?, follows(2)?, variable(3)?, follows(4)?],
         BLOCK => [kind, operand(1, 1, MAX_COUNT)?, 0, 0, 0],
-        // Copy, move, both borrows and assign: one place.
+        // Copy, move, both borrows, assign and choice: one place.
         _ => [kind, variable(1)?, follows(2)?, 0, 0],
     })
 }

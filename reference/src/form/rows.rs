@@ -44,7 +44,7 @@ pub(crate) fn judge_all(limits: Limits, version: u32, rows: &[Row]) -> Result<Ju
             return Err(Refusal::new(OPERAND, place));
         }
         bytes += LAYOUTS[row[0] as usize].bytes as usize;
-        if outline.end(inner_terms(row)) {
+        if outline.end(row) {
             break;
         }
     }

@@ -1,6 +1,6 @@
 //! The versions of scripts: which there are, and the kinds that each has.
 
-use super::kind::{BLOCK, SUM};
+use super::kind::{BLOCK, CHOICE, SUM};
 
 /// The newest version there is. The oldest is 1.
 pub const NEWEST: u32 = 2;
@@ -18,11 +18,12 @@ pub(super) struct Kinds(u32);
 
 impl Kinds {
     /// The kinds of a version that there is: those up to the block, from
-    /// version 2 on the sum as well.
+    /// version 2 on the choice and the sum as well.
     #[inline]
     pub(super) fn of(version: u32) -> Self {
         let first = (2 << BLOCK) - 2;
-        Kinds(if version < 2 { first } else { first | 1 << SUM })
+        let second = 1 << CHOICE | 1 << SUM;
+        Kinds(if version < 2 { first } else { first | second })
     }
 
     #[inline(always)]
@@ -40,7 +41,8 @@ mod tests {
         for kind in (0..300).chain([0x1_000D, u32::MAX - 18, u32::MAX]) {
             let first = (1..=11).contains(&kind);
             assert_eq!(Kinds::of(1).has(kind), first, "{kind}");
-            assert_eq!(Kinds::of(2).has(kind), first || kind == 13, "{kind}");
+            let second = [12, 13].contains(&kind);
+            assert_eq!(Kinds::of(2).has(kind), first || second, "{kind}");
         }
     }
 

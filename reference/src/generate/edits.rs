@@ -10,18 +10,19 @@ use crate::random::Random;
 pub(super) fn edit(random: &mut Random, limits: Limits, version: u32, terms: &mut Vec<Row>) {
     let variables = limits.variables;
     let at = random.index(terms.len());
-    match random.below(16) {
+    match random.below(18) {
         0..=5 => change_operand(random, variables, terms, at),
         6..=11 => change_kind(random, version, &mut terms[at..]),
         12 => replace_leaf(random, (variables, version), &mut terms[at]),
         13 => remove_statement(random, terms),
         14 => repeat_statement(random, limits, terms),
+        15 | 16 => swap_branches(terms, at),
         _ => swap_statements(random, terms),
     }
 }
 
 fn has_place(kind: u32) -> bool {
-    matches!(kind, COPY..=EXCLUSIVE | ASSIGN | BELOW | SUM)
+    matches!(kind, COPY..=EXCLUSIVE | ASSIGN | BELOW | CHOICE | SUM)
 }
 
 /// Another variable, mostly one that the script uses, or another number of
@@ -56,9 +57,9 @@ fn change_operand(random: &mut Random, variables: u32, terms: &mut [Row], at: us
 }
 
 /// Another use of the same place or places, for the first term that has any
-/// but does not write there.
+/// but does not write there, nor chooses by it.
 fn change_kind(random: &mut Random, version: u32, terms: &mut [Row]) {
-    let uses_place = |row: &&mut Row| has_place(row[0]) && row[0] != ASSIGN;
+    let uses_place = |row: &&mut Row| has_place(row[0]) && !matches!(row[0], ASSIGN | CHOICE);
     if let Some(row) = terms.iter_mut().find(uses_place) {
         row[0] = match row[0] {
             BELOW | SUM => operands::of_two_places(random, version),
@@ -71,18 +72,6 @@ fn replace_leaf(random: &mut Random, (variables, version): (u32, u32), row: &mut
     if inner_terms(row) == 0 {
         *row = operands::leaf(random, variables, version);
     }
-}
-
-/// Where the term at `at` ends with everything inside it.
-fn end_of(terms: &[Row], at: usize) -> usize {
-    let mut end = at;
-    let mut waiting = 1;
-    while waiting > 0 {
-        waiting += inner_terms(&terms[end]) as usize;
-        waiting -= 1;
-        end += 1;
-    }
-    end
 }
 
 /// A block, and one of the terms directly in it.
@@ -136,4 +125,14 @@ fn swap_statements(random: &mut Random, terms: &mut [Row]) {
         let next = end_of(terms, end);
         terms[at..next].rotate_left(end - at);
     }
+}
+
+/// Exchanges the two blocks of the nearest choice before `at`, if there is one.
+fn swap_branches(terms: &mut [Row], at: usize) {
+    let Some(choice) = (0..=at).rev().find(|at| terms[*at][0] == CHOICE) else {
+        return;
+    };
+    let second = end_of(terms, choice + 1);
+    let end = end_of(terms, second);
+    terms[choice + 1..end].rotate_left(second - choice - 1);
 }

@@ -71,12 +71,18 @@ pub fn block(terms: &[Term]) -> Term {
     [vec![0x0B, terms.len() as u8], terms.concat()].concat()
 }
 
+/// A choice by a place between two blocks of these terms.
+pub fn choice(place: Place, first: &[Term], second: &[Term]) -> Term {
+    let blocks = [block(first), block(second)].concat();
+    [vec![0x0C, place.0, place.1], blocks].concat()
+}
+
 /// A whole script of a version with these terms in its outermost block.
 pub fn script_of(version: u32, terms: &[Term]) -> Vec<u8> {
     [header(version).to_vec(), block(terms)].concat()
 }
 
-/// One of version 1, so without sums.
+/// One of version 1, so without choices and sums.
 pub fn script(terms: &[Term]) -> Vec<u8> {
     script_of(1, terms)
 }
@@ -161,6 +167,49 @@ pub fn tidy_under(limits: Limits, cells: u32) -> Vec<u32> {
     store
 }
 
+/// The rows with a block in place of each choice that runs one of its two
+/// blocks, the first where `first` says so, whatever number is at its place.
+pub fn chosen(rows: &[u32], first: &mut dyn FnMut() -> bool) -> Vec<u32> {
+    let mut out = Vec::new();
+    choose(rows.as_chunks().0, &mut 0, first, &mut out);
+    let mut out = out.concat();
+    assert!(out.len() <= rows.len());
+    out.resize(rows.len(), 0);
+    out
+}
+
+/// Writes the term at `at`, which is moved past it, with everything inside.
+fn choose(
+    rows: &[[u32; 5]],
+    at: &mut usize,
+    first: &mut dyn FnMut() -> bool,
+    out: &mut Vec<[u32; 5]>,
+) {
+    let row = rows[*at];
+    *at += 1;
+    let inner = match row[0] {
+        12 => {
+            let [_, root, follows, ..] = row;
+            // The place is still read.
+            out.extend([[11, 2, 0, 0, 0], [3, root, follows, 0, 0]]);
+            let first_block = first();
+            for block in [true, false] {
+                let mut written = Vec::new();
+                choose(rows, at, first, &mut written);
+                if block == first_block {
+                    out.append(&mut written);
+                }
+            }
+            return;
+        }
+        11 => row[1],
+        7..=9 => 1,
+        _ => 0,
+    };
+    out.push(row);
+    (0..inner).for_each(|_| choose(rows, at, first, out));
+}
+
 /// The levels of the term at `at`, which is moved past it.
 pub fn levels(rows: &[&[u32]], at: &mut usize) -> usize {
     let row = rows[*at];
@@ -168,6 +217,7 @@ pub fn levels(rows: &[&[u32]], at: &mut usize) -> usize {
     let inner = match row[0] {
         11 => row[1],
         7..=9 => 1,
+        12 => 2,
         _ => 0,
     };
     1 + (0..inner).map(|_| levels(rows, at)).max().unwrap_or(0)
