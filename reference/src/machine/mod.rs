@@ -136,6 +136,11 @@ impl Machine<'_> {
                 let value = self.term()?;
                 self.assign(a, b, value)
             }
+            CHOICE => {
+                let number = store.read_number(a, b);
+                let number = number.map_err(|number| Refusal::new(number, term))?;
+                return self.choice(number != 0);
+            }
             _ => return self.block(term, a),
         };
         ran.map_err(|number| Refusal::new(number, term))
@@ -152,6 +157,19 @@ impl Machine<'_> {
         let row = self.store.locate(variable, follows)?;
         self.store.overwrite(row, value)?;
         Ok(Value::NONE)
+    }
+
+    /// Runs the first of the next two blocks, or else the second, and passes
+    /// the other one by.
+    fn choice(&mut self, first: bool) -> Result<Value, Refusal> {
+        if first {
+            let value = self.term()?;
+            self.next = end_of(self.rows, self.next);
+            Ok(value)
+        } else {
+            self.next = end_of(self.rows, self.next);
+            self.term()
+        }
     }
 
     /// Runs a block. Its drops and closings are the block's own acts.
