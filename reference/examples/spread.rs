@@ -25,9 +25,11 @@ fn count(name: &str, limits: Limits, mut next: impl FnMut(&mut Generator) -> Res
 
 type Make = fn(&mut Generator, &mut Vec<u32>);
 
-const KINDS: [(&str, Make); 4] = [
+const KINDS: [(&str, Make); 6] = [
     ("accepted_rows", Generator::accepted_rows),
     ("near_miss_rows", Generator::near_miss_rows),
+    ("joined_rows", Generator::joined_rows),
+    ("near_joined_rows", Generator::near_joined_rows),
     ("wild_rows", Generator::wild_rows),
     ("mixed_rows", Generator::mixed_rows),
 ];

@@ -3,11 +3,12 @@
 //! the rules allow it. A careless author writes some terms all the same.
 
 use super::operands;
-use super::statements::NARROW;
+use super::statements::{Last, NARROW};
 use crate::form::*;
 use crate::limits::Limits;
 use crate::ownership::chain::{Chain, Link};
 use crate::ownership::environment::{Environment, Place, Value};
+use crate::ownership::roots::Roots;
 use crate::random::Random;
 
 /// What an author knows of all variables, under every set.
@@ -51,13 +52,19 @@ pub(super) struct Habits {
     pub(super) boxing: u32,
     /// How often, in a hundred, one that is no box is a block.
     pub(super) nesting: u32,
+    /// How often, in a hundred, a statement is a choice, where the version has
+    /// it; of terms of any kind half as often.
+    pub(super) choosing: u32,
+    /// How often, in a hundred, a statement is one of those that make a
+    /// difference where two blocks are joined.
+    pub(super) joining: u32,
 }
 
 /// What a term gives, or nothing if the author gives the term up. What was
 /// written of it then still stands; the statement around takes it back.
 pub(super) type Written = Option<Value>;
 
-fn row_at(kind: u32, place: Place) -> Row {
+pub(super) fn row_at(kind: u32, place: Place) -> Row {
     [kind, place.root as u32, place.follows as u32, 0, 0]
 }
 
@@ -106,7 +113,7 @@ impl Author<'_> {
     }
 
     /// A place of a given type, each one equally likely.
-    fn place_like(&mut self, chain: Chain) -> Option<Place> {
+    pub(super) fn place_like(&mut self, chain: Chain) -> Option<Place> {
         let mut found = None;
         let mut count = 0;
         for &root in self.environment.variables_in_scope() {
@@ -147,29 +154,33 @@ impl Author<'_> {
     fn value_all_the_same(&self, kind: u32, place: Place) -> Value {
         let chain = self.environment.chain(place.root).after(place.follows);
         let borrow = |link| {
-            let borrowed = |chain| Value {
-                chain,
-                borrowed: place,
-            };
-            chain.behind(link).map(borrowed)
+            let borrowed = Roots::one(place.root);
+            chain.behind(link).map(|chain| Value { chain, borrowed })
         };
         let value = match kind {
             SHARED => borrow(Link::Shared),
             EXCLUSIVE => borrow(Link::Exclusive),
-            _ => self.environment.locate(place).map(|located| Value {
+            _ if chain.is_number() => None,
+            _ => self.environment.locate(place).map(|owners| Value {
                 chain,
-                borrowed: self.environment.borrowed(located.root),
+                borrowed: self.environment.borrowed(owners),
             }),
         };
         value.unwrap_or(Value::NUMBER)
     }
 
     fn number(&mut self) -> Written {
-        let row = match self.random.below(2) {
-            0 => [NUMBER, operands::number(self.random), 0, 0, 0],
-            _ => [READING, self.random.below(MAX_READING + 1), 0, 0, 0],
-        };
-        self.push(row)?;
+        if self.random.percent(50) {
+            return self.reading();
+        }
+        let number = operands::number(self.random);
+        self.push([NUMBER, number, 0, 0, 0])?;
+        Some(Value::NUMBER)
+    }
+
+    pub(super) fn reading(&mut self) -> Written {
+        let index = self.random.below(MAX_READING + 1);
+        self.push([READING, index, 0, 0, 0])?;
         Some(Value::NUMBER)
     }
 
@@ -195,9 +206,12 @@ impl Author<'_> {
         if inner && self.boxes > 0 && self.random.percent(self.habits.boxing) {
             return self.boxed(levels, None);
         }
+        if self.chooses(levels, 2) {
+            return self.choice(levels, Last::Any);
+        }
         let choice = self.random.below(100);
         if inner && choice < self.habits.nesting {
-            return self.block(levels, NARROW.min(self.habits.widest), None);
+            return self.block(levels, NARROW.min(self.habits.widest), Last::Any);
         }
         let kind = match choice {
             0..=21 => return self.number(),
@@ -216,8 +230,12 @@ impl Author<'_> {
     /// A term of a given type.
     pub(super) fn value_like(&mut self, chain: Chain, levels: u32) -> Written {
         let inner = levels > 1 && !self.crowded();
+        if self.chooses(levels, 2) {
+            return self.choice(levels, Last::Like(chain));
+        }
         if inner && self.random.percent(self.habits.nesting + 5) {
-            return self.block(levels, NARROW.min(self.habits.widest), Some(chain));
+            let widest = NARROW.min(self.habits.widest);
+            return self.block(levels, widest, Last::Like(chain));
         }
         if chain.is_number() {
             return match self.random.below(9) {
@@ -237,7 +255,12 @@ impl Author<'_> {
                 None
             };
         }
-        let place = self.place_like(rest)?;
+        self.borrow_like(chain)
+    }
+
+    /// A borrow of a given type.
+    pub(super) fn borrow_like(&mut self, chain: Chain) -> Written {
+        let place = self.place_like(chain.after(1))?;
         let kind = if chain.starts_shared() {
             SHARED
         } else {

@@ -4,6 +4,7 @@
 
 mod author;
 mod bytes;
+mod choices;
 mod edits;
 mod limits;
 mod operands;
@@ -12,12 +13,15 @@ mod plan;
 mod rows;
 mod scripts;
 mod shape;
+mod small;
 mod statements;
 mod versions;
 
 use crate::form::Row;
 use crate::limits::Limits;
 use crate::random::Random;
+
+pub use small::small_choices;
 
 pub struct Generator {
     random: Random,

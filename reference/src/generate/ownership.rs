@@ -2,6 +2,7 @@
 
 use super::author::{Author, Habits, State};
 use super::bytes::write_unjudged;
+use super::choices::OPENING;
 use super::edits;
 use super::operands;
 use super::plan::MIDDLING;
@@ -36,6 +37,24 @@ impl Generator {
     fn author(&mut self, careless: u32) -> u32 {
         let habits = self.habits(careless);
         let version = versions::of_terms(&mut self.random);
+        self.author_with(habits, version);
+        version
+    }
+
+    /// Writes terms of version 2 in which much is joined.
+    fn joining_author(&mut self, careless: u32) {
+        let habits = Habits {
+            statements: OPENING + self.random.between(2, 8),
+            patience: 1_500,
+            nesting: 3,
+            choosing: 15,
+            joining: 75,
+            ..self.habits(careless)
+        };
+        self.author_with(habits, 2);
+    }
+
+    fn author_with(&mut self, habits: Habits, version: u32) {
         Author {
             random: &mut self.random,
             terms: &mut self.terms,
@@ -48,7 +67,6 @@ impl Generator {
             given_up: 0,
         }
         .script(self.limits.levels);
-        version
     }
 
     /// Few statements most often, seldom as many terms as there may be, seldom
@@ -69,6 +87,8 @@ impl Generator {
             careless,
             boxing: random.pick(&[5, 20, 20, 35, 65]),
             nesting: 10,
+            choosing: random.pick(&[0, 5, 10, 20]),
+            joining: 0,
         };
         let often = if terms <= SMALL { 20 } else { 1 };
         match random.below(200) {
@@ -127,23 +147,45 @@ impl Generator {
         flatten(self.limits, &self.terms, out);
     }
 
+    /// Rows of a script that the check accepts, with choices whose blocks
+    /// leave variables behind differently: moved away in one of them, or with
+    /// borrows of other places.
+    pub fn joined_rows(&mut self, out: &mut Vec<u32>) {
+        self.joining_author(0);
+        flatten(self.limits, &self.terms, out);
+    }
+
+    /// Such rows after one or two edits, or written with little care.
+    pub fn near_joined_rows(&mut self, out: &mut Vec<u32>) {
+        let careless = self.random.pick(&[0, 0, 5, 20]);
+        self.joining_author(careless);
+        let times = self.random.between(1, 2);
+        self.edit(2, times);
+        flatten(self.limits, &self.terms, out);
+    }
+
     /// Rows for check and machine: every answer of both occurs.
     pub fn mixed_rows(&mut self, out: &mut Vec<u32>) {
         match self.random.below(100) {
-            0..=29 => self.accepted_rows(out),
-            30..=59 => self.near_miss_rows(out),
-            60..=89 => self.wild_rows(out),
+            0..=24 => self.accepted_rows(out),
+            25..=49 => self.near_miss_rows(out),
+            50..=54 => self.joined_rows(out),
+            55..=64 => self.near_joined_rows(out),
+            65..=89 => self.wild_rows(out),
             90..=94 => self.valid_rows(out),
             _ => self.rows(out),
         }
     }
 
     /// Eight readings, ordinary ones, or often at the ends of their range and
-    /// near them, so that sums of them are held to the ends.
+    /// near them, so that sums of them are held to the ends. Many are 0, so
+    /// that choices by them run either block.
     pub fn readings(&mut self) -> [i32; 8] {
         let random = &mut self.random;
         let ordinary = random.pick(&[1, 5]);
+        let zeros = random.pick(&[10, 30, 60]);
         [(); 8].map(|()| match random.below(ordinary + 2) {
+            _ if random.percent(zeros) => 0,
             0 => random.bits() as i32,
             1 => operands::number(random) as i32,
             _ => random.below(400) as i32,
@@ -154,7 +196,8 @@ impl Generator {
     /// kinds of its terms are those of its version.
     pub fn input(&mut self, out: &mut Vec<u8>) {
         match self.random.below(100) {
-            0..=39 => self.accepted(),
+            0..=29 => self.accepted(),
+            30..=39 => self.joining_author(0),
             40..=69 => self.near_miss(),
             70..=84 => self.wild(),
             _ => self.terms.clear(),

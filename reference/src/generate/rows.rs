@@ -7,7 +7,7 @@ use crate::limits::Limits;
 use crate::random::Random;
 
 impl Generator {
-    /// Rows that the reader could have made, with sums or without.
+    /// Rows that the reader could have made, of either version.
     pub fn valid_rows(&mut self, out: &mut Vec<u32>) {
         self.valid_terms();
         flatten(self.limits, &self.terms, out);
@@ -26,6 +26,10 @@ impl Generator {
             self.rows_beyond(out);
         } else {
             self.valid_rows(out);
+        }
+        if self.random.percent(6) {
+            self.break_branch();
+            flatten(self.limits, &self.terms, out);
         }
         let used = self.terms.len().min(self.limits.terms as usize);
         let variables = self.limits.variables;
@@ -116,7 +120,7 @@ fn replace_row(random: &mut Random, variables: u32, used: usize, out: &mut [u32]
 
 /// A row with its operands in range.
 fn likely_row(random: &mut Random, variables: u32) -> Row {
-    match random.below(8) {
+    match random.below(9) {
         0 => [BOX, 0, 0, 0, 0],
         1 => [LET, operands::variable(random, variables), 0, 0, 0],
         2 => {
@@ -124,6 +128,10 @@ fn likely_row(random: &mut Random, variables: u32) -> Row {
             [ASSIGN, root, follows, 0, 0]
         }
         3 => [BLOCK, random.between(1, 4), 0, 0, 0],
+        4 => {
+            let [root, follows] = operands::place(random, variables);
+            [CHOICE, root, follows, 0, 0]
+        }
         _ => operands::leaf(random, variables, NEWEST),
     }
 }

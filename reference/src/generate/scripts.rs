@@ -7,7 +7,7 @@ use crate::random::Random;
 
 impl Generator {
     /// A script that the reader accepts, with the kinds of its version. Every
-    /// one with a sum is of version 2, the others of either.
+    /// one with a choice or a sum is of version 2, the others of either.
     pub fn valid_script(&mut self, out: &mut Vec<u8>) {
         self.valid_terms();
         let version = self.version_of_terms();
@@ -28,6 +28,9 @@ impl Generator {
             self.terms_beyond();
         } else {
             self.valid_terms();
+        }
+        if self.random.percent(6) {
+            self.break_branch();
         }
         let version = self.any_version();
         write_unjudged(version, &self.terms, out);

@@ -20,6 +20,23 @@ impl Generator {
         self.tree(plan);
     }
 
+    /// Puts another term where a choice has a block, if there is a choice.
+    pub(super) fn break_branch(&mut self) {
+        let random = &mut self.random;
+        let near = random.index(self.terms.len());
+        let choice = self.terms[near..].iter().position(|row| row[0] == CHOICE);
+        let Some(choice) = choice.map(|after| near + after) else {
+            return;
+        };
+        let branch = match random.below(2) {
+            0 => choice + 1,
+            _ => end_of(&self.terms, choice + 1),
+        };
+        let leaf = operands::leaf(random, self.limits.variables, NEWEST);
+        let kind = random.pick(&[BOX, LET, CHOICE]);
+        self.terms[branch] = random.pick(&[leaf, [kind, 0, 0, 0, 0]]);
+    }
+
     /// A tree whose outermost term is a block, mostly with the kinds of version
     /// 2, else with those of version 1.
     fn tree(&mut self, plan: Plan) {
@@ -65,9 +82,34 @@ impl Builder<'_> {
         if budget - 1 <= capacity(levels - 1) && self.random.percent(wrappers) {
             self.wrapper();
             self.term(levels - 1, budget - 1);
+        } else if self.has_choice(levels, budget) {
+            self.choice(levels, budget);
         } else {
             self.block(levels, budget);
         }
+    }
+
+    /// Whether a choice stands where a block could. It needs two blocks and a
+    /// term in each.
+    fn has_choice(&mut self, levels: u32, budget: usize) -> bool {
+        let chance = match self.style {
+            Style::Boxes(_) => 5,
+            _ => 40,
+        };
+        let room = capacity(levels - 1).saturating_mul(2);
+        let possible = self.version > 1 && levels > 2 && budget > 4 && budget - 1 <= room;
+        possible && self.random.percent(chance)
+    }
+
+    fn choice(&mut self, levels: u32, budget: usize) {
+        let [root, follows] = operands::place(self.random, self.variables);
+        self.terms.push([CHOICE, root, follows, 0, 0]);
+        let room = capacity(levels - 1);
+        let inner = budget - 1;
+        let least = inner.saturating_sub(room).max(2);
+        let first = self.share(least, room.min(inner - 2));
+        self.block(levels - 1, first);
+        self.block(levels - 1, inner - first);
     }
 
     /// A box, let or assign, without its inner term.

@@ -44,7 +44,7 @@ impl Generator {
 
     /// A version that has all kinds of the terms.
     pub(super) fn version_of_terms(&mut self) -> u32 {
-        if self.terms.iter().any(|row| row[0] == SUM) {
+        if self.terms.iter().any(|row| matches!(row[0], CHOICE | SUM)) {
             2
         } else {
             self.random.pick(&[1, 2])

@@ -2,6 +2,7 @@
 //! are, what state each is in, and who holds borrows of whom.
 
 use super::chain::Chain;
+use super::roots::Roots;
 
 /// A variable and the links to follow from it.
 #[derive(Clone, Copy, Debug, PartialEq, Eq)]
@@ -10,29 +11,32 @@ pub(crate) struct Place {
     pub(crate) follows: u8,
 }
 
-/// What a term gives. `borrowed` counts only if the chain has a borrow link;
-/// it is then the place that the first such link borrows.
+/// What a term gives. `borrowed` has the roots of the places that the first
+/// borrow link of the chain may stand for, none if there is no such link.
 #[derive(Clone, Copy, Debug)]
 pub(crate) struct Value {
     pub(crate) chain: Chain,
-    pub(crate) borrowed: Place,
+    pub(crate) borrowed: Roots,
 }
-
-const NO_PLACE: Place = Place {
-    root: 0,
-    follows: 0,
-};
 
 impl Value {
     pub(crate) const NUMBER: Value = Value {
         chain: Chain::NUMBER,
-        borrowed: NO_PLACE,
+        borrowed: Roots::NONE,
     };
+
+    /// One of two values of the same type, whichever it is.
+    pub(crate) fn or(self, other: Value) -> Value {
+        Value {
+            chain: self.chain,
+            borrowed: self.borrowed.with(other.borrowed),
+        }
+    }
 }
 
-/// `Variable::moved` of a variable of which nothing is moved away. Larger
+/// `Condition::moved` of a variable of which nothing is moved away. Larger
 /// than every link number.
-const NOTHING: u8 = u8::MAX;
+pub(super) const NOTHING: u8 = u8::MAX;
 
 /// `Variable::level` of a number that no let has taken.
 const FREE: u8 = 0;
@@ -41,11 +45,28 @@ const FREE: u8 = 0;
 /// Larger than every level.
 const TAKEN: u8 = u8::MAX;
 
-#[derive(Clone, Copy)]
-struct Variable {
-    value: Value,
+/// What later terms may change of a variable.
+#[derive(Clone, Copy, Debug, PartialEq, Eq)]
+pub(crate) struct Condition {
     /// From which link on it is moved away.
-    moved: u8,
+    pub(super) moved: u8,
+    /// As in a value.
+    pub(super) borrowed: Roots,
+}
+
+impl Condition {
+    fn whole(borrowed: Roots) -> Self {
+        Condition {
+            moved: NOTHING,
+            borrowed,
+        }
+    }
+}
+
+#[derive(Clone, Copy)]
+pub(super) struct Variable {
+    pub(super) condition: Condition,
+    pub(super) chain: Chain,
     /// The level of the block it lives in, while it is in scope. Of two
     /// variables in scope, one lives in the block of the other or in one
     /// around it exactly if its level is not the higher one.
@@ -59,8 +80,11 @@ struct Variable {
 impl Variable {
     /// Of a number that no let was judged of yet.
     const UNUSED: Variable = Variable {
-        value: Value::NUMBER,
-        moved: 0,
+        condition: Condition {
+            moved: 0,
+            borrowed: Roots::NONE,
+        },
+        chain: Chain::NUMBER,
         level: FREE,
         borrows: 0,
         exclusive_borrows: 0,
@@ -89,7 +113,7 @@ impl<const VARIABLES: usize> Environment<VARIABLES> {
     }
 
     #[inline]
-    fn variable(&self, number: u8) -> &Variable {
+    pub(super) fn variable(&self, number: u8) -> &Variable {
         &self.variables[number as usize]
     }
 
@@ -120,14 +144,16 @@ impl<const VARIABLES: usize> Environment<VARIABLES> {
     /// The link kinds of a variable as its let has fixed them.
     #[inline]
     pub(crate) fn chain(&self, variable: u8) -> Chain {
-        self.variable(variable).value.chain
+        self.variable(variable).chain
     }
 
-    /// The place that a variable's first borrow link borrows. Meaningful for
-    /// variables with such a link only.
+    /// The roots of the places that the first borrow links of these variables
+    /// may stand for.
     #[inline]
-    pub(crate) fn borrowed(&self, variable: u8) -> Place {
-        self.variable(variable).value.borrowed
+    pub(crate) fn borrowed(&self, variables: Roots) -> Roots {
+        variables.fold(Roots::NONE, |borrowed, variable| {
+            borrowed.with(self.variable(variable).condition.borrowed)
+        })
     }
 
     #[inline]
@@ -140,83 +166,56 @@ impl<const VARIABLES: usize> Environment<VARIABLES> {
         self.variable(root).borrows > 0
     }
 
-    /// Where a place with a long enough chain finally is: the variable that
-    /// owns it and the links from that variable, no borrow link among them.
-    /// Nothing if something is moved away on the path.
+    /// Whether each of these roots lives in the block of each of the variables
+    /// or in one around it.
     #[inline]
-    pub(crate) fn locate(&self, place: Place) -> Option<Place> {
-        let mut at = place;
-        loop {
-            let variable = self.variable(at.root);
-            let borrow = variable.value.chain.first_borrow();
-            match borrow.filter(|link| *link < at.follows) {
-                None => return (variable.moved >= at.follows).then_some(at),
-                Some(link) if variable.moved <= link => return None,
-                // Beyond the first borrow link the borrowed place counts.
-                Some(link) => {
-                    let borrowed = variable.value.borrowed;
-                    at = Place {
-                        root: borrowed.root,
-                        follows: borrowed.follows + (at.follows - link - 1),
-                    };
-                }
-            }
-        }
+    pub(crate) fn outlive(&self, mut roots: Roots, variables: Roots) -> bool {
+        roots.all(|root| {
+            let level = self.variable(root).level;
+            let mut variables = variables;
+            variables.all(|variable| level <= self.variable(variable).level)
+        })
     }
 
-    /// Whether nothing is moved away of the value at a located place, nor of
-    /// what it borrows.
+    /// Whether one of these roots lives in the innermost block.
     #[inline]
-    pub(crate) fn is_whole(&self, located: Place) -> bool {
-        let mut at = located;
-        loop {
-            let variable = self.variable(at.root);
-            if variable.moved != NOTHING {
-                return false;
-            }
-            if !variable.value.chain.has_borrow() {
-                return true;
-            }
-            let Some(next) = self.locate(variable.value.borrowed) else {
-                return false;
-            };
-            at = next;
-        }
-    }
-
-    /// Whether the root that a value borrows, if any, lives in the block of a
-    /// variable or in one around it.
-    #[inline]
-    pub(crate) fn outlives(&self, value: Value, variable: u8) -> bool {
-        !value.chain.has_borrow()
-            || self.variable(value.borrowed.root).level <= self.variable(variable).level
-    }
-
-    /// Whether a value borrows a root that lives in the innermost block.
-    #[inline]
-    pub(crate) fn borrows_innermost(&self, value: Value) -> bool {
-        value.chain.has_borrow() && self.variable(value.borrowed.root).level == self.level
+    pub(crate) fn live_innermost(&self, mut roots: Roots) -> bool {
+        roots.any(|root| self.variable(root).level == self.level)
     }
 
     /// The borrow that a variable holds, if it holds one, is counted (`by` 1)
-    /// or no longer counted (`by` -1).
+    /// or no longer counted (`by` -1), at each root that it may be of.
     #[inline]
     fn count_borrow(&mut self, variable: u8, by: i8) {
-        let Variable { value, moved, .. } = *self.variable(variable);
+        let Variable {
+            condition, chain, ..
+        } = *self.variable(variable);
         // A move passes no borrow link, so it always takes the first one along.
-        if value.chain.has_borrow() && moved == NOTHING {
-            let root = &mut self.variables[value.borrowed.root as usize];
+        if condition.moved != NOTHING {
+            return;
+        }
+        for root in condition.borrowed {
+            let root = &mut self.variables[root as usize];
             root.borrows = root.borrows.wrapping_add_signed(by);
-            if value.chain.borrows_exclusively() {
+            if chain.borrows_exclusively() {
                 root.exclusive_borrows = root.exclusive_borrows.wrapping_add_signed(by);
             }
         }
     }
 
+    /// Changes the condition of a variable, and what it holds with it.
+    #[inline]
+    fn change(&mut self, variable: u8, condition: Condition) {
+        self.count_borrow(variable, -1);
+        self.variables[variable as usize].condition = condition;
+        self.count_borrow(variable, 1);
+    }
+
     pub(crate) fn declare(&mut self, variable: u8, value: Value) {
+        // Nothing borrows from it yet.
         self.variables[variable as usize] = Variable {
-            value,
-            moved: NOTHING,
+            condition: Condition::whole(value.borrowed),
+            chain: value.chain,
             level: self.level,
             ..Variable::UNUSED
         };
@@ -227,17 +226,61 @@ impl<const VARIABLES: usize> Environment<VARIABLES> {
 
     /// Moves away from a variable's link on.
     pub(crate) fn move_away(&mut self, place: Place) {
-        self.count_borrow(place.root, -1);
-        self.variables[place.root as usize].moved = place.follows;
+        let moved = place.follows;
+        let condition = self.variable(place.root).condition;
+        self.change(place.root, Condition { moved, ..condition });
     }
 
-    /// Puts a value with the same link kinds at a located place.
-    pub(crate) fn replace(&mut self, located: Place, value: Value) {
-        self.count_borrow(located.root, -1);
-        let variable = &mut self.variables[located.root as usize];
-        variable.moved = NOTHING;
-        variable.value.borrowed = value.borrowed;
-        self.count_borrow(located.root, 1);
+    /// Puts a value with the same link kinds into the variable that is
+    /// written. If it may be one of several, each of them may as well keep
+    /// what it had.
+    pub(crate) fn put(&mut self, written: Roots, value: Value) {
+        if let Some(variable) = written.single() {
+            return self.change(variable, Condition::whole(value.borrowed));
+        }
+        for variable in written {
+            let mut condition = self.variable(variable).condition;
+            condition.borrowed = condition.borrowed.with(value.borrowed);
+            self.change(variable, condition);
+        }
+    }
+
+    /// The conditions of the variables in scope, in the order of their lets.
+    pub(crate) fn conditions(&self) -> Vec<Condition> {
+        let conditions = self.variables_in_scope().iter();
+        conditions
+            .map(|variable| self.variable(*variable).condition)
+            .collect()
+    }
+
+    /// Goes back to earlier conditions of the variables in scope, and leaves
+    /// the present ones in their stead.
+    pub(crate) fn exchange(&mut self, conditions: &mut [Condition]) {
+        for (index, other) in conditions.iter_mut().enumerate() {
+            let variable = self.order[index];
+            let present = self.variable(variable).condition;
+            if present != *other {
+                self.change(variable, *other);
+                *other = present;
+            }
+        }
+    }
+
+    /// Joins the present conditions of the variables in scope with others that
+    /// they may be in as well: a variable is moved away from the earlier link
+    /// on, and its borrow link may stand for the places of both.
+    pub(crate) fn join(&mut self, conditions: &[Condition]) {
+        for (index, other) in conditions.iter().enumerate() {
+            let variable = self.order[index];
+            let present = self.variable(variable).condition;
+            if present != *other {
+                let joined = Condition {
+                    moved: present.moved.min(other.moved),
+                    borrowed: present.borrowed.with(other.borrowed),
+                };
+                self.change(variable, joined);
+            }
+        }
     }
 
     /// Enters a block; the answer is for `leave`.

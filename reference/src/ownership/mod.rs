@@ -3,7 +3,9 @@
 
 pub(crate) mod chain;
 pub(crate) mod environment;
+mod following;
 mod places;
+pub(crate) mod roots;
 
 use crate::form::*;
 use crate::limits::Limits;
@@ -81,6 +83,7 @@ impl<const VARIABLES: usize> Judge<'_, VARIABLES> {
                 .number_at(place(row, 1))
                 .and_then(|()| environment.number_at(place(row, 3)))
                 .map(|()| Value::NUMBER),
+            CHOICE => return self.choice(term, place(row, 1)),
             _ => return self.block(term, row[1]),
         };
         judged
@@ -126,10 +129,29 @@ impl<const VARIABLES: usize> Judge<'_, VARIABLES> {
         for _ in 0..count {
             last = self.term()?;
         }
-        if last.is_some_and(|value| self.environment.borrows_innermost(value)) {
+        if last.is_some_and(|value| self.environment.live_innermost(value.borrowed)) {
             return Err(Refusal::new(LIVES_TOO_SHORT, term));
         }
         self.environment.leave(entered);
         Ok(last)
+    }
+
+    /// Judges both blocks of a choice from the state before them. Taken
+    /// numbers are no part of what is gone back to.
+    fn choice(&mut self, term: usize, place: Place) -> Result<Option<Value>, Refusal> {
+        let refused = |number| Refusal::new(number, term);
+        self.environment.number_at(place).map_err(refused)?;
+        let mut conditions = self.environment.conditions();
+        let first = self.term()?;
+        self.environment.exchange(&mut conditions);
+        let second = self.term()?;
+        self.environment.join(&conditions);
+        match (first, second) {
+            (None, None) => Ok(None),
+            (Some(first), Some(second)) if first.chain == second.chain => {
+                Ok(Some(first.or(second)))
+            }
+            _ => Err(refused(OTHER_TYPE)),
+        }
     }
 }

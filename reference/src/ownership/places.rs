@@ -4,6 +4,7 @@
 
 use super::chain::Link;
 use super::environment::{Environment, Place, Value};
+use super::roots::Roots;
 use crate::refusal::*;
 
 impl<const VARIABLES: usize> Environment<VARIABLES> {
@@ -19,47 +20,43 @@ impl<const VARIABLES: usize> Environment<VARIABLES> {
         Ok(())
     }
 
-    /// Judges a place and answers where it finally is.
+    /// Nothing moved away on the path nor of the value, which have the same
+    /// number.
     #[inline]
-    fn judge_place(&self, place: Place) -> Result<Place, u32> {
+    fn whole(&self, place: Place) -> Result<(), u32> {
+        if self.is_whole(place.root) {
+            Ok(())
+        } else {
+            Err(MOVED_AWAY)
+        }
+    }
+
+    /// What copy, shared borrow, below, sum and choice have in common.
+    #[inline]
+    fn judge_read(&self, place: Place) -> Result<(), u32> {
         self.reachable(place)?;
-        self.locate(place).ok_or(MOVED_AWAY)
-    }
-
-    /// Judges a place whose value must be whole.
-    #[inline]
-    fn judge_whole(&self, place: Place) -> Result<Place, u32> {
-        self.reachable(place)?;
-        self.locate_whole(place).ok_or(MOVED_AWAY)
-    }
-
-    /// Where a place is if nothing is moved away on its path nor of its value.
-    #[inline]
-    fn locate_whole(&self, place: Place) -> Option<Place> {
-        self.locate(place).filter(|located| self.is_whole(*located))
-    }
-
-    /// What copy, shared borrow, below and sum have in common.
-    #[inline]
-    fn judge_read(&self, place: Place) -> Result<Place, u32> {
-        let located = self.judge_whole(place)?;
+        self.whole(place)?;
         if self.reading_barred(place.root) {
             return Err(READING_BARRED);
         }
-        Ok(located)
+        Ok(())
     }
 
     pub(crate) fn copy(&self, place: Place) -> Result<Value, u32> {
-        let located = self.judge_read(place)?;
+        self.judge_read(place)?;
         let chain = self.chain(place.root).after(place.follows);
-        if !chain.is_number() && !chain.starts_shared() {
+        if chain.is_number() {
+            return Ok(Value::NUMBER);
+        }
+        if !chain.starts_shared() {
             return Err(NOT_COPIED);
         }
         // A value that starts with a shared link starts with the first borrow
         // link of the variable that owns it.
+        let owners = self.locate(place).ok_or(MOVED_AWAY)?;
         Ok(Value {
             chain,
-            borrowed: self.borrowed(located.root),
+            borrowed: self.borrowed(owners),
         })
     }
 
@@ -69,14 +66,14 @@ impl<const VARIABLES: usize> Environment<VARIABLES> {
         if chain.passes_borrow(place.follows) {
             return Err(MOVE_BEHIND_BORROW);
         }
-        self.locate_whole(place).ok_or(MOVED_AWAY)?;
+        self.whole(place)?;
         if self.writing_barred(place.root) {
             return Err(WRITING_BARRED);
         }
         self.move_away(place);
         Ok(Value {
             chain: chain.after(place.follows),
-            borrowed: self.borrowed(place.root),
+            borrowed: self.borrowed(Roots::one(place.root)),
         })
     }
 
@@ -86,7 +83,8 @@ impl<const VARIABLES: usize> Environment<VARIABLES> {
     }
 
     pub(crate) fn borrow_exclusive(&self, place: Place) -> Result<Value, u32> {
-        self.judge_whole(place)?;
+        self.reachable(place)?;
+        self.whole(place)?;
         if self.chain(place.root).passes_shared(place.follows) {
             return Err(BEHIND_SHARED);
         }
@@ -102,7 +100,7 @@ impl<const VARIABLES: usize> Environment<VARIABLES> {
         match chain.behind(link) {
             Some(chain) => Ok(Value {
                 chain,
-                borrowed: place,
+                borrowed: Roots::one(place.root),
             }),
             None => Err(TOO_MANY_LINKS),
         }
@@ -110,7 +108,8 @@ impl<const VARIABLES: usize> Environment<VARIABLES> {
 
     /// The rules of an assign once its right side has given a value.
     pub(crate) fn assign(&mut self, place: Place, value: Value) -> Result<(), u32> {
-        let written = self.judge_place(place)?;
+        self.reachable(place)?;
+        let written = self.locate(place).ok_or(MOVED_AWAY)?;
         let chain = self.chain(place.root);
         if chain.passes_shared(place.follows) {
             return Err(BEHIND_SHARED);
@@ -118,17 +117,17 @@ impl<const VARIABLES: usize> Environment<VARIABLES> {
         if chain.after(place.follows) != value.chain {
             return Err(OTHER_TYPE);
         }
-        if !self.outlives(value, written.root) {
+        if !self.outlive(value.borrowed, written) {
             return Err(LIVES_TOO_SHORT);
         }
-        self.replace(written, value);
+        self.put(written, value);
         if self.writing_barred(place.root) {
             return Err(WRITING_BARRED);
         }
         Ok(())
     }
 
-    /// One of the two places of a below or a sum.
+    /// One of the two places of a below or a sum, or the place of a choice.
     pub(crate) fn number_at(&self, place: Place) -> Result<(), u32> {
         self.judge_read(place)?;
         if !self.chain(place.root).after(place.follows).is_number() {
