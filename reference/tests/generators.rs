@@ -40,10 +40,10 @@ fn sums(seed: u64) -> [u64; 4] {
 #[test]
 fn one_seed_gives_one_sequence() {
     let expected = [
-        0x2DCF_EB7A_A037_63C3,
-        0xDAF3_56B3_4CC8_999E,
-        0x9DC0_01E2_2D37_C40E,
-        0xFF87_F445_B78A_FB35,
+        0x3831_7872_8C14_D7E7,
+        0x6657_63E5_46DD_93AB,
+        0x3D69_4258_9661_057D,
+        0x8A07_8B5F_2617_A6C4,
     ];
     assert_eq!(sums(1), expected);
     assert_ne!(sums(2), expected);
@@ -160,11 +160,8 @@ fn shapes_reach_the_limits() {
         (deepest, widest, most_terms, most_boxes),
         (16, 255, 512, 64)
     );
-    let known = (1..=11).chain([13]);
-    for (kind, count) in kinds.into_iter().enumerate() {
-        let due = known.clone().any(|known| known == kind);
-        assert_eq!(count > 10_000, due, "{kinds:?}");
-    }
+    assert_eq!(kinds[0], 0);
+    assert!(kinds[1..].iter().all(|count| *count > 10_000), "{kinds:?}");
 }
 
 #[test]
@@ -172,20 +169,24 @@ fn scripts_have_the_kinds_of_their_version() {
     let mut generator = Generator::new(8);
     let mut script = Vec::new();
     let mut rows = vec![0; ROWS_LEN];
-    // Version 1, version 2 without a sum, version 2 with one.
+    // Version 1, version 2 without its own kinds, version 2 with them.
     let mut counts = [0; 3];
     for _ in 0..SAMPLE {
         generator.valid_script(&mut script);
         let read = read(LIMITS, NEWEST, &script, &mut rows).expect("valid");
-        let sums = rows.chunks(5).any(|row| row[0] == 13);
-        assert!(read.version == 2 || !sums);
-        counts[(read.version - 1) as usize + usize::from(sums)] += 1;
+        let second = rows.chunks(5).any(|row| [12, 13].contains(&row[0]));
+        assert!(read.version == 2 || !second);
+        counts[(read.version - 1) as usize + usize::from(second)] += 1;
     }
     assert!(counts.iter().all(|count| *count > SAMPLE / 8), "{counts:?}");
 }
 
-/// How often the kind byte of a sum in version 1 is what is refused.
-fn sums_in_version_1(make: fn(&mut Generator, &mut Vec<u8>), skipped: usize) -> usize {
+/// How often this kind byte in version 1 is what is refused.
+fn refused_in_version_1(
+    refused: u8,
+    make: fn(&mut Generator, &mut Vec<u8>),
+    skipped: usize,
+) -> usize {
     let mut generator = Generator::new(9);
     let mut bytes = Vec::new();
     let mut rows = vec![0; ROWS_LEN];
@@ -195,18 +196,20 @@ fn sums_in_version_1(make: fn(&mut Generator, &mut Vec<u8>), skipped: usize) -> 
         let script = bytes.get(skipped..).unwrap_or_default();
         if let Err(refusal) = read(LIMITS, NEWEST, script, &mut rows) {
             let kind = script.get(refusal.place as usize);
-            count += usize::from(refusal.number == 13 && kind == Some(&13));
+            count += usize::from(refusal.number == 13 && kind == Some(&refused));
         }
     }
     count
 }
 
 #[test]
-fn sums_in_version_1_occur() {
-    let scripts = sums_in_version_1(Generator::script, 0);
-    assert!(scripts > SAMPLE / 100, "{scripts}");
-    let inputs = sums_in_version_1(Generator::input, 32);
-    assert!(inputs > SAMPLE / 200, "{inputs}");
+fn kinds_of_version_2_in_version_1_occur() {
+    for kind in [12, 13] {
+        let scripts = refused_in_version_1(kind, Generator::script, 0);
+        assert!(scripts > SAMPLE / 100, "{kind}: {scripts}");
+        let inputs = refused_in_version_1(kind, Generator::input, 32);
+        assert!(inputs > SAMPLE / 200, "{kind}: {inputs}");
+    }
 }
 
 #[test]

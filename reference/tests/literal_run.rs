@@ -10,8 +10,9 @@ type Value = (u32, u32);
 
 const EMPTY: Value = (0, 0);
 
-/// How sums came out: held to the lower end, inside, held to the upper end.
-type Sums = [u32; 3];
+/// How sums came out: held to the lower end, inside, held to the upper end;
+/// and how often the second block of a choice ran, and how often the first.
+type Counts = [u32; 5];
 
 struct Machine<'a> {
     rows: Vec<&'a [u32]>,
@@ -23,7 +24,7 @@ struct Machine<'a> {
     cells: u32,
     /// The variables that each block around has opened, the outermost first.
     opened: Vec<Vec<u32>>,
-    sums: Sums,
+    counts: Counts,
 }
 
 impl Machine<'_> {
@@ -74,7 +75,7 @@ impl Machine<'_> {
         } else {
             (1, exact as i32)
         };
-        self.sums[came_out] += 1;
+        self.counts[came_out] += 1;
         held
     }
 
@@ -151,9 +152,39 @@ impl Machine<'_> {
                     (1, u32::from(first < second))
                 }
             }
+            12 => {
+                let number = self.number(row[1], row[2]).map_err(at)?;
+                self.choice(number)?
+            }
             _ => self.block(term, row[1])?,
         };
         Ok(value)
+    }
+
+    /// Both blocks come next, one of which runs.
+    fn choice(&mut self, number: i32) -> Result<Value, Fault> {
+        self.counts[3 + usize::from(number != 0)] += 1;
+        if number == 0 {
+            self.pass_by();
+        }
+        let value = self.term()?;
+        if number != 0 {
+            self.pass_by();
+        }
+        Ok(value)
+    }
+
+    /// Leaves out a term with everything inside it.
+    fn pass_by(&mut self) {
+        let row = self.rows[self.next];
+        self.next += 1;
+        let inner = match row[0] {
+            7..=9 => 1,
+            11 => row[1],
+            12 => 2,
+            _ => 0,
+        };
+        (0..inner).for_each(|_| self.pass_by());
     }
 
     fn block(&mut self, term: u32, count: u32) -> Result<Value, Fault> {
@@ -174,8 +205,8 @@ impl Machine<'_> {
     }
 }
 
-/// The answer with the cells taken or the fault, the store, and the sums.
-type Outcome = (Result<(i32, u32), Fault>, Vec<u32>, Sums);
+/// The answer with the cells taken or the fault, the store, and the counts.
+type Outcome = (Result<(i32, u32), Fault>, Vec<u32>, Counts);
 
 /// Runs rows of a right form.
 fn literal_run(limits: Limits, rows: &[u32], readings: &[i32]) -> Outcome {
@@ -187,7 +218,7 @@ fn literal_run(limits: Limits, rows: &[u32], readings: &[i32]) -> Outcome {
         store: vec![(0, EMPTY); (limits.variables + limits.boxes) as usize],
         cells: 0,
         opened: vec![],
-        sums: [0; 3],
+        counts: [0; 5],
     };
     let answer = match machine.term() {
         Ok((1, number)) => Ok((number as i32, machine.cells)),
@@ -196,16 +227,16 @@ fn literal_run(limits: Limits, rows: &[u32], readings: &[i32]) -> Outcome {
     };
     let store = machine.store.iter();
     let store = store.flat_map(|(state, (kind, payload))| [*state, *kind, *payload]);
-    (answer, store.collect(), machine.sums)
+    (answer, store.collect(), machine.counts)
 }
 
 type Make = fn(&mut Generator, &mut Vec<u32>);
 
-/// The sums of the accepted scripts of a sample.
-fn agrees_under(limits: Limits, seed: u64, count: usize, make: Make) -> Sums {
+/// The counts of the accepted scripts of a sample.
+fn agrees_under(limits: Limits, seed: u64, count: usize, make: Make) -> Counts {
     let mut generator = Generator::with_limits(seed, limits);
     let mut rows = Vec::new();
-    let mut accepted = [0; 3];
+    let mut accepted = [0; 5];
     for _ in 0..count {
         make(&mut generator, &mut rows);
         let readings = generator.readings();
@@ -216,13 +247,13 @@ fn agrees_under(limits: Limits, seed: u64, count: usize, make: Make) -> Sums {
         let answer = run_unchecked(limits, &rows, &readings, &mut store)
             .map(|ran| (ran.answer, ran.cells))
             .map_err(|fault| (fault.number, fault.place));
-        let (literal, due, sums) = literal_run(limits, &rows, &readings);
+        let (literal, due, counts) = literal_run(limits, &rows, &readings);
         assert_eq!(answer, literal, "{:?}", &rows[..rows.len().min(200)]);
         assert_eq!(store, due);
         if check(limits, &rows).is_ok() {
             accepted
                 .iter_mut()
-                .zip(sums)
+                .zip(counts)
                 .for_each(|(all, of)| *all += of);
         }
     }
@@ -230,16 +261,17 @@ fn agrees_under(limits: Limits, seed: u64, count: usize, make: Make) -> Sums {
 }
 
 /// Under the set of the program and under the largest.
-fn agrees(seed: u64, count: usize, make: Make) -> Sums {
+fn agrees(seed: u64, count: usize, make: Make) -> Counts {
     agrees_under(Limits::LARGEST, seed, count / 10, make);
     agrees_under(Limits::BASE, seed, count, make)
 }
 
 #[test]
 fn the_machine_agrees_on_accepted_scripts() {
-    let sums = agrees(71, 20_000, Generator::accepted_rows);
-    // Both ends are met often, so that no one can take them for each other.
-    assert!(sums.iter().all(|count| *count > 1_500), "{sums:?}");
+    let counts = agrees(71, 20_000, Generator::accepted_rows);
+    // Both ends are met often, so that no one can take them for each other, and
+    // so are both blocks of a choice.
+    assert!(counts.iter().all(|count| *count > 1_000), "{counts:?}");
 }
 
 #[test]
@@ -256,6 +288,13 @@ fn the_machine_agrees_on_wild_rows() {
 fn the_machine_agrees_on_rows_of_any_form() {
     agrees(74, 20_000, Generator::valid_rows);
     agrees(75, 20_000, Generator::mixed_rows);
+}
+
+#[test]
+fn the_machine_agrees_on_joined_rows() {
+    let counts = agrees(77, 10_000, Generator::joined_rows);
+    assert!(counts[3..].iter().all(|count| *count > 2_000), "{counts:?}");
+    agrees(78, 10_000, Generator::near_joined_rows);
 }
 
 #[test]
