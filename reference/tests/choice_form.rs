@@ -155,9 +155,9 @@ fn only_the_branch_itself_must_be_a_block() {
     assert_eq!(inner(inside), refused(18, 17));
 }
 
-/// 18 comes before 16, 15 and 17, and a block is still judged by 16 and 15.
+/// A block is still judged by 15, as by 16.
 #[test]
-fn no_block_comes_before_the_limits() {
+fn no_block_comes_before_too_deep() {
     // The choice is on level 16.
     let deep = [[0x0B, 1].repeat(15), vec![0x0C, 0, 0]].concat();
     let at = 5 + deep.len() as u32;
@@ -179,6 +179,10 @@ fn no_block_comes_before_the_limits() {
     ]
     .concat();
     assert_eq!(read_in(2, &less), refused(15, 5 + 28 + 5));
+}
+
+#[test]
+fn no_block_comes_before_too_many_terms_and_boxes() {
     // The choice is term 512.
     let mut many = [vec![0x0B, 2], block(&vec![reading(0); 255])].concat();
     many.extend([vec![0x0B, 255], reading(0).repeat(253), vec![0x0C, 0, 0]].concat());

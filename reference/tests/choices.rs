@@ -126,7 +126,21 @@ fn values_agree_in_links() {
             assert_eq!(judge(first.clone(), second), due, "{one} {other}");
         }
     }
-    // Of other places, and copied or moved.
+}
+
+/// Of other places, and copied or moved.
+#[test]
+fn values_of_one_type_from_other_places() {
+    let before = [
+        let_(0, reading(0)),
+        let_(1, number(1)),
+        let_(2, number(2)),
+        let_(3, boxed(number(2))),
+    ];
+    let judge = |first: Term, second: Term| {
+        let terms = [choice((0, 0), &[first], &[second]), number(1)];
+        judge(&[&before[..], &terms].concat())
+    };
     assert_eq!(judge(shared((1, 0)), shared((3, 1))), Ok(()));
     assert_eq!(judge(exclusive((2, 0)), exclusive((1, 0))), Ok(()));
     assert_eq!(judge(mov((3, 0)), boxed(number(1))), Ok(()));

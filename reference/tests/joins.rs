@@ -5,6 +5,7 @@ mod common;
 
 use common::*;
 use reference::{read, run, Refusal, NEWEST};
+use std::slice;
 
 /// `let v0=reading 0; let v1=1; let v2=2`, each boxed so many times but v0.
 /// Terms 0 to 6 and one more for each box.
@@ -242,11 +243,11 @@ fn a_write_that_may_land_in_several() {
     let named = [elsewhere_now(), assign((1, 1), number(7)), copy((1, 1))];
     assert_eq!(either(&before, &inner, &named), Ok(()));
     // To one variable after both blocks, the write is certain again.
-    let certain = [&inner[..], &[fill.clone()]].concat();
+    let certain = [&inner[..], slice::from_ref(&fill)].concat();
     let then = [fill, copy((3, 1)), elsewhere_now(), copy((1, 1))];
-    let due = after(&before, [&certain, &[elsewhere.clone()]], &then);
-    assert_eq!(due, refused(33, 5));
-    assert_eq!(after(&before, [&certain, &[elsewhere]], &then[..2]), Ok(()));
+    let blocks = [&certain[..], &[elsewhere]];
+    assert_eq!(after(&before, blocks, &then), refused(33, 5));
+    assert_eq!(after(&before, blocks, &then[..2]), Ok(()));
 }
 
 /// Two references, v3 to v1 and v4 to v2, and v5 to one of both.
@@ -383,7 +384,7 @@ fn nested_choices_join_all_ways() {
     let inner = choice((0, 0), &[bind(1), number(1)], &[bind(2), number(1)]);
     let then = |root| [mov((root, 0))];
     for root in [0, 1, 2] {
-        let due = after(&before, [&[inner.clone()], &[]], &then(root));
+        let due = after(&before, [slice::from_ref(&inner), &[]], &then(root));
         assert_eq!(due, refused(35, 0));
     }
     // Bound anew after the inner one, its ways are forgotten.

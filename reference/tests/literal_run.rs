@@ -143,15 +143,7 @@ impl Machine<'_> {
                 self.assign((row[1], row[2]), value).map_err(at)?;
                 EMPTY
             }
-            10 | 13 => {
-                let first = self.number(row[1], row[2]).map_err(at)?;
-                let second = self.number(row[3], row[4]).map_err(at)?;
-                if row[0] == 13 {
-                    (1, self.sum(first, second) as u32)
-                } else {
-                    (1, u32::from(first < second))
-                }
-            }
+            10 | 13 => self.of_two_places(row).map_err(at)?,
             12 => {
                 let number = self.number(row[1], row[2]).map_err(at)?;
                 self.choice(number)?
@@ -159,6 +151,17 @@ impl Machine<'_> {
             _ => self.block(term, row[1])?,
         };
         Ok(value)
+    }
+
+    /// A below or a sum.
+    fn of_two_places(&mut self, row: &[u32]) -> Result<Value, u32> {
+        let first = self.number(row[1], row[2])?;
+        let second = self.number(row[3], row[4])?;
+        Ok(if row[0] == 13 {
+            (1, self.sum(first, second) as u32)
+        } else {
+            (1, u32::from(first < second))
+        })
     }
 
     /// Both blocks come next, one of which runs.

@@ -27,8 +27,8 @@ fn at(kind: u32, (root, follows): Place) -> Row {
 }
 
 fn chain_of(links: &[Link]) -> Chain {
-    let links = links.iter().rev();
-    let chain = links.fold(Some(Chain::NUMBER), |chain, link| chain?.behind(*link));
+    let mut links = links.iter().rev();
+    let chain = links.try_fold(Chain::NUMBER, |chain, link| chain.behind(*link));
     chain.expect("at most 8 links")
 }
 
