@@ -39,6 +39,7 @@ pub mod Undo
 pub mod MoreAnswers
 pub mod RowTrees
 pub mod RowTreeLaws
+pub mod ChoiceRows
 pub mod RowFields
 pub mod RowTerms
 pub mod RowSpans
