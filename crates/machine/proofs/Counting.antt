@@ -1,11 +1,12 @@
 -- The cells taken are the box terms that finished.
 use Prim.Native.Nat.{ℕ, _+_, _≤_}
 use native.Mathlib.Omega.{arith}
-use mathlib.Core.Path.{_≡_, refl, ap, _∙_}
+use mathlib.Core.Path.{_≡_, refl, sym, ap, _∙_}
 use mathlib.Core.Bool.{Bool, true, false}
 use mathlib.Core.List.{List}
+use lib.Dec.{eqb}
 use Rattle.reader.specs.Result.{Result, ok, err, _>>=_, need, pick}
-use Rattle.reader.specs.Script.{Place, Term, number, reading, copy, move, borrowShared, borrowExclusive, box, declare, assign, below, block, sum, Terms, last, more}
+use Rattle.reader.specs.Script.{Place, Term, number, reading, copy, move, borrowShared, borrowExclusive, box, declare, assign, below, block, choice, sum, Terms, last, more}
 use Rattle.reader.specs.Measures.{boxesIn, boxesAll}
 use Rattle.machine.specs.Values.{Location, Value, empty, openWith}
 use Rattle.machine.specs.Store.{put, isOpen, valueIn, State, withStore, Ran}
@@ -67,6 +68,12 @@ module _ (readings : ℕ → ℕ) where
       let y = close-takes i (a .0 .0) (b .0) (a .0 .0 .opened) (b .1) in
       omega arith
 
+  taken-choice : (c : Bool) (j : ℕ) (us : Terms) (k : ℕ) (vs : Terms) (s s′ : State) (v : Value) → All us → All vs
+      → pick c (runs readings vs k (entered s) >>= λ o. runBlockEnd k (s .opened) o) (runs readings us j (entered s) >>= λ o. runBlockEnd j (s .opened) o) ≡ ok (s′, v)
+      → s′ .taken ≡ s .taken + pick c (boxesRunAll readings vs k (entered s)) (boxesRunAll readings us j (entered s))
+  taken-choice true j us k vs s s′ v iu iv h = taken-block vs iv k s s′ v h
+  taken-choice false j us k vs s s′ v iu iv h = taken-block us iu j s s′ v h
+
   pair-takes : (f : ℕ → ℕ → ℕ) (i : ℕ) (p q : Place) (s s′ : State) (v : Value) → runPair f s i p q ≡ ok (s′, v) → s′ .taken ≡ s .taken
   unfolding runPair
   pair-takes f i p q s s′ v h =
@@ -114,6 +121,10 @@ module _ (readings : ℕ → ℕ) where
     taken-is (below i p q) s s′ v h = let z = pair-takes compared i p q s s′ v h in omega arith
     taken-is (sum i p q) s s′ v h = let z = pair-takes heldSum i p q s s′ v h in omega arith
     taken-is (block i ts) s s′ v h = taken-block ts (λ i s s′ v h. taken-all ts i s s′ v h) i s s′ v h
+    taken-is (choice i p j us k vs) s s′ v h =
+        let a = then (runNumber s i p) _ (s′, v) h in
+        let y = afterwards-ok (runNumber s i p) (λ n. pick (eqb n 0) (boxesRunAll readings vs k (entered s)) (boxesRunAll readings us j (entered s))) (a .0) (a .1) in
+        taken-choice (eqb (a .0) 0) j us k vs s s′ v (λ i s s′ v h. taken-all us i s s′ v h) (λ i s s′ v h. taken-all vs i s s′ v h) (a .2) ∙ ap (λ (q : ℕ). s .taken + q) (sym y)
 
     pub taken-all : (ts : Terms) (i : ℕ) (s s′ : State) (v : Value) → runs readings ts i s ≡ ok (s′, v)
         → s′ .taken ≡ s .taken + boxesRunAll readings ts i s
@@ -141,6 +152,10 @@ module _ (readings : ℕ → ℕ) where
   at-most (ok a) f n h = h a
   at-most (err e) f n h = omega arith
 
+  one-of : (c : Bool) (a b m n : ℕ) → a ≤ m → b ≤ n → pick c b a ≤ m + n
+  one-of true a b m n h k = omega arith
+  one-of false a b m n h k = omega arith
+
   mutual
     unfolding boxesRun boxesIn
 
@@ -157,6 +172,9 @@ module _ (readings : ℕ → ℕ) where
     boxes-bound (below i p q) s = omega arith
     boxes-bound (sum i p q) s = omega arith
     boxes-bound (block i ts) s = boxes-bound-all ts i (entered s)
+    boxes-bound (choice i p j us k vs) s =
+        at-most (runNumber s i p) (λ n. pick (eqb n 0) (boxesRunAll readings vs k (entered s)) (boxesRunAll readings us j (entered s))) (boxesAll us + boxesAll vs)
+        (λ n. one-of (eqb n 0) _ _ _ _ (boxes-bound-all us j (entered s)) (boxes-bound-all vs k (entered s)))
 
     boxes-bound-all : (ts : Terms) (i : ℕ) (s : State) → boxesRunAll readings ts i s ≤ boxesAll ts
     boxes-bound-all (last t) i s = boxes-bound t s

@@ -1,13 +1,16 @@
 -- A fault that a run meets anywhere on its way is the run's own result, and a run's fault is met somewhere on its way.
 use Prim.Native.Nat.{ℕ}
-use mathlib.Core.Path.{_≡_, refl, sym, ap}
+use mathlib.Core.Path.{_≡_, refl, sym, ap, _∙_}
+use mathlib.Core.Bool.{Bool, true, false}
 use mathlib.Core.List.{List, [], _∷_}
-use Rattle.reader.specs.Result.{ok, err, _>>=_}
-use Rattle.reader.specs.Script.{Term, number, reading, copy, move, borrowShared, borrowExclusive, box, declare, assign, below, block, sum, Terms, last, more}
+use lib.Dec.{eqb}
+use borrow.Author.Tests.{eqb-true, eqb-false, ne-eqb}
+use Rattle.reader.specs.Result.{ok, err, pick, _>>=_}
+use Rattle.reader.specs.Script.{Place, Term, number, reading, copy, move, borrowShared, borrowExclusive, box, declare, assign, below, block, choice, sum, Terms, last, more}
 use Rattle.machine.specs.Store.{Store, State, Fault, Ran}
 use Rattle.machine.specs.Drop.{closeAll}
-use Rattle.machine.specs.Run.{runAssign, runBox, runBlockEnd, entered, begun, run, runs, runScript}
-use Rattle.machine.specs.Faults.{ClosingMeets, at-first, at-later, TermMeets, at-copy, at-move, at-shared, at-exclusive, at-below, at-sum, in-box, in-let, at-let, in-assign, at-place, at-old, in-block, at-closing, TermsMeet, in-last, in-first, at-drop, in-rest, RunMeets, on-the-way, at-answer}
+use Rattle.machine.specs.Run.{Outcome, runNumber, runAssign, runBox, runBlockEnd, entered, begun, run, runs, runScript}
+use Rattle.machine.specs.Faults.{ClosingMeets, at-first, at-later, TermMeets, at-copy, at-move, at-shared, at-exclusive, at-below, at-sum, in-box, in-let, at-let, in-assign, at-place, at-old, in-block, at-closing, at-choice, in-first-block, in-second-block, TermsMeet, in-last, in-first, at-drop, in-rest, RunMeets, on-the-way, at-answer}
 use Rattle.reader.proofs.Answers.{after, stop, err-ok}
 
 -- ---- met on the way: the run's own result
@@ -36,6 +39,9 @@ module _ (readings : ℕ → ℕ) where
     term-faults (at-old o l r q e) = after _ _ _ _ r (after _ _ _ _ q (stop _ _ _ e))
     term-faults (in-block m) = stop _ _ _ (terms-fault m)
     term-faults (at-closing o r m) = after _ _ _ _ r (stop _ _ _ (closing-faults _ m))
+    term-faults (at-choice e) = stop _ _ _ e
+    term-faults (in-first-block n r z m) = after _ _ _ _ r (rw (ne-eqb n 0 z) (term-faults m))
+    term-faults (in-second-block r m) = after _ _ _ _ r (term-faults m)
 
     terms-fault : {i : ℕ} {ts : Terms} {s : State} {f : Fault} → TermsMeet readings i ts s f → runs readings ts i s ≡ err f
     terms-fault (in-last m) = term-faults m
@@ -62,8 +68,24 @@ closing-met i s [] f e = err-ok (sym e)
 closing-met i s (x ∷ xs) f e = either _ _ f e at-first (λ s′ q r. at-later q (closing-met i s′ xs f r))
 
 module _ (readings : ℕ → ℕ) where
+  Met : Terms → Type 0
+  Met ts = (i : ℕ) (s : State) (f : Fault) → runs readings ts i s ≡ err f → TermsMeet readings i ts s f
+
+  -- A block that runs as a term, or as one of a choice's two.
+  block-met : (ts : Terms) → Met ts → (i : ℕ) (s : State) (f : Fault) → (runs readings ts i (entered s) >>= λ o. runBlockEnd i (s .opened) o) ≡ err f → TermMeets readings (block i ts) s f
+  unfolding Met runBlockEnd
+  block-met ts ih i s f e =
+      either _ _ f e (λ q. in-block (ih i (entered s) f q)) (λ o r q.
+      either _ _ f q (λ w. at-closing o r (closing-met i (o .0) (o .0 .opened) f w)) (λ s′ w x. err-ok (sym x)))
+
+  choice-met : (i : ℕ) (p : Place) (j : ℕ) (us : Terms) (k : ℕ) (vs : Terms) → Met us → Met vs → (s : State) (f : Fault) (n : ℕ) → runNumber s i p ≡ ok n → (b : Bool) → eqb n 0 ≡ b
+      → pick b (runs readings vs k (entered s) >>= λ o. runBlockEnd k (s .opened) o) (runs readings us j (entered s) >>= λ o. runBlockEnd j (s .opened) o) ≡ err f
+      → TermMeets readings (choice i p j us k vs) s f
+  choice-met i p j us k vs mu mv s f n r true z e = in-second-block (r ∙ ap ok (eqb-true n 0 z)) (block-met vs mv k s f e)
+  choice-met i p j us k vs mu mv s f n r false z e = in-first-block n r (eqb-false n 0 z) (block-met us mu j s f e)
+
   mutual
-    unfolding run runs runAssign runBox runBlockEnd
+    unfolding run runs runAssign runBox Met
 
     term-met : (t : Term) (s : State) (f : Fault) → run readings t s ≡ err f → TermMeets readings t s f
     term-met (number i n) s f e = err-ok (sym e)
@@ -80,9 +102,9 @@ module _ (readings : ℕ → ℕ) where
         either _ _ f x (λ y. at-old o l r w y) (λ s′ y z. err-ok (sym z))))
     term-met (below i p q) s f e = at-below e
     term-met (sum i p q) s f e = at-sum e
-    term-met (block i ts) s f e =
-        either _ _ f e (λ q. in-block (terms-met ts i (entered s) f q)) (λ o r q.
-        either _ _ f q (λ w. at-closing o r (closing-met i (o .0) (o .0 .opened) f w)) (λ s′ w x. err-ok (sym x)))
+    term-met (block i ts) s f e = block-met ts (λ i s f e. terms-met ts i s f e) i s f e
+    term-met (choice i p j us k vs) s f e =
+        either _ _ f e at-choice (λ n r q. choice-met i p j us k vs (λ i s f e. terms-met us i s f e) (λ i s f e. terms-met vs i s f e) s f n r (eqb n 0) refl q)
 
     terms-met : (ts : Terms) (i : ℕ) (s : State) (f : Fault) → runs readings ts i s ≡ err f → TermsMeet readings i ts s f
     terms-met (last t) i s f e = in-last (term-met t s f e)

@@ -4,8 +4,9 @@ use native.Mathlib.Omega.{arith}
 use mathlib.Core.Path.{_≡_, refl, _∙_}
 use mathlib.Core.Bool.{Bool, true, false}
 use mathlib.Core.List.{List}
+use lib.Dec.{eqb}
 use Rattle.reader.specs.Result.{need, pick}
-use Rattle.reader.specs.Script.{Place, Term, number, reading, copy, move, borrowShared, borrowExclusive, box, declare, assign, below, block, sum, Terms, last, more}
+use Rattle.reader.specs.Script.{Place, Term, number, reading, copy, move, borrowShared, borrowExclusive, box, declare, assign, below, block, choice, sum, Terms, last, more}
 use Rattle.machine.specs.Values.{Location, variable, cell, Value, empty, num, owner, reference, Row, closed, givenBack, openWith}
 use Rattle.machine.specs.Store.{Store, put, isOpen, valueIn, State, withStore, Ran}
 use Rattle.machine.specs.Locate.{followed, locateFrom, locate, filled, numberIn}
@@ -131,6 +132,10 @@ module _ (s : State) (i : ℕ) (h : InOrder s) where
   unfolding runBlockEnd
   end-ordered around v = keeps-then _ (close-keeps lasting i (s .opened) s h) (λ s′ k. ends _ k)
 
+one-ordered : (c : Bool) (a b : Ran Outcome) → Ordered a → Ordered b → Ordered (pick c b a)
+one-ordered true a b h k = k
+one-ordered false a b h k = h
+
 module _ (readings : ℕ → ℕ) where
   mutual
     unfolding run
@@ -148,6 +153,10 @@ module _ (readings : ℕ → ℕ) where
     run-ordered (below i p q) s h = pair-ordered s i h compared p q
     run-ordered (sum i p q) s h = pair-ordered s i h heldSum p q
     run-ordered (block i ts) s h = keeps-then _ (runs-ordered ts i (entered s) h) (λ o k. end-ordered (o .0) i k (s .opened) (o .1))
+    run-ordered (choice i p j us k vs) s h =
+        keeps-then _ (number-keeps s i h p) (λ n u. one-ordered (eqb n 0) _ _
+        (keeps-then _ (runs-ordered us j (entered s) h) (λ o m. end-ordered (o .0) j m (s .opened) (o .1)))
+        (keeps-then _ (runs-ordered vs k (entered s) h) (λ o m. end-ordered (o .0) k m (s .opened) (o .1))))
 
     pub runs-ordered : (ts : Terms) (i : ℕ) (s : State) → InOrder s → Ordered (runs readings ts i s)
     runs-ordered (last t) i s h = run-ordered t s h

@@ -1,10 +1,11 @@
 -- The boxes that ran to their end (LANGUAGE 4.22, 7.4): a count along the run.
 use Prim.Native.Nat.{ℕ, _+_}
-use Rattle.reader.specs.Result.{Result, ok, err}
-use Rattle.reader.specs.Script.{Term, number, reading, copy, move, borrowShared, borrowExclusive, box, declare, assign, below, block, sum, Terms, last, more}
+use lib.Dec.{eqb}
+use Rattle.reader.specs.Result.{Result, ok, err, pick}
+use Rattle.reader.specs.Script.{Term, number, reading, copy, move, borrowShared, borrowExclusive, box, declare, assign, below, block, choice, sum, Terms, last, more}
 use Rattle.machine.specs.Store.{State}
 use Rattle.machine.specs.Drop.{dropValue}
-use Rattle.machine.specs.Run.{entered, run}
+use Rattle.machine.specs.Run.{runNumber, entered, run}
 
 -- What is counted after a step, if it finishes.
 unfoldable pub afterwards : {E A : Type 0} → Result E A → (A → ℕ) → ℕ
@@ -28,6 +29,9 @@ module _ (readings : ℕ → ℕ) where
     boxesRun (below i p q) s = 0
     boxesRun (sum i p q) s = 0
     boxesRun (block i ts) s = boxesRunAll ts i (entered s)
+    -- Of a choice only one block runs (LANGUAGE 4.23).
+    boxesRun (choice i p j us k vs) s =
+        afterwards (runNumber s i p) (λ n. pick (eqb n 0) (boxesRunAll vs k (entered s)) (boxesRunAll us j (entered s)))
 
     pub boxesRunAll : Terms → ℕ → State → ℕ
     boxesRunAll (last t) i s = boxesRun t s

@@ -4,13 +4,13 @@ use Prim.Native.Nat.{ℕ}
 use mathlib.Core.Path.{_≡_}
 use mathlib.Core.List.{List, _∷_}
 use Rattle.reader.specs.Result.{ok, err}
-use Rattle.reader.specs.Script.{Place, Term, copy, move, borrowShared, borrowExclusive, box, declare, assign, below, block, sum, Terms, last, more}
+use Rattle.reader.specs.Script.{Place, Term, copy, move, borrowShared, borrowExclusive, box, declare, assign, below, block, choice, sum, Terms, last, more}
 use Rattle.machine.specs.Values.{Location, variable, closed}
 use Rattle.machine.specs.Store.{Store, put, valueIn, State, withStore, Fault}
 use Rattle.machine.specs.Locate.{locate, numberIn}
 use Rattle.machine.specs.Drop.{dropValue}
 use Rattle.machine.specs.Signed.{compared, heldSum}
-use Rattle.machine.specs.Run.{Outcome, runCopy, runMove, runBorrow, runPair, runLet, entered, begun, run, runs}
+use Rattle.machine.specs.Run.{Outcome, runCopy, runMove, runBorrow, runNumber, runPair, runLet, entered, begun, run, runs}
 
 -- Closing the variables for block i, one after the other: dropping the value of one of them meets the fault.
 pub data ClosingMeets (i : ℕ) : State → List ℕ → Fault → Type 0 where
@@ -38,6 +38,11 @@ module _ (readings : ℕ → ℕ) where
           → run readings t s ≡ ok o → locate (o .0) i p ≡ ok l → dropValue i (o .0) (valueIn (o .0 .store l)) ≡ err f → TermMeets (assign i p t) s f
       in-block : {i : ℕ} {ts : Terms} {s : State} {f : Fault} → TermsMeet i ts (entered s) f → TermMeets (block i ts) s f
       at-closing : {i : ℕ} {ts : Terms} {s : State} {f : Fault} (o : Outcome) → runs readings ts i (entered s) ≡ ok o → ClosingMeets i (o .0) (o .0 .opened) f → TermMeets (block i ts) s f
+      at-choice : {i : ℕ} {p : Place} {j : ℕ} {us : Terms} {k : ℕ} {vs : Terms} {s : State} {f : Fault} → runNumber s i p ≡ err f → TermMeets (choice i p j us k vs) s f
+      in-first-block : {i : ℕ} {p : Place} {j : ℕ} {us : Terms} {k : ℕ} {vs : Terms} {s : State} {f : Fault} (n : ℕ)
+          → runNumber s i p ≡ ok n → (n ≡ 0 → ⊥) → TermMeets (block j us) s f → TermMeets (choice i p j us k vs) s f
+      in-second-block : {i : ℕ} {p : Place} {j : ℕ} {us : Terms} {k : ℕ} {vs : Terms} {s : State} {f : Fault}
+          → runNumber s i p ≡ ok 0 → TermMeets (block k vs) s f → TermMeets (choice i p j us k vs) s f
 
     -- Running the terms of block i, with the drops between them.
     pub data TermsMeet : ℕ → Terms → State → Fault → Type 0 where
