@@ -19,6 +19,7 @@ pub mod SignedLaws
 pub mod CellLaws
 pub mod AroundLaws
 pub mod RowLaws
+pub mod SkipLaws
 pub mod TermLaws
 pub mod WrapLaws
 pub mod BlockRunLaws

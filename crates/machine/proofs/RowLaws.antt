@@ -3,17 +3,18 @@ use Prim.Native.Nat.{ℕ, zero, suc, _+_, _-_, _<_}
 use native.Mathlib.Omega.{arith}
 use mathlib.Core.Path.{_≡_, refl, sym, ap, _∙_}
 use mathlib.Core.Logic.{_⊎_, inl, inr, ⊎-elim}
-use mathlib.Core.Bool.{Bool}
+use mathlib.Core.Bool.{Bool, true, false}
 use mathlib.Core.Option.{Option, none, some}
 use mathlib.Core.List.{List}
-use lib.Dec.{ltb}
+use lib.Dec.{ltb, eqb}
 use lib.IntN.{ℤ}
 use borrow.Author.Tests.{ltb-true}
 use Rattle.reader.specs.Limits.{Limits}
 use Rattle.reader.specs.Script.{Term, reading, copy, move, below, block, sum}
-use Rattle.reader.specs.Kinds.{Kind, kNumber, kReading, kCopy, kMove, kShared, kExclusive, kBox, kLet, kAssign, kBelow, kBlock, kSum, newest, byteOf, kindOf}
+use Rattle.reader.specs.Kinds.{Kind, kNumber, kReading, kCopy, kMove, kShared, kExclusive, kBox, kLet, kAssign, kBelow, kBlock, kChoice, kSum, newest, byteOf, kindOf}
+use Rattle.reader.specs.Reader.{branch}
 use Rattle.reader.specs.RowParts.{fieldAt}
-use Rattle.reader.specs.RowTrees.{placeAt, RowTree, IsTree, onlyIf, around, severalAt, termsAt, kindAt, treeAt}
+use Rattle.reader.specs.RowTrees.{placeAt, RowTree, IsTree, onlyIf, around, severalAt, termsAt, blockAt, thenBlock, choiceOf, kindAt, treeAt}
 use Rattle.reader.proofs.KindBytes.{has, added-most, found}
 use Rattle.reader.proofs.RowTreeLaws.{only-if, only-in, only-is, around-inner, rest-first, tree-kind}
 use Rattle.machine.specs.Store.{State}
@@ -30,11 +31,21 @@ unfolding termsAt
 no-block i zero j h = h
 no-block i (suc n) j h = rest-first (λ k. none) (suc n) j (omega arith) (around-inner (block i) (severalAt (λ k. none) n j) h)
 
+-- No choice either: its first block is due in the next row.
+no-choice : (set : Limits) (rows : List ℕ) (i : ℕ) → IsTree (kindAt (some kChoice) (set .variables) (λ j. none) rows i) → ⊥
+unfolding kindAt
+no-choice set rows i h = go (ltb (fieldAt rows i 1) (set .variables)) (eqb (fieldAt rows (i + 1) 0) 11) h
+  where
+    go : (a b : Bool) → IsTree (onlyIf a (around (choiceOf i (placeAt rows i 1)) (thenBlock (onlyIf b (around branch none)) (blockAt (λ j. none) rows)))) → ⊥
+    go true true h = h
+    go true false h = h
+    go false b h = h
+
 module _ (set : Limits) where
   -- Such a kind asks nothing of what is inside.
-  pub leaf-is : (l : ℕ) (rows : List ℕ) (i k : ℕ) → IsTree (treeAt (set .variables) l rows i) → k ≡ fieldAt rows i 0 → (k ≡ 7 → ⊥) × (k ≡ 8 → ⊥) × (k ≡ 9 → ⊥) → (k ≡ 11 → ⊥) → treeAt (set .variables) l rows i ≡ leafAt set rows i
+  pub leaf-is : (l : ℕ) (rows : List ℕ) (i k : ℕ) → IsTree (treeAt (set .variables) l rows i) → k ≡ fieldAt rows i 0 → (k ≡ 7 → ⊥) × (k ≡ 8 → ⊥) × (k ≡ 9 → ⊥) → (k ≡ 11 → ⊥) → (k ≡ 12 → ⊥) → treeAt (set .variables) l rows i ≡ leafAt set rows i
   unfolding leafAt kindAt byteOf
-  leaf-is l rows i k good ek n d = tree-kind (set .variables) l rows i (kindOf newest (fieldAt rows i 0)) good refl ∙ go (kindOf newest (fieldAt rows i 0)) (ap (kindOf newest) ek)
+  leaf-is l rows i k good ek n d c = tree-kind (set .variables) l rows i (kindOf newest (fieldAt rows i 0)) good refl ∙ go (kindOf newest (fieldAt rows i 0)) (ap (kindOf newest) ek)
     where
       go : (o : Option Kind) → kindOf newest k ≡ o → kindAt o (set .variables) (treeAt (set .variables) (l - 1) rows) rows i ≡ kindAt o (set .variables) (λ j. none) rows i
       go none h = refl
@@ -50,6 +61,7 @@ module _ (set : Limits) where
       go (some kBelow) h = refl
       go (some kSum) h = refl
       go (some kBlock) h = absurd (d (sym (found newest k kBlock h)))
+      go (some kChoice) h = absurd (c (sym (found newest k kChoice h)))
 
   -- Each leaf is one row.
   pub leaf-end : (rows : List ℕ) (i : ℕ) → IsTree (leafAt set rows i) → endOf (leafAt set rows i) ≡ i + 1
@@ -77,6 +89,7 @@ module _ (set : Limits) where
       go (some kBelow) h = two _ h
       go (some kSum) h = two _ h
       go (some kBlock) h = absurd (no-block i (fieldAt rows i 1) (i + 1) h)
+      go (some kChoice) h = absurd (no-choice set rows i h)
 
   module _ (rows : List ℕ) (i : ℕ) (good : IsTree (leafAt set rows i)) where
     by-kind : (k : Kind) → fieldAt rows i 0 ≡ byteOf k → leafAt set rows i ≡ kindAt (some k) (set .variables) (λ j. none) rows i
@@ -145,6 +158,7 @@ module _ (set : Limits) where
           go (some kBelow) h t = absurd (e (inl (sym (found newest k kBelow h))))
           go (some kSum) h t = absurd (e (inr (sym (found newest k kSum h))))
           go (some kBlock) h t = absurd (no-block i (fieldAt rows i 1) (i + 1) t)
+          go (some kChoice) h t = absurd (no-choice set rows i t)
 
     -- ---- the run of each
 

@@ -243,9 +243,9 @@ module _ (set : Limits) where
 
     -- ---- the terms without an inner term
 
-    module _ (k : ℕ) (ek : k ≡ fieldAt rows i 0) (a : (k ≡ 7 → ⊥) × (k ≡ 8 → ⊥) × (k ≡ 9 → ⊥)) (d : k ≡ 11 → ⊥) where
+    module _ (k : ℕ) (ek : k ≡ fieldAt rows i 0) (a : (k ≡ 7 → ⊥) × (k ≡ 8 → ⊥) × (k ≡ 9 → ⊥)) (d : k ≡ 11 → ⊥) (c : k ≡ 12 → ⊥) where
       tree-leaf : treeAt (set .variables) levels rows i ≡ leafAt set rows i
-      tree-leaf = leaf-is set levels rows i k (g .is) ek a d
+      tree-leaf = leaf-is set levels rows i k (g .is) ek a d c
 
       pub leaf-ready : LeafReady set rows i readings w
       leaf-ready = record { room = has-room (set .variables) levels rows i (g .is); leaf = subst IsTree tree-leaf (g .is); eight = g .ready .eight; tidy = g .ready .tidy }

@@ -62,12 +62,12 @@ module _ (set : Limits) where
   -- ---- the innermost term, if it has no inner term
 
   module _ (rows : List ℕ) (i levels : ℕ) (readings : List ℤ) (w opened : List ℕ) (n taken : ℕ) (g : TermReady set rows i levels readings w opened n taken)
-      (h : wrapsOf (fieldAt rows i 0) ≡ false) (k : ℕ) (ek : k ≡ fieldAt rows i 0) (d : k ≡ 11 → ⊥) where
+      (h : wrapsOf (fieldAt rows i 0) ≡ false) (k : ℕ) (ek : k ≡ fieldAt rows i 0) (d : k ≡ 11 → ⊥) (c : k ≡ 12 → ⊥) where
     pub inmost-ready : LeafReady set rows i readings w
-    inmost-ready = leaf-ready set rows i levels readings w opened n taken g k ek (not-wrapping ek h) d
+    inmost-ready = leaf-ready set rows i levels readings w opened n taken g k ek (not-wrapping ek h) d c
 
     pub inmost-returns : (w₁ : List ℕ) (r : Standing) → PlainRan set rows i readings w n taken w₁ r → TermRan set rows i levels readings w opened n taken w₁ opened r
-    inmost-returns w₁ r x = leaf-returns set rows i levels readings w opened n taken g k ek (not-wrapping ek h) d w₁ r x
+    inmost-returns w₁ r x = leaf-returns set rows i levels readings w opened n taken g k ek (not-wrapping ek h) d c w₁ r x
 
   -- ---- the two loops
 

@@ -13,3 +13,4 @@ pub mod Faults
 pub mod Answers
 pub mod Words
 pub mod Parts
+pub mod Skip

@@ -12,6 +12,7 @@ mod drops; // drops.rt: dropping values and closing variables
 pub mod signed; // signed.rt: signed numbers and their bits
 mod plain; // plain.rt: the terms without an inner term
 mod around; // around.rt: what follows an inner term
+mod skip; // skip.rt: the block of a choice that does not run
 mod terms; // terms.rt: terms and blocks
 
 use crate::around::close_block;
