@@ -45,11 +45,11 @@ number-copied s i p = go (locate s i p)
     go (ok l) = go₁ (filled s i (s .store l))
     go (err e) = refl
 
-counted-stops : (s : State) (i : ℕ) (g : Gave) → (g .fault ≡ 0 → ⊥) → counted s i g ≡ fault (g .fault) i s
+pub counted-stops : (s : State) (i : ℕ) (g : Gave) → (g .fault ≡ 0 → ⊥) → counted s i g ≡ fault (g .fault) i s
 unfolding counted
 counted-stops s i g n = rw (ne-eqb (g .fault) 0 n)
 
-counted-goes : (s : State) (i : ℕ) (g : Gave) → g .fault ≡ 0 → counted s i g ≡ ok (g .payload)
+pub counted-goes : (s : State) (i : ℕ) (g : Gave) → g .fault ≡ 0 → counted s i g ≡ ok (g .payload)
 unfolding counted
 counted-goes s i g n = rw (eq-eqb (g .fault) 0 n)
 

@@ -21,6 +21,7 @@ pub mod AroundLaws
 pub mod RowLaws
 pub mod SkipLaws
 pub mod TermLaws
+pub mod ChoiceLaws
 pub mod WrapLaws
 pub mod BlockRunLaws
 pub mod FitLaws

@@ -1,4 +1,4 @@
-// Terms and blocks, which call each other (LANGUAGE 4.9 to 4.17). The store and the variables opened are lent down.
+// Terms, choices and blocks, which call each other (LANGUAGE 4.9 to 4.17, 4.23). The store and the variables opened are lent down.
 ghost use mathlib.Core.Path.{_≡_};
 ghost use mathlib.Core.Bool.{false};
 ghost use Prim.Native.Nat.{_<_};
@@ -16,7 +16,11 @@ use crate::around::without_value;
 use crate::drops::drop_any;
 use crate::numbers;
 use crate::plain::run_leaf;
+use crate::plain::run_number;
+use crate::skip::chosen;
+use crate::skip::past_choice;
 use reader::fields::field_at;
+use reader::fields::index_at;
 use reader::fields::index_of;
 use reader::kinds;
 use reader::kinds::wraps;
@@ -73,7 +77,41 @@ fn run_after(
     }
 }
 
-// The term at row i, which has no inner term or is a block: its terms, then its end (LANGUAGE 4.17).
+// The choice at row i (LANGUAGE 4.23): the number at its place, then one of its two blocks; the other one is passed over.
+fn run_choice(
+    sizes: usize,
+    rows: &[u32],
+    i: usize,
+    levels: usize,
+    readings: &[i32],
+    store: &mut [u32],
+    opened: &mut [u8],
+    count: usize,
+    taken: usize,
+) -> Standing
+    requires { ⌜ TermReady (unpacked sizes) (now rows) i levels (now readings) (now store) (now opened) count taken × (fieldAt (now rows) i 0 ≡ 12) ⌝ }
+    ensures { λ r. ⌜ TermRan (unpacked sizes) (now (rows .entry)) i levels (now (readings .entry)) (now (store .entry)) (now (opened .entry)) count taken (now (store .exit)) (now (opened .exit)) r ⌝ }
+{
+    let held = run_number(sizes, store, index_at(rows, i, 1), index_at(rows, i, 2));
+    if held.fault != numbers::NO_FAULT {
+        return without_value(entered(sizes, i, count, taken), held.fault, i);
+    }
+    let block = chosen(rows, i, held.payload);
+    let ran = run_inmost(
+        sizes,
+        rows,
+        block,
+        levels - 1,
+        readings,
+        store,
+        opened,
+        count,
+        taken,
+    );
+    past_choice(rows, held.payload, ran)
+}
+
+// The term at row i, which has no inner term, or is a choice, or a block: its terms, then its end (LANGUAGE 4.17).
 fn run_inmost(
     sizes: usize,
     rows: &[u32],
@@ -103,11 +141,24 @@ fn run_inmost(
         );
         return close_block(sizes, store, opened, i, count, inner);
     }
+    if kind == kinds::CHOICE {
+        return run_choice(
+            sizes,
+            rows,
+            i,
+            levels,
+            readings,
+            store,
+            opened,
+            count,
+            taken,
+        );
+    }
     run_plain(sizes, rows, i, readings, store, count, taken)
 }
 
 // The term at row i, nested at most as deep as levels says, after `count` variables opened and so many cells taken:
-// the innermost term first, then what follows it, outwards (LANGUAGE 4.13 to 4.15). So calls nest for blocks only.
+// the innermost term first, then what follows it, outwards (LANGUAGE 4.13 to 4.15). So calls nest for blocks and choices only.
 fn run_term(
     sizes: usize,
     rows: &[u32],
