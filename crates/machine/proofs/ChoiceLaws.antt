@@ -1,13 +1,11 @@
 -- The choice in rows: what the block that runs asks, and what the choice's answer is after it.
-use Prim.Native.Nat.{ℕ, _+_, _-_, _*_, _≤_, _<_}
+use Prim.Native.Nat.{ℕ, _+_, _-_, _≤_, _<_}
 use native.Mathlib.Omega.{arith}
 use native.Mathlib.Decide.{ℕ-discrete}
-use mathlib.Core.Path.{_≡_, refl, sym, ap, subst, _∙_}
+use mathlib.Core.Path.{_≡_, sym, ap, subst, _∙_}
 use mathlib.Core.Bool.{false}
-use mathlib.Core.Option.{some}
 use mathlib.Core.List.{List}
 use lib.IntN.{ℤ}
-use lib.ListN.{length}
 use borrow.Author.Tests.{eq-eqb, ne-eqb}
 use Rattle.reader.specs.Limits.{Limits, rowNumbers}
 use Rattle.reader.specs.Kinds.{wrapsOf, byteOf}
@@ -21,7 +19,7 @@ use Rattle.machine.specs.Store.{State, Ran}
 use Rattle.machine.specs.Run.{Outcome, runNumber, run}
 use Rattle.machine.specs.Answers.{bitsOf}
 use Rattle.machine.specs.Words.{Tidy}
-use Rattle.machine.specs.Parts.{stateAt, Numbered, counted, ranOn, since, Stop, seen, Stood, atRow, outcome, stood, withoutValue, enteredAt, Opened, endOf, boxesBy, boxesAt, stoodOn, runAt, Ready, TermReady, TermRan}
+use Rattle.machine.specs.Parts.{stateAt, Numbered, counted, ranOn, since, Stop, seen, Stood, atRow, outcome, stood, withoutValue, enteredAt, endOf, boxesBy, boxesAt, stoodOn, runAt, Ready, TermReady, TermRan}
 use Rattle.machine.specs.Skip.{Passable, Chosen, onwards, PastReady, Past}
 use Rattle.machine.specs.declared.locate.Gave.{Gave}
 use Rattle.machine.specs.declared.around.Standing.{Standing}

@@ -9,7 +9,7 @@ use Rattle.reader.specs.Result.{ok, err, pick, _>>=_}
 use Rattle.reader.specs.Script.{Place, Term, number, reading, copy, move, borrowShared, borrowExclusive, box, declare, assign, below, block, choice, sum, Terms, last, more}
 use Rattle.machine.specs.Store.{Store, State, Fault, Ran}
 use Rattle.machine.specs.Drop.{closeAll}
-use Rattle.machine.specs.Run.{Outcome, runNumber, runAssign, runBox, runBlockEnd, entered, begun, run, runs, runScript}
+use Rattle.machine.specs.Run.{runNumber, runAssign, runBox, runBlockEnd, entered, begun, run, runs, runScript}
 use Rattle.machine.specs.Faults.{ClosingMeets, at-first, at-later, TermMeets, at-copy, at-move, at-shared, at-exclusive, at-below, at-sum, in-box, in-let, at-let, in-assign, at-place, at-old, in-block, at-closing, at-choice, in-first-block, in-second-block, TermsMeet, in-last, in-first, at-drop, in-rest, RunMeets, on-the-way, at-answer}
 use Rattle.reader.proofs.Answers.{after, stop, err-ok}
 

@@ -3,7 +3,7 @@
 use Prim.Native.Nat.{ℕ, zero, suc, _+_, _*_, _-_, _≤_, _<_}
 use native.Mathlib.Omega.{arith}
 use native.Mathlib.Decide.{ℕ-discrete}
-use mathlib.Core.Path.{_≡_, refl, sym, ap, subst, _∙_}
+use mathlib.Core.Path.{_≡_, refl, ap, subst, _∙_}
 use mathlib.Core.Bool.{Bool, true, false}
 use mathlib.Core.Logic.{⊎-elim}
 use mathlib.Core.Option.{none, some}
@@ -13,13 +13,12 @@ use borrow.Author.Tests.{eq-eqb, ne-eqb}
 use Rattle.reader.specs.Kinds.{wrapsOf}
 use Rattle.reader.specs.Limits.{Limits}
 use Rattle.reader.specs.Script.{Term, Terms, box, declare, assign, block, last, more}
-use Rattle.reader.specs.Measures.{size}
 use Rattle.reader.specs.RowParts.{fieldAt}
 use Rattle.reader.specs.RowTrees.{placeAt, RowTree, IsTree, around, before, severalAt, termsAt, treeAt}
 use Rattle.reader.proofs.KindBytes.{wrapping, not-wrapping}
 use Rattle.reader.proofs.Parts.{counts}
 use Rattle.reader.proofs.RowTreeLaws.{around-inner, has-room, wrapped-inner, box-is, let-is, assign-is, block-is, block-inner}
-use Rattle.reader.proofs.ChoiceRows.{tree-some, BlockRows, ChoiceRows, choice-rows, tree-rows}
+use Rattle.reader.proofs.ChoiceRows.{tree-some, choice-rows, tree-rows}
 use Rattle.machine.specs.Parts.{endOf}
 use Rattle.machine.specs.Skip.{insideAt, Passable, Passed}
 use Rattle.machine.proofs.RowLaws.{leaf-is, leaf-end}

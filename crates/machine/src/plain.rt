@@ -94,7 +94,7 @@ pub fn run_borrow(sizes: usize, store: &[u32], root: usize, follows: usize) -> G
     }
 }
 
-// One of two places (LANGUAGE 4.16): locate, read; a number must be there (61).
+// A place of a below, a sum or a choice (LANGUAGE 4.16, 4.23): locate, read; a number must be there (61).
 pub fn run_number(sizes: usize, store: &[u32], root: usize, follows: usize) -> Gave
     requires { ⌜ Tidy (unpacked sizes) (now store) × (root < unpacked sizes .variables) ⌝ }
     ensures { λ r. ⌜ Numbered (unpacked sizes) (now (store .entry)) root follows r ⌝ }

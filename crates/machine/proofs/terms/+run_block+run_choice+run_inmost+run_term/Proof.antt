@@ -1,103 +1,27 @@
--- Terms, choices and blocks, which call each other. The measure is four times the levels left, and more by one for an innermost term, by two for a term and by three for a block. The block's loop has the invariant `Going`, the term's two loops `Inwards` and `Outwards`. Assumes nothing.
+-- Terms, choices and blocks, which call each other. `Cycle` has the measures, and `Choice` what the choice owes. The block's loop has the invariant `Going`, the term's two loops `Inwards` and `Outwards`. Assumes nothing.
+mod Cycle
+mod Choice
+use Rattle.machine.proofs.terms.+run_block+run_choice+run_inmost+run_term.Proof.Cycle.{μ-run-block, μ-run-choice, μ-run-inmost, μ-run-term, run-block-at, run-choice-at, run-inmost-at, run-term-at, run-block-Inv-loop, run-block-μ-loop, run-block-claims, run-choice-claims, run-inmost-claims, run-term-claims}
+use Rattle.machine.proofs.terms.+run_block+run_choice+run_inmost+run_term.Proof.Choice.{run-choice-index-at-requires, run-choice-index-at-requires-2, run-choice-run-number-requires, run-choice-entered-requires, run-choice-without-value-requires, run-choice-same-length, run-choice-returns, run-choice-chosen-requires, run-choice-sub-run-inmost, run-choice-run-inmost-requires, run-choice-past-choice-requires, run-choice-same-length-2, run-choice-same-length-3, run-choice-returns-2}
 use Rattle.reader.specs.Kinds.{wrapsOf}
 use Rattle.reader.specs.Limits.{rowNumbers, unpacked}
 use Rattle.reader.proofs.RowTreeLaws.{has-level, has-room}
-use Rattle.machine.proofs.BlockRunLaws.{Going, going-ends, going-drops, turn-ready, going-stops, going-goes, going-enters, block-ready, block-ending, block-returns}
-use Rattle.machine.proofs.ChoiceLaws.{choice-place, choice-stops, choice-passable, chosen-ready, choice-past, choice-returns}
+use Rattle.machine.proofs.BlockRunLaws.{going-ends, going-drops, turn-ready, going-stops, going-goes, going-enters, block-ready, block-ending, block-returns}
 use Rattle.machine.proofs.WrapLaws.{inmost-ready, inmost-returns, Inwards, Outwards, inwards-starts, inwards-here, inwards-room, inwards-level, inwards-goes, outwards-starts, outwards-ends, outwards-after, outwards-goes}
 use borrow.Author.Needs.{needs}
 use native.Mathlib.Omega.{arith}
-use mathlib.Core.Path.{refl, sym, ap, _∙_}
-use Prim.Native.Nat.{ℕ, _+_, _-_, _*_, _<_}
-use borrow.Fn.Kinds.{In}
-use borrow.Fn.PlainCycle.{Measures, is, falls, and}
+use mathlib.Core.Path.{sym, ap, _∙_}
+use Prim.Native.Nat.{ℕ, _-_}
 use Rattle.machine.proofs.terms.run_block.Reads as run-block
-use Rattle.machine.proofs.terms.run_block.Kinds as run-block-kinds
 use Rattle.machine.proofs.terms.+run_block+run_choice+run_inmost+run_term.Lts-run_block as run-block-lts
 use Rattle.machine.proofs.terms.run_choice.Reads as run-choice
-use Rattle.machine.proofs.terms.run_choice.Kinds as run-choice-kinds
 use Rattle.machine.proofs.terms.+run_block+run_choice+run_inmost+run_term.Lts-run_choice as run-choice-lts
 use Rattle.machine.proofs.terms.run_inmost.Reads as run-inmost
-use Rattle.machine.proofs.terms.run_inmost.Kinds as run-inmost-kinds
 use Rattle.machine.proofs.terms.+run_block+run_choice+run_inmost+run_term.Lts-run_inmost as run-inmost-lts
 use Rattle.machine.proofs.terms.run_term.Reads as run-term
-use Rattle.machine.proofs.terms.run_term.Kinds as run-term-kinds
 use Rattle.machine.proofs.terms.+run_block+run_choice+run_inmost+run_term.Lts-run_term as run-term-lts
-use Rattle.machine.proofs.around.close_block.Reads as close-block-reads
-use Rattle.machine.proofs.around.entered.Reads as entered-reads
-use Rattle.machine.proofs.around.without_value.Reads as without-value-reads
-use Rattle.machine.proofs.drops.drop_any.Reads as drop-any-reads
-use Rattle.machine.proofs.plain.run_number.Reads as run-number-reads
-use Rattle.machine.proofs.skip.chosen.Reads as chosen-reads
-use Rattle.machine.proofs.skip.past_choice.Reads as past-choice-reads
-use Rattle.reader.proofs.fields.field_at.Reads as field-at-reads
-use Rattle.reader.proofs.fields.index_at.Reads as index-at-reads
-use Rattle.reader.proofs.fields.index_of.Reads as index-of-reads
-use Rattle.machine.proofs.terms.run_after.Reads as run-after-reads
-use Rattle.machine.proofs.terms.run_plain.Reads as run-plain-reads
-use Rattle.reader.proofs.kinds.wraps.Reads as wraps-reads
 use Rattle.machine.proofs.terms.+run_block+run_choice+run_inmost+run_term.{statement}
 use Rattle.machine.proofs.terms.+run_block+run_choice+run_inmost+run_term.Tie.{close}
-
-abbrev μ-run-block : Measures 4 run-block-kinds.ps ℕ
-μ-run-block κs a = a .1 .1 .1 .0 * 4 + 3
-
-abbrev μ-run-choice : Measures 4 run-choice-kinds.ps ℕ
-μ-run-choice κs a = a .1 .1 .1 .0 * 4
-
-abbrev μ-run-inmost : Measures 4 run-inmost-kinds.ps ℕ
-μ-run-inmost κs a = a .1 .1 .1 .0 * 4 + 1
-
-abbrev μ-run-term : Measures 4 run-term-kinds.ps ℕ
-μ-run-term κs a = a .1 .1 .1 .0 * 4 + 2
-
-abbrev run-block-at : ℕ → In 4 run-block-kinds.ps
-run-block-at t = and 4 run-block-kinds.ps (is 4 run-block-kinds.ps μ-run-block t) run-block.Pre
-
-abbrev run-block-below : ℕ → In 4 run-block-kinds.ps
-run-block-below t =
-    and 4 run-block-kinds.ps (falls 4 run-block-kinds.ps _<_ μ-run-block t) run-block.Pre
-
-abbrev run-choice-at : ℕ → In 4 run-choice-kinds.ps
-run-choice-at t =
-    and 4 run-choice-kinds.ps (is 4 run-choice-kinds.ps μ-run-choice t) run-choice.Pre
-
-abbrev run-choice-below : ℕ → In 4 run-choice-kinds.ps
-run-choice-below t =
-    and 4 run-choice-kinds.ps (falls 4 run-choice-kinds.ps _<_ μ-run-choice t) run-choice.Pre
-
-abbrev run-inmost-at : ℕ → In 4 run-inmost-kinds.ps
-run-inmost-at t =
-    and 4 run-inmost-kinds.ps (is 4 run-inmost-kinds.ps μ-run-inmost t) run-inmost.Pre
-
-abbrev run-inmost-below : ℕ → In 4 run-inmost-kinds.ps
-run-inmost-below t =
-    and 4 run-inmost-kinds.ps (falls 4 run-inmost-kinds.ps _<_ μ-run-inmost t) run-inmost.Pre
-
-abbrev run-term-at : ℕ → In 4 run-term-kinds.ps
-run-term-at t = and 4 run-term-kinds.ps (is 4 run-term-kinds.ps μ-run-term t) run-term.Pre
-
-abbrev run-term-below : ℕ → In 4 run-term-kinds.ps
-run-term-below t =
-    and 4 run-term-kinds.ps (falls 4 run-term-kinds.ps _<_ μ-run-term t) run-term.Pre
-
-abbrev run-block-Inv-loop : run-block-lts.InvT-loop
-run-block-Inv-loop sizes rows block levels readings store₀ opened₀ count taken left₀ at₀ store opened left at = Going (unpacked sizes) rows block levels readings store₀ opened₀ count taken store opened left at
-
-abbrev run-block-μ-loop : run-block-lts.MeasureT-loop
-run-block-μ-loop sizes rows block levels readings store₀ opened₀ count taken left₀ at₀ store opened left at = left
-
-abbrev run-block-claims : ℕ → run-block-lts.Claims
-run-block-claims t = (field-at-reads.Asked, field-at-reads.Learnt, index-of-reads.Asked, index-of-reads.Learnt, entered-reads.Asked, entered-reads.Learnt, drop-any-reads.Asked, drop-any-reads.Learnt, without-value-reads.Asked, without-value-reads.Learnt, run-term-below t, run-term.Post)
-
-abbrev run-choice-claims : ℕ → run-choice-lts.Claims
-run-choice-claims t = (index-at-reads.Asked, index-at-reads.Learnt, run-number-reads.Asked, run-number-reads.Learnt, entered-reads.Asked, entered-reads.Learnt, without-value-reads.Asked, without-value-reads.Learnt, chosen-reads.Asked, chosen-reads.Learnt, run-inmost-below t, run-inmost.Post, past-choice-reads.Asked, past-choice-reads.Learnt)
-
-abbrev run-inmost-claims : ℕ → run-inmost-lts.Claims
-run-inmost-claims t = (field-at-reads.Asked, field-at-reads.Learnt, run-block-below t, run-block.Post, close-block-reads.Asked, close-block-reads.Learnt, run-choice-below t, run-choice.Post, run-plain-reads.Asked, run-plain-reads.Learnt)
-
-abbrev run-term-claims : ℕ → run-term-lts.Claims
-run-term-claims t = (field-at-reads.Asked, field-at-reads.Learnt, wraps-reads.Asked, wraps-reads.Learnt, run-inmost-below t, run-inmost.Post, run-after-reads.Asked, run-after-reads.Learnt)
 
 run-block-field-at-requires : (t : ℕ) → run-block-lts.Need-field-at-requires (run-block-claims t) (run-block-at t) run-block.Post run-block-Inv-loop run-block-μ-loop
 unfolding rowNumbers
@@ -199,81 +123,6 @@ run-block-same-length-6 t c =
 
 run-block-returns-3 : (t : ℕ) → run-block-lts.Need-returns-3 (run-block-claims t) (run-block-at t) run-block.Post run-block-Inv-loop run-block-μ-loop
 run-block-returns-3 t c = going-ends _ _ _ _ _ _ _ _ _ _ _ _ _ (c .before .loop .inv) (c .loop-test .left)
-
-run-choice-index-at-requires : (t : ℕ) → run-choice-lts.Need-index-at-requires (run-choice-claims t) (run-choice-at t) run-choice.Post
-run-choice-index-at-requires t c κs = (has-room _ _ _ _ (c .before .before .before .before .pre .1 .0 .is), omega arith)
-
-run-choice-index-at-requires-2 : (t : ℕ) → run-choice-lts.Need-index-at-requires-2 (run-choice-claims t) (run-choice-at t) run-choice.Post
-run-choice-index-at-requires-2 t c κs = (has-room _ _ _ _ (c .before .before .before .before .before .pre .1 .0 .is), omega arith)
-
-run-choice-run-number-requires : (t : ℕ) → run-choice-lts.Need-run-number-requires (run-choice-claims t) (run-choice-at t) run-choice.Post
-run-choice-run-number-requires t c κs =
-    let at-index-at = c .before in
-    let start = at-index-at .before .before .before .before .before in
-    rw (at-index-at .index-at .ensures) (choice-place _ _ _ _ _ _ _ _ _ (start .pre .1 .0) (start .pre .1 .1))
-
-run-choice-entered-requires : (t : ℕ) → run-choice-lts.Need-entered-requires (run-choice-claims t) (run-choice-at t) run-choice.Post
-unfolding rowNumbers
-run-choice-entered-requires t c κs =
-    let start = c .before .before .before .before .before .before .before .before .before in
-    omega (arith, has-room _ _ _ _ (start .pre .1 .0 .is), start .pre .1 .0 .ready .long)
-
-run-choice-without-value-requires : (t : ℕ) → run-choice-lts.Need-without-value-requires (run-choice-claims t) (run-choice-at t) run-choice.Post
-run-choice-without-value-requires t c κs = search needs
-
-run-choice-same-length : (t : ℕ) → run-choice-lts.Need-same-length (run-choice-claims t) (run-choice-at t) run-choice.Post
-run-choice-same-length t c = search needs
-
-run-choice-returns : (t : ℕ) → run-choice-lts.Need-returns (run-choice-claims t) (run-choice-at t) run-choice.Post
-run-choice-returns t c =
-    let at-entered = c .before in
-    let at-if1 = at-entered .before in
-    let at-run-number = at-if1 .before .before in
-    let at-index-at2 = at-run-number .before in
-    let at-index-at = at-index-at2 .before in
-    let start = at-index-at .before .before .before .before .before in
-    choice-stops _ _ _ _ _ _ _ _ _ (start .pre .1 .0) (start .pre .1 .1) _ _ (at-index-at .index-at .ensures) (at-index-at2 .index-at2 .ensures) _ (at-run-number .run-number .ensures) (at-if1 .if1 .taken) _ _ (at-entered .entered .ensures) (c .without-value .ensures)
-
-run-choice-chosen-requires : (t : ℕ) → run-choice-lts.Need-chosen-requires (run-choice-claims t) (run-choice-at t) run-choice.Post
-run-choice-chosen-requires t c κs =
-    let start = c .before .before .before .before .before .before .before .before .before in
-    choice-passable _ _ _ _ _ _ _ _ _ (start .pre .1 .0) (start .pre .1 .1)
-
-run-choice-sub-run-inmost : (t : ℕ) → run-choice-lts.Need-sub-run-inmost (run-choice-claims t) (run-choice-at t) run-choice.Post
-run-choice-sub-run-inmost t c = omega (arith, has-level _ _ _ _ (c .before .before .before .before .before .before .before .before .before .before .pre .1 .0 .is))
-
-run-choice-run-inmost-requires : (t : ℕ) → run-choice-lts.Need-run-inmost-requires (run-choice-claims t) (run-choice-at t) run-choice.Post
-run-choice-run-inmost-requires t c κs =
-    let at-chosen = c .before .before in
-    let start = at-chosen .before .before .before .before .before .before .before .before .before .before in
-    (omega (arith, start .pre .0, has-level _ _ _ _ (start .pre .1 .0 .is)), chosen-ready _ _ _ _ _ _ _ _ _ (start .pre .1 .0) (start .pre .1 .1) _ _ (at-chosen .chosen .ensures))
-
-run-choice-past-choice-requires : (t : ℕ) → run-choice-lts.Need-past-choice-requires (run-choice-claims t) (run-choice-at t) run-choice.Post
-run-choice-past-choice-requires t c κs =
-    let at-run-inmost = c .before .before .before .before in
-    let at-chosen = at-run-inmost .before .before .before in
-    let start = at-chosen .before .before .before .before .before .before .before .before .before .before in
-    choice-past _ _ _ _ _ _ _ _ _ (start .pre .1 .0) (start .pre .1 .1) _ _ _ _ _ (at-chosen .chosen .ensures) (at-run-inmost .run-inmost .ensures)
-
-run-choice-same-length-2 : (t : ℕ) → run-choice-lts.Need-same-length-2 (run-choice-claims t) (run-choice-at t) run-choice.Post
-run-choice-same-length-2 t c =
-    let at-run-inmost = c .before .before .before .before .before in
-    let start = at-run-inmost .before .before .before .before .before .before .before .before .before .before .before .before .before in
-    at-run-inmost .run-inmost .ensures .tidy .long ∙ sym (start .pre .1 .0 .ready .tidy .long)
-
-run-choice-same-length-3 : (t : ℕ) → run-choice-lts.Need-same-length-3 (run-choice-claims t) (run-choice-at t) run-choice.Post
-run-choice-same-length-3 t c = c .before .before .before .before .before .run-inmost .kept .1 .1 .1 .1 .1 .1 .0
-
-run-choice-returns-2 : (t : ℕ) → run-choice-lts.Need-returns-2 (run-choice-claims t) (run-choice-at t) run-choice.Post
-run-choice-returns-2 t c =
-    let at-run-inmost = c .before .before .before .before .before in
-    let at-chosen = at-run-inmost .before .before .before in
-    let at-if1 = at-chosen .before in
-    let at-run-number = at-if1 .before .before in
-    let at-index-at2 = at-run-number .before in
-    let at-index-at = at-index-at2 .before in
-    let start = at-index-at .before .before .before .before .before in
-    choice-returns _ _ _ _ _ _ _ _ _ (start .pre .1 .0) (start .pre .1 .1) _ _ _ _ _ (at-chosen .chosen .ensures) (at-run-inmost .run-inmost .ensures) _ _ (at-index-at .index-at .ensures) (at-index-at2 .index-at2 .ensures) _ (at-run-number .run-number .ensures) (at-if1 .if1 .left) refl _ (c .past-choice .ensures)
 
 run-inmost-field-at-requires : (t : ℕ) → run-inmost-lts.Need-field-at-requires (run-inmost-claims t) (run-inmost-at t) run-inmost.Post
 run-inmost-field-at-requires t c κs = (has-room _ _ _ _ (c .before .before .before .pre .1 .0 .is), omega arith)
