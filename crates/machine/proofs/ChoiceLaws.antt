@@ -3,12 +3,10 @@ use Prim.Native.Nat.{ℕ, _+_, _-_, _≤_, _<_}
 use native.Mathlib.Omega.{arith}
 use native.Mathlib.Decide.{ℕ-discrete}
 use mathlib.Core.Path.{_≡_, sym, ap, subst, _∙_}
-use mathlib.Core.Bool.{false}
 use mathlib.Core.List.{List}
 use lib.IntN.{ℤ}
 use borrow.Author.Tests.{eq-eqb, ne-eqb}
 use Rattle.reader.specs.Limits.{Limits, rowNumbers}
-use Rattle.reader.specs.Kinds.{wrapsOf, byteOf}
 use Rattle.reader.specs.Result.{ok, err, _>>=_}
 use Rattle.reader.specs.Script.{Term, block, choice}
 use Rattle.reader.specs.Measures.{boxesIn}
@@ -119,17 +117,15 @@ module _ (set : Limits) where
     cells = rw (shape .is, shape .first .is, shape .second .is)
 
     abbrev RunsAt : ℕ → Type 0
-    RunsAt j = TermReady set rows j (levels - 1) readings w opened n taken × (wrapsOf (fieldAt rows j 0) ≡ false)
+    RunsAt j = TermReady set rows j (levels - 1) readings w opened n taken × (fieldAt rows j 0 ≡ 11)
 
     first-ready : RunsAt (i + 1)
-    unfolding wrapsOf byteOf
-    first-ready = (record { ready = later-ready (i + 1) (omega arith) (g .ready); is = tree-some _ (shape .first .is); cells = omega (arith, g .cells, cells) }, rw (shape .first .kind))
+    first-ready = (record { ready = later-ready (i + 1) (omega arith) (g .ready); is = tree-some _ (shape .first .is); cells = omega (arith, g .cells, cells) }, shape .first .kind)
 
     second-ready : RunsAt (shape .first .end)
-    unfolding wrapsOf byteOf
     second-ready =
         let f = in-rows .first in
-        (record { ready = later-ready (shape .first .end) (omega arith) (g .ready); is = tree-some _ (shape .second .is); cells = omega (arith, g .cells, cells) }, rw (shape .second .kind))
+        (record { ready = later-ready (shape .first .end) (omega arith) (g .ready); is = tree-some _ (shape .second .is); cells = omega (arith, g .cells, cells) }, shape .second .kind)
 
     pub choice-passable : Passable rows (i + 1)
     choice-passable = record { set = set; levels = levels - 1; is = tree-some _ (shape .first .is) }

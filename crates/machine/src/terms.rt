@@ -77,7 +77,8 @@ fn run_after(
     }
 }
 
-// The choice at row i (LANGUAGE 4.23): the number at its place, then one of its two blocks; the other one is passed over.
+// The choice at row i (LANGUAGE 4.23): the number at its place, then one of its two blocks, as 4.17 says; the other one is
+// passed over. It does not run the block as a term, so that `run_inmost` is called in one place, and compiled into it.
 fn run_choice(
     sizes: usize,
     rows: &[u32],
@@ -97,17 +98,18 @@ fn run_choice(
         return without_value(entered(sizes, i, count, taken), held.fault, i);
     }
     let block = chosen(rows, i, held.payload);
-    let ran = run_inmost(
+    let inner = run_block(
         sizes,
         rows,
         block,
-        levels - 1,
+        levels - 1 - 1,
         readings,
         store,
         opened,
         count,
         taken,
     );
+    let ran = close_block(sizes, store, opened, block, count, inner);
     past_choice(rows, held.payload, ran)
 }
 

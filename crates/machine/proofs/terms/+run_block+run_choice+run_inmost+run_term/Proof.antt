@@ -2,7 +2,7 @@
 mod Cycle
 mod Choice
 use Rattle.machine.proofs.terms.+run_block+run_choice+run_inmost+run_term.Proof.Cycle.{μ-run-block, μ-run-choice, μ-run-inmost, μ-run-term, run-block-at, run-choice-at, run-inmost-at, run-term-at, run-block-Inv-loop, run-block-μ-loop, run-block-claims, run-choice-claims, run-inmost-claims, run-term-claims}
-use Rattle.machine.proofs.terms.+run_block+run_choice+run_inmost+run_term.Proof.Choice.{run-choice-index-at-requires, run-choice-index-at-requires-2, run-choice-run-number-requires, run-choice-entered-requires, run-choice-without-value-requires, run-choice-same-length, run-choice-returns, run-choice-chosen-requires, run-choice-sub-run-inmost, run-choice-run-inmost-requires, run-choice-past-choice-requires, run-choice-same-length-2, run-choice-same-length-3, run-choice-returns-2}
+use Rattle.machine.proofs.terms.+run_block+run_choice+run_inmost+run_term.Proof.Choice.{run-choice-index-at-requires, run-choice-index-at-requires-2, run-choice-run-number-requires, run-choice-entered-requires, run-choice-without-value-requires, run-choice-same-length, run-choice-returns, run-choice-chosen-requires, run-choice-sub-run-block, run-choice-sub-run-block-2, run-choice-run-block-requires, run-choice-close-block-requires, run-choice-past-choice-requires, run-choice-same-length-2, run-choice-same-length-3, run-choice-returns-2}
 use Rattle.reader.specs.Kinds.{wrapsOf}
 use Rattle.reader.specs.Limits.{rowNumbers, unpacked}
 use Rattle.reader.proofs.RowTreeLaws.{has-level, has-room}
@@ -340,8 +340,10 @@ pub +run-block+run-choice+run-inmost+run-term-spec : {M : Type 1} → statement 
     (run-choice-same-length t)
     (run-choice-returns t)
     (run-choice-chosen-requires t)
-    (run-choice-sub-run-inmost t)
-    (run-choice-run-inmost-requires t)
+    (run-choice-sub-run-block t)
+    (run-choice-sub-run-block-2 t)
+    (run-choice-run-block-requires t)
+    (run-choice-close-block-requires t)
     (run-choice-past-choice-requires t)
     (run-choice-same-length-2 t)
     (run-choice-same-length-3 t)

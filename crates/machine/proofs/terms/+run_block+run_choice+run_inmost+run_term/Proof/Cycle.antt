@@ -82,7 +82,7 @@ abbrev pub run-block-claims : ℕ → run-block-lts.Claims
 run-block-claims t = (field-at-reads.Asked, field-at-reads.Learnt, index-of-reads.Asked, index-of-reads.Learnt, entered-reads.Asked, entered-reads.Learnt, drop-any-reads.Asked, drop-any-reads.Learnt, without-value-reads.Asked, without-value-reads.Learnt, run-term-below t, run-term.Post)
 
 abbrev pub run-choice-claims : ℕ → run-choice-lts.Claims
-run-choice-claims t = (index-at-reads.Asked, index-at-reads.Learnt, run-number-reads.Asked, run-number-reads.Learnt, entered-reads.Asked, entered-reads.Learnt, without-value-reads.Asked, without-value-reads.Learnt, chosen-reads.Asked, chosen-reads.Learnt, run-inmost-below t, run-inmost.Post, past-choice-reads.Asked, past-choice-reads.Learnt)
+run-choice-claims t = (index-at-reads.Asked, index-at-reads.Learnt, run-number-reads.Asked, run-number-reads.Learnt, entered-reads.Asked, entered-reads.Learnt, without-value-reads.Asked, without-value-reads.Learnt, chosen-reads.Asked, chosen-reads.Learnt, run-block-below t, run-block.Post, close-block-reads.Asked, close-block-reads.Learnt, past-choice-reads.Asked, past-choice-reads.Learnt)
 
 abbrev pub run-inmost-claims : ℕ → run-inmost-lts.Claims
 run-inmost-claims t = (field-at-reads.Asked, field-at-reads.Learnt, run-block-below t, run-block.Post, close-block-reads.Asked, close-block-reads.Learnt, run-choice-below t, run-choice.Post, run-plain-reads.Asked, run-plain-reads.Learnt)
