@@ -1,4 +1,5 @@
-// Terms, choices and blocks, which call each other (LANGUAGE 4.9 to 4.17, 4.23). The store and the variables opened are lent down.
+// Terms, choices and blocks, which call each other (LANGUAGE 4.9 to 4.17, 4.23). The store and the variables opened are
+// lent down.
 ghost use mathlib.Core.Path.{_≡_};
 ghost use mathlib.Core.Bool.{false};
 ghost use Prim.Native.Nat.{_<_};
@@ -77,8 +78,8 @@ fn run_after(
     }
 }
 
-// The choice at row i (LANGUAGE 4.23): the number at its place, then one of its two blocks, as 4.17 says; the other one is
-// passed over. It does not run the block as a term, so that `run_inmost` is called in one place, and compiled into it.
+// The choice at row i (LANGUAGE 4.23): the number at its place, then one of its two blocks (4.17); the other is passed
+// over. It does not run the block as a term, so that `run_inmost` is called in one place, and compiled into it.
 fn run_choice(
     sizes: usize,
     rows: &[u32],
@@ -160,7 +161,8 @@ fn run_inmost(
 }
 
 // The term at row i, nested at most as deep as levels says, after `count` variables opened and so many cells taken:
-// the innermost term first, then what follows it, outwards (LANGUAGE 4.13 to 4.15). So calls nest for blocks and choices only.
+// the innermost term first, then what follows it, outwards (LANGUAGE 4.13 to 4.15). So calls nest for blocks and choices
+// only.
 fn run_term(
     sizes: usize,
     rows: &[u32],

@@ -1,4 +1,5 @@
--- The terms, choices and blocks of a run call each other: how deep each of them may still go, and what each may rely on when it calls another. The measure is four times the levels left, and more by one for an innermost term, by two for a term and by three for a block.
+-- The terms, choices and blocks of a run call each other: how deep each of them may still go, and what each may rely on when it calls
+-- another. The measure is four times the levels left, and more by one for an innermost term, by two for a term and by three for a block.
 use Rattle.reader.specs.Limits.{unpacked}
 use Rattle.machine.proofs.BlockRunLaws.{Going}
 use Prim.Native.Nat.{ℕ, _+_, _*_, _<_}
