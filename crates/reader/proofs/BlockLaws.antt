@@ -80,15 +80,22 @@ module _ (inner : Reads Term) where
   rest-refused zero s e h = stops inner _ s e h
   rest-refused (suc n) s e h = stops inner _ s e h
 
-  -- A block of one term reads as the term.
-  pub one-reading : (s : Cursor) (n : ℕ) (before after : List ℕ) (r : Got) → Reading (lays inRows) (several inner 0 s) n before after r → Reading (lay inRows) (inner s) n before after r
-  unfolding several gotOf RowsAfter lays done
-  one-reading s n before after r q = go (inner s) refl
-    where
-      go : (o : Result Refusal (Term × Cursor)) → inner s ≡ o → Reading (lay inRows) o n before after r
-      go (ok o) e =
-          let w : several inner 0 s ≡ ok (last (o .0), o .1) = go-on inner _ s (o .1) (o .0) _ e refl in
-          rw w at q
-      go (err o) e =
-          let w : several inner 0 s ≡ err o = stops inner _ s o e in
-          rw w at q
+  -- A block of one term reads as the term, and the term as the block.
+  module _ (s : Cursor) (n : ℕ) (before after : List ℕ) (r : Got) where
+    abbrev Alone : Type 0
+    Alone = Reading (lays inRows) (several inner 0 s) n before after r
+
+    one-both : (o : Result Refusal (Term × Cursor)) → inner s ≡ o → (Alone → Reading (lay inRows) o n before after r) × (Reading (lay inRows) o n before after r → Alone)
+    unfolding several gotOf RowsAfter lays done
+    one-both (ok o) e =
+        let w : several inner 0 s ≡ ok (last (o .0), o .1) = go-on inner _ s (o .1) (o .0) _ e refl in
+        (λ q. rw w at q, λ q. rw w q)
+    one-both (err o) e =
+        let w : several inner 0 s ≡ err o = stops inner _ s o e in
+        (λ q. rw w at q, λ q. rw w q)
+
+    pub one-reading : Reading (lays inRows) (several inner 0 s) n before after r → Reading (lay inRows) (inner s) n before after r
+    one-reading q = one-both (inner s) refl .0 q
+
+    pub reading-one : Reading (lay inRows) (inner s) n before after r → Reading (lays inRows) (several inner 0 s) n before after r
+    reading-one q = one-both (inner s) refl .1 q

@@ -6,11 +6,11 @@ use mathlib.Core.Bool.{Bool, true, false, false≢true, _&&_}
 use mathlib.Core.Logic.{_⊎_, ⊎-elim}
 use mathlib.Core.Option.{Option, none, some}
 use mathlib.Core.List.{[]}
-use lib.Dec.{leb, ltb, eqb}
-use borrow.Author.Tests.{le-leb, leb-true, ltb-true, eqb-true}
+use lib.Dec.{leb, ltb}
+use borrow.Author.Tests.{le-leb, leb-true, leb-false, ltb-true}
 use Rattle.reader.specs.Result.{pick}
 use Rattle.reader.specs.Limits.{Limits}
-use Rattle.reader.specs.Kinds.{Kind, kNumber, kReading, kCopy, kMove, kShared, kExclusive, kBox, kLet, kAssign, kBelow, kBlock, kSum, byteOf, newest, kinds, among, kindOf, addedIn, fields}
+use Rattle.reader.specs.Kinds.{Kind, kNumber, kReading, kCopy, kMove, kShared, kExclusive, kBox, kLet, kAssign, kBelow, kBlock, kChoice, kSum, byteOf, newest, kinds, among, kindOf, addedIn, fields}
 use Rattle.reader.specs.Parts.{knownIn, IsKind, fieldsIn, fieldsOf}
 use Rattle.reader.specs.Parts.{placeFields}
 use Rattle.reader.specs.ByteParts.{wordField, oneField, twoPlaceFields}
@@ -31,6 +31,7 @@ known-byte v kLet h = refl
 known-byte v kAssign h = refl
 known-byte v kBelow h = refl
 known-byte v kBlock h = refl
+known-byte v kChoice h = le-leb 2 v h
 known-byte v kSum h = le-leb 2 v h
 
 module _ (b : ℕ) where
@@ -48,19 +49,19 @@ module _ (b : ℕ) where
           let m = no-byte e in
           let low : 5 < b = omega (arith, m kNumber, m kReading, m kCopy, m kMove, m kShared) in
           let high : 11 < b = omega (arith, m kExclusive, m kBox, m kLet, m kAssign, m kBelow, m kBlock) in
-          absurd (omega (arith, m kSum, h .2))
+          absurd (omega (arith, m kChoice, m kSum, h .1))
 
   -- What a byte in its range says.
-  pub known-is : (v : ℕ) → knownIn v b ≡ true → IsKind b × (b ≡ 13 → 2 ≤ v)
+  pub known-is : (v : ℕ) → knownIn v b ≡ true → IsKind b × (11 < b → 2 ≤ v)
   unfolding knownIn
   known-is v h = go (leb b 11) refl h
     where
-      go : (t : Bool) → leb b 11 ≡ t → pick t (ltb 0 b) (eqb b 13 && leb 2 v) ≡ true → IsKind b × (b ≡ 13 → 2 ≤ v)
-      go true e q = let n = leb-true b 11 e in ((ltb-true 0 b q, omega arith, λ z. omega arith), λ z. omega arith)
+      go : (t : Bool) → leb b 11 ≡ t → pick t (ltb 0 b) (leb b 13 && leb 2 v) ≡ true → IsKind b × (11 < b → 2 ≤ v)
+      go true e q = let n = leb-true b 11 e in ((ltb-true 0 b q, omega arith), λ z. omega arith)
       go false e q =
-          let a = both (eqb b 13) (leb 2 v) q in
-          let n : b ≡ 13 = eqb-true b 13 (a .0) in
-          ((omega arith, omega arith, λ z. omega arith), λ z. leb-true 2 v (a .1))
+          let a = both (leb b 13) (leb 2 v) q in
+          let n = leb-false b 11 e in
+          ((omega arith, leb-true b 13 (a .0)), λ z. leb-true 2 v (a .1))
 
   pub known-some : (v : ℕ) → knownIn v b ≡ true → (k : Kind) × (kindOf v b ≡ some k)
   unfolding byteOf addedIn
@@ -68,9 +69,9 @@ module _ (b : ℕ) where
       let i = known-is v h in
       let o = kind-some (i .0) in
       let e = found newest b (o .0) (o .1) in
-      (o .0, sym (ap (kindOf v) e) ∙ has v (o .0) (added (o .0) (λ z. i .1 (sym e ∙ z))))
+      (o .0, sym (ap (kindOf v) e) ∙ has v (o .0) (added (o .0) (λ z. i .1 (omega arith))))
     where
-      added : (k : Kind) → (byteOf k ≡ 13 → 2 ≤ v) → addedIn k ≤ v
+      added : (k : Kind) → (11 < byteOf k → 2 ≤ v) → addedIn k ≤ v
       added kNumber f = omega arith
       added kReading f = omega arith
       added kCopy f = omega arith
@@ -82,7 +83,8 @@ module _ (b : ℕ) where
       added kAssign f = omega arith
       added kBelow f = omega arith
       added kBlock f = omega arith
-      added kSum f = f refl
+      added kChoice f = f (omega arith)
+      added kSum f = f (omega arith)
 
   pub known-none : (v : ℕ) → knownIn v b ≡ false → kindOf v b ≡ none
   known-none v h = go (kindOf v b) refl
@@ -141,6 +143,7 @@ module _ (b : ℕ) (not-1 : b ≡ 1 → ⊥) (not-2 : b ≡ 2 → ⊥) (not-7 : 
   place-kind l kAssign e = refl
   place-kind l kBelow e = absurd (not-10 (sym e))
   place-kind l kBlock e = absurd (not-11 (sym e))
+  place-kind l kChoice e = refl
   place-kind l kSum e = absurd (not-13 (sym e))
 
   pub fields-place : (l : Limits) → IsKind b → fieldsOf l b ≡ placeFields (l .variables)

@@ -4,6 +4,7 @@ pub mod KindBytes
 pub mod TermSteps
 pub mod Parts
 pub mod Building
+pub mod Branches
 pub mod HeadSound
 pub mod Sound
 pub mod HeadBack
@@ -23,6 +24,7 @@ pub mod MoreLimits
 pub mod RoundTrip
 pub mod View
 pub mod LoopLaws
+pub mod BranchLoop
 pub mod TermLoop
 pub mod ClearLaws
 pub mod ScriptLaws
@@ -30,7 +32,7 @@ pub mod NumberLaws
 pub mod WholeLaws
 pub mod KnownKinds
 pub mod ByteLaws
-pub mod OutermostBytes
+pub mod DueBlockBytes
 pub mod ReadLaws
 pub mod OutputLaws
 pub mod OutputTrees
@@ -43,7 +45,7 @@ pub mod ChoiceRows
 pub mod RowFields
 pub mod RowTerms
 pub mod RowSpans
-pub mod Outermost
+pub mod DueBlock
 pub mod LeftOver
 pub mod RowsJudged
 pub mod Promise

@@ -4,11 +4,11 @@ use native.Mathlib.Omega.{arith}
 use native.Mathlib.Nat.{mod-eq-of-lt, suc-add, add-assoc, add-zero}
 use native.Mathlib.Numerals.{one-add}
 use mathlib.Core.Path.{_≡_, sym, ap, ap₂, _∙_}
-use mathlib.Core.List.{List, _∷_, _++_, append-nil, append-assoc}
+use mathlib.Core.List.{List, [], _∷_, _++_, append-nil, append-assoc}
 use Rattle.reader.specs.Limits.{Limits}
-use Rattle.reader.specs.Script.{Term, Terms, number, reading, copy, move, borrowShared, borrowExclusive, box, declare, assign, below, block, sum, last, more}
-use Rattle.reader.specs.Kinds.{newest, byteOf, fields}
-use Rattle.reader.specs.Layout.{inBytes, inRows, zeros, wordOf, unused, head, others, lay, lays, bytesOf, rowsOf}
+use Rattle.reader.specs.Script.{Term, Terms, number, reading, copy, move, borrowShared, borrowExclusive, box, declare, assign, below, block, choice, sum, last, more}
+use Rattle.reader.specs.Kinds.{kBlock, newest, byteOf, fields}
+use Rattle.reader.specs.Layout.{Form, inBytes, inRows, zeros, wordOf, unused, head, others, lay, lays, bytesOf, rowsOf}
 use Rattle.reader.specs.Measures.{size, sizes}
 use Rattle.reader.specs.Within.{Formed, FormedAll, Within}
 use Rattle.reader.specs.OutputParts.{rowBytes, bytesAt, flat, scriptFrom}
@@ -16,6 +16,14 @@ use Rattle.reader.specs.OutputParts.{rowBytes, bytesAt, flat, scriptFrom
 -- An operand in its range is a byte.
 byte : (x : ℕ) → x < 256 → x % 256 ≡ x
 byte x h = mod-eq-of-lt h
+
+-- A block's own row and the rows of its terms.
+abbrev blockOf : Form → Terms → List ℕ
+blockOf w ts = head w kBlock (suc (others ts) ∷ []) ++ lays w ts
+
+flat-block : (ts : Terms) → suc (others ts) < 256 → (n : ℕ) (rest : List ℕ) → flat (sizes ts + n) (lays inRows ts ++ rest) ≡ lays inBytes ts ++ flat n rest → flat (suc (sizes ts) + n) (blockOf inRows ts ++ rest) ≡ blockOf inBytes ts ++ flat n rest
+unfolding flat bytesAt rowBytes head byteOf unused zeros
+flat-block ts h n rest e = rw (suc-add, byte (suc (others ts)) h) (ap (λ (x : List ℕ). 11 ∷ suc (others ts) ∷ x) e)
 
 module _ (l : Limits) (few : l .variables ≤ 256) where
   -- The rows of a term, with n more rows after them.
@@ -37,8 +45,12 @@ module _ (l : Limits) (few : l .variables ≤ 256) where
         rw (one-add, byte (p .root) (omega arith), byte (p .follows) (omega arith), byte (q .root) (omega arith), byte (q .follows) (omega arith))
     flat-term i (sum j p q) n rest f =
         rw (one-add, byte (p .root) (omega arith), byte (p .follows) (omega arith), byte (q .root) (omega arith), byte (q .follows) (omega arith))
-    flat-term i (block j ts) n rest f =
-        rw (suc-add, byte (suc (others ts)) (omega arith)) (ap (λ (x : List ℕ). 11 ∷ suc (others ts) ∷ x) (flat-terms (suc i) ts n rest (f .2)))
+    flat-term i (block j ts) n rest f = flat-block ts (f .1 .0 .1) n rest (flat-terms (suc i) ts n rest (f .2))
+    flat-term i (choice m p j us k vs) n rest f =
+        rw (suc-add (suc (sizes us) + suc (sizes vs)), byte (p .root) (omega arith), byte (p .follows) (omega arith), add-assoc (suc (sizes us)), append-assoc (blockOf inRows us), append-assoc (blockOf inBytes us))
+        (ap (λ (x : List ℕ). 12 ∷ p .root ∷ p .follows ∷ x)
+        (flat-block us (f .2 .1 .0 .1) (suc (sizes vs) + n) (blockOf inRows vs ++ rest) (flat-terms (suc (suc i)) us (suc (sizes vs) + n) (blockOf inRows vs ++ rest) (f .2 .2))
+        ∙ ap (λ (x : List ℕ). blockOf inBytes us ++ x) (flat-block vs (f .3 .1 .0 .1) n rest (flat-terms (suc (suc i + suc (sizes us))) vs n rest (f .3 .2)))))
 
     flat-terms : (i : ℕ) (ts : Terms) (n : ℕ) (rest : List ℕ) → FormedAll l i ts → flat (sizes ts + n) (lays inRows ts ++ rest) ≡ lays inBytes ts ++ flat n rest
     flat-terms i (last t) n rest f = flat-term i t n rest f

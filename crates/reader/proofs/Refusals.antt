@@ -9,7 +9,7 @@ use lib.ListN.{length}
 use lib.Dec.{ltb}
 use Rattle.reader.specs.Result.{pick}
 use Rattle.reader.specs.Limits.{Limits}
-use Rattle.reader.specs.Kinds.{Kind, kNumber, kReading, kCopy, kMove, kShared, kExclusive, kBox, kLet, kAssign, kBelow, kBlock, kSum, newest, knows, kindOf, Field, word, until, fields}
+use Rattle.reader.specs.Kinds.{Kind, kNumber, kReading, kCopy, kMove, kShared, kExclusive, kBox, kLet, kAssign, kBelow, kBlock, kChoice, kSum, newest, knows, kindOf, Field, word, until, fields}
 use Rattle.reader.specs.Parts.{fieldsIn, fieldsOf}
 use Rattle.reader.specs.ByteParts.{fieldNumber, markNumber, onNumber, judgedFields, versionAt, leadJudged}
 use Rattle.reader.specs.declared.operands.Fields.{Fields}
@@ -49,6 +49,7 @@ few-fields l (some kLet) = omega arith
 few-fields l (some kAssign) = omega arith
 few-fields l (some kBelow) = omega arith
 few-fields l (some kBlock) = omega arith
+few-fields l (some kChoice) = omega arith
 few-fields l (some kSum) = omega arith
 
 pub operands-near : (l : Limits) (kind : ℕ) (t : List ℕ) (at n p : ℕ) → judgedFields (fieldsOf l kind) t at 1 ≡ found.Refused n p → at + length t ≤ 32768 → p ≤ 33000

@@ -14,17 +14,18 @@ use borrow.Author.Tests.{leb-true, ne-eqb}
 use Rattle.reader.specs.Result.{Result, ok, err, Refusal, pick}
 use Rattle.reader.specs.Limits.{Limits}
 use Rattle.reader.specs.Script.{Term, Terms, number}
-use Rattle.reader.specs.Kinds.{Kind, kNumber, kReading, kCopy, kMove, kShared, kExclusive, kBox, kLet, kAssign, kBelow, kBlock, kSum, byteOf, addedIn, kindOf, fields}
+use Rattle.reader.specs.Kinds.{Kind, kNumber, kReading, kCopy, kMove, kShared, kExclusive, kBox, kLet, kAssign, kBelow, kBlock, kChoice, kSum, byteOf, addedIn, kindOf, fields}
 use Rattle.reader.specs.Layout.{inRows, lay}
 use Rattle.reader.specs.Reader.{Cursor, Reads, done, boxesOf, several, built, term}
 use Rattle.reader.specs.Measures.{size}
 use Rattle.reader.specs.Within.{Under}
 use Rattle.reader.specs.Parts.{cursor, boxesWith}
-use Rattle.reader.specs.RowParts.{fieldAt, fieldsAt, fieldFits, fieldsFit, rowNumber, RowsReady, rowCursor, termRows, blockRows, Span, Fine, Refused, spanOf}
+use Rattle.reader.specs.RowParts.{fieldAt, fieldsAt, fieldFits, fieldsFit, rowNumber, RowsReady, rowCursor, termRows, blockRows, branchRows, Span, Fine, Refused, spanOf}
 use Rattle.reader.proofs.Answers.{go-on, stops}
 use Rattle.reader.proofs.KindBytes.{has, found}
-use Rattle.reader.proofs.TermLaws.{around-kind}
+use Rattle.reader.proofs.TermLaws.{around-kind, choice-kind}
 use Rattle.reader.proofs.TermSteps.{Leaf, leafNumber, leafReading, leafCopy, leafMove, leafShared, leafExclusive, leafBelow, leafSum, Around, leaf-ok, around-err, around-ok, block-err, block-ok}
+use Rattle.reader.proofs.Branches.{branches-err, branches-ok}
 use Rattle.reader.proofs.Lengths.{laid-rows}
 use Rattle.reader.proofs.Sound.{sound}
 use Rattle.reader.proofs.RowTerms.{boxes-of, Enters, Judges, row-judged}
@@ -51,20 +52,21 @@ fine-of (ok o) n b h = record { value = o .0; to = o .1; is = refl; terms = cc; 
 fine-of (err e) n b h = let z : _≡_ {A = ℕ} 0 1 = cc in absurd (omega arith)
 
 -- Kinds by their byte.
-leaf-of : (k : Kind) → (byteOf k ≡ 7 → ⊥) → (byteOf k ≡ 8 → ⊥) → (byteOf k ≡ 9 → ⊥) → (byteOf k ≡ 11 → ⊥) → Leaf k
+leaf-of : (k : Kind) → (byteOf k ≡ 7 → ⊥) → (byteOf k ≡ 8 → ⊥) → (byteOf k ≡ 9 → ⊥) → (byteOf k ≡ 11 → ⊥) → (byteOf k ≡ 12 → ⊥) → Leaf k
 unfolding byteOf
-leaf-of kNumber a b c d = leafNumber
-leaf-of kReading a b c d = leafReading
-leaf-of kCopy a b c d = leafCopy
-leaf-of kMove a b c d = leafMove
-leaf-of kShared a b c d = leafShared
-leaf-of kExclusive a b c d = leafExclusive
-leaf-of kBox a b c d = absurd (a refl)
-leaf-of kLet a b c d = absurd (b refl)
-leaf-of kAssign a b c d = absurd (c refl)
-leaf-of kBelow a b c d = leafBelow
-leaf-of kBlock a b c d = absurd (d refl)
-leaf-of kSum a b c d = leafSum
+leaf-of kNumber a b c d e = leafNumber
+leaf-of kReading a b c d e = leafReading
+leaf-of kCopy a b c d e = leafCopy
+leaf-of kMove a b c d e = leafMove
+leaf-of kShared a b c d e = leafShared
+leaf-of kExclusive a b c d e = leafExclusive
+leaf-of kBox a b c d e = absurd (a refl)
+leaf-of kLet a b c d e = absurd (b refl)
+leaf-of kAssign a b c d e = absurd (c refl)
+leaf-of kBelow a b c d e = leafBelow
+leaf-of kBlock a b c d e = absurd (d refl)
+leaf-of kChoice a b c d e = absurd (e refl)
+leaf-of kSum a b c d e = leafSum
 
 -- A term around another has its span.
 around-span : (i : ℕ) (vs : List ℕ) (inner : Bool → Reads Term) (s : Cursor) {k : Kind} → Around k → spanOf (built k i vs inner s) ≡ spanOf (inner false s)
@@ -83,6 +85,15 @@ block-span i vs inner s = go (several (inner false) (getD vs 0 0 - 1) s) refl
     go : (o : Result Refusal (Terms × Cursor)) → several (inner false) (getD vs 0 0 - 1) s ≡ o → spanOf (built kBlock i vs inner s) ≡ spanOf o
     go (ok o) e = ap spanOf (block-ok i vs inner s (o .0) (o .1) e)
     go (err e) h = ap spanOf (block-err i vs inner s e h)
+
+-- A choice has its two blocks' span.
+choice-span : (i : ℕ) (vs : List ℕ) (inner : Bool → Reads Term) (s : Cursor) → spanOf (built kChoice i vs inner s) ≡ spanOf (several (inner true) 1 s)
+unfolding spanOf
+choice-span i vs inner s = go (several (inner true) 1 s) refl
+  where
+    go : (o : Result Refusal (Terms × Cursor)) → several (inner true) 1 s ≡ o → spanOf (built kChoice i vs inner s) ≡ spanOf o
+    go (ok o) e = ap spanOf (branches-ok i vs inner s (o .0) (o .1) e)
+    go (err e) h = ap spanOf (branches-err i vs inner s e h)
 
 -- The number n that the code finds at row i.
 module _ (l : Limits) (v levels : ℕ) (outer : Bool) (rows : List ℕ) (i boxes : ℕ) (ready : RowsReady l rows i boxes) (n : ℕ) (is : n ≡ rowNumber l v levels outer rows i boxes) where
@@ -119,21 +130,21 @@ module _ (l : Limits) (v levels : ℕ) (outer : Bool) (rows : List ℕ) (i boxes
   pub boxed-few : (n : ℕ) → n ≡ boxesWith b boxes → n ≤ l .boxes
   boxed-few n q = omega (arith, e .few, boxed)
 
-  pub leaf-spans : (b ≡ 7 → ⊥) → (b ≡ 8 → ⊥) → (b ≡ 9 → ⊥) → (b ≡ 11 → ⊥) → Fine (i + 1) boxes ≡ spanOf (termRows l v levels outer rows i boxes)
+  pub leaf-spans : (b ≡ 7 → ⊥) → (b ≡ 8 → ⊥) → (b ≡ 9 → ⊥) → (b ≡ 11 → ⊥) → (b ≡ 12 → ⊥) → Fine (i + 1) boxes ≡ spanOf (termRows l v levels outer rows i boxes)
   unfolding spanOf
-  leaf-spans n7 n8 n9 n11 =
-      let k = leaf-of (e .kind) (λ z. n7 (sym its-byte ∙ z)) (λ z. n8 (sym its-byte ∙ z)) (λ z. n9 (sym its-byte ∙ z)) (λ z. n11 (sym its-byte ∙ z)) in
+  leaf-spans n7 n8 n9 n11 n12 =
+      let k = leaf-of (e .kind) (λ z. n7 (sym its-byte ∙ z)) (λ z. n8 (sym its-byte ∙ z)) (λ z. n9 (sym its-byte ∙ z)) (λ z. n11 (sym its-byte ∙ z)) (λ z. n12 (sym its-byte ∙ z)) in
       ap (λ (x : ℕ). Fine (i + 1) x) (sym (unboxed n7)) ∙ sym (ap spanOf (e .builds ∙ leaf-ok i _ _ _ k (number i 0)))
 
   pub pair-spans : (b ≡ 10) ⊎ (b ≡ 13) → Fine (i + 1) boxes ≡ spanOf (termRows l v levels outer rows i boxes)
   pair-spans h = ⊎-elim (λ z. by z (omega arith)) (λ z. by z (omega arith)) h
     where
-      by : {m : ℕ} → b ≡ m → 9 < m × (m ≡ 11 → ⊥) → Fine (i + 1) boxes ≡ spanOf (termRows l v levels outer rows i boxes)
-      by z n = leaf-spans (λ y. omega (arith, n .0)) (λ y. omega (arith, n .0)) (λ y. omega (arith, n .0)) (λ y. n .1 (sym z ∙ y))
+      by : {m : ℕ} → b ≡ m → 9 < m × (m ≡ 11 → ⊥) × (m ≡ 12 → ⊥) → Fine (i + 1) boxes ≡ spanOf (termRows l v levels outer rows i boxes)
+      by z n = leaf-spans (λ y. omega (arith, n .0)) (λ y. omega (arith, n .0)) (λ y. omega (arith, n .0)) (λ y. n .1 (sym z ∙ y)) (λ y. n .2 (sym z ∙ y))
 
-  pub around-spans : 7 ≤ b → (b ≡ 10 → ⊥) → (b ≡ 11 → ⊥) → (b ≡ 13 → ⊥) → (n : ℕ) → n ≡ boxesWith b boxes → (r : Span) → r ≡ spanOf (termRows l v (levels - 1) false rows (i + 1) n) → r ≡ spanOf (termRows l v levels outer rows i boxes)
-  around-spans low n10 n11 n13 n q r h =
-      let k = around-kind (e .kind) (omega (arith, its-byte)) (λ z. n10 (sym its-byte ∙ z)) (λ z. n11 (sym its-byte ∙ z)) (λ z. n13 (sym its-byte ∙ z)) in
+  pub around-spans : 7 ≤ b → (b ≡ 10 → ⊥) → (b ≡ 11 → ⊥) → (b ≡ 12 → ⊥) → (b ≡ 13 → ⊥) → (n : ℕ) → n ≡ boxesWith b boxes → (r : Span) → r ≡ spanOf (termRows l v (levels - 1) false rows (i + 1) n) → r ≡ spanOf (termRows l v levels outer rows i boxes)
+  around-spans low n10 n11 n12 n13 n q r h =
+      let k = around-kind (e .kind) (omega (arith, its-byte)) (λ z. n10 (sym its-byte ∙ z)) (λ z. n11 (sym its-byte ∙ z)) (λ z. n12 (sym its-byte ∙ z)) (λ z. n13 (sym its-byte ∙ z)) in
       h ∙ ap (λ (x : ℕ). spanOf (termRows l v (levels - 1) false rows (i + 1) x)) (q ∙ sym boxed) ∙ sym (ap spanOf (e .builds) ∙ around-span i _ (term l v inRows (levels - 1)) _ k)
 
   module _ (eleven : b ≡ 11) (count : ℕ) (counts : count ≡ fieldAt rows i 1) where
@@ -160,6 +171,13 @@ module _ (l : Limits) (v levels : ℕ) (outer : Bool) (rows : List ℕ) (i boxes
         first-of : (a b c : Bool) → ((a && b) && c) ≡ true → a ≡ true
         first-of true b c h = refl
         first-of false b c h = absurd (false≢true h)
+
+  pub choice-spans : b ≡ 12 → (r : Span) → r ≡ spanOf (branchRows l v (levels - 1) rows (i + 1) boxes) → r ≡ spanOf (termRows l v levels outer rows i boxes)
+  unfolding byteOf
+  choice-spans twelve r h =
+      let k = choice-kind (e .kind) (its-byte ∙ twelve) in
+      h ∙ ap (λ (x : ℕ). spanOf (branchRows l v (levels - 1) rows (i + 1) x)) (sym (unboxed (λ z. omega arith)))
+      ∙ sym (ap spanOf (e .builds ∙ ap (λ (x : Kind). built x i (take (length (fields l (e .kind))) (fieldsAt rows i)) (term l v inRows (levels - 1)) (rowCursor rows (i + 1) (boxes + boxesOf (e .kind)))) k) ∙ choice-span i _ (term l v inRows (levels - 1)) _)
 
 -- Every number of the slice fits its type.
 abbrev pub Words : List ℕ → Type 0
@@ -190,34 +208,37 @@ ends l v levels outer rows i boxes w t s′ h =
       few = r .few;
     }
 
--- So many terms of a block from row i on, none included.
-unfoldable pub restSpan : Limits → ℕ → ℕ → List ℕ → ℕ → ℕ → ℕ → Span
-restSpan l v levels rows zero i boxes = Fine i boxes
-restSpan l v levels rows (suc n) i boxes = spanOf (several (term l v inRows levels false) n (rowCursor rows i boxes))
+-- So many terms of a block from row i on, none included. `outer` says of each that it must be a block, as those of a choice.
+unfoldable pub restSpan : Limits → ℕ → ℕ → Bool → List ℕ → ℕ → ℕ → ℕ → Span
+restSpan l v levels outer rows zero i boxes = Fine i boxes
+restSpan l v levels outer rows (suc n) i boxes = spanOf (several (term l v inRows levels outer) n (rowCursor rows i boxes))
 
-module _ (l : Limits) (v levels : ℕ) (rows : List ℕ) (i boxes : ℕ) where
+module _ (l : Limits) (v levels : ℕ) (outer : Bool) (rows : List ℕ) (i boxes : ℕ) where
+  abbrev all : ℕ → Result Refusal (Terms × Cursor)
+  all count = several (term l v inRows levels outer) (count - 1) (rowCursor rows i boxes)
+
   abbrev one : Reads Term
-  one = term l v inRows levels false
+  one = term l v inRows levels outer
 
   abbrev s : Cursor
   s = rowCursor rows i boxes
 
-  pub all-span : (count : ℕ) → 0 < count → restSpan l v levels rows count i boxes ≡ spanOf (blockRows l v levels count rows i boxes)
+  pub all-span : (count : ℕ) → 0 < count → restSpan l v levels outer rows count i boxes ≡ spanOf (all count)
   unfolding restSpan
   all-span zero h = absurd (omega arith)
   all-span (suc n) h = rw sub-one
 
-  pub none-span : (n : ℕ) → n ≤ 0 → Fine i boxes ≡ restSpan l v levels rows n i boxes
+  pub none-span : (n : ℕ) → n ≤ 0 → Fine i boxes ≡ restSpan l v levels outer rows n i boxes
   unfolding restSpan
   none-span zero h = refl
   none-span (suc n) h = absurd (omega arith)
 
   -- A block of one term has the term's span.
-  pub one-span : spanOf (blockRows l v levels 1 rows i boxes) ≡ spanOf (one s)
+  pub one-span : spanOf (all 1) ≡ spanOf (one s)
   unfolding several spanOf done
   one-span = go (one s) refl
     where
-      go : (o : Result Refusal (Term × Cursor)) → one s ≡ o → spanOf (blockRows l v levels 1 rows i boxes) ≡ spanOf o
+      go : (o : Result Refusal (Term × Cursor)) → one s ≡ o → spanOf (all 1) ≡ spanOf o
       go (ok o) q = ap spanOf (go-on one _ s (o .1) (o .0) _ q refl)
       go (err e) q = ap spanOf (stops one _ s e q)
 
@@ -226,7 +247,7 @@ module _ (l : Limits) (v levels : ℕ) (rows : List ℕ) (i boxes : ℕ) where
   several-stops zero e h = stops one _ s e h
   several-stops (suc n) e h = stops one _ s e h
 
-  pub stop-span : (left : ℕ) → 0 < left → (n p : ℕ) → Refused n p ≡ spanOf (one s) → Refused n p ≡ restSpan l v levels rows left i boxes
+  pub stop-span : (left : ℕ) → 0 < left → (n p : ℕ) → Refused n p ≡ spanOf (one s) → Refused n p ≡ restSpan l v levels outer rows left i boxes
   unfolding restSpan spanOf
   stop-span zero h n p e = absurd (omega arith)
   stop-span (suc m) h n p e = sym (ap spanOf (several-stops m (n, p) (refused-of (one s) n p e)))
@@ -245,7 +266,7 @@ module _ (l : Limits) (v levels : ℕ) (rows : List ℕ) (i boxes : ℕ) where
     read = fine-of (one s) j b f
 
     abbrev ended : Ends l rows i (read .value) (read .to)
-    ended = ends l v levels false rows i boxes w (read .value) (read .to) (read .is)
+    ended = ends l v levels outer rows i boxes w (read .value) (read .to) (read .is)
 
     pub rest-few : b ≤ l .boxes
     rest-few = omega (arith, ended .few, read .boxes)
@@ -253,8 +274,20 @@ module _ (l : Limits) (v levels : ℕ) (rows : List ℕ) (i boxes : ℕ) where
     from-row : read .to ≡ rowCursor rows j b
     from-row = ended .is ∙ ap (λ (x : ℕ). rowCursor rows x (read .to .boxes)) (read .terms) ∙ ap (λ (x : ℕ). rowCursor rows j x) (read .boxes)
 
-    pub rest-span : (left : ℕ) → 0 < left → restSpan l v levels rows (left - 1) j b ≡ restSpan l v levels rows left i boxes
+    pub rest-span : (left : ℕ) → 0 < left → restSpan l v levels outer rows (left - 1) j b ≡ restSpan l v levels outer rows left i boxes
     unfolding restSpan several spanOf done
     rest-span zero h = absurd (omega arith)
     rest-span (suc zero) h = f ∙ ap spanOf (read .is) ∙ sym (ap spanOf (go-on one _ s (read .to) (read .value) _ (read .is) refl))
     rest-span (suc (suc n)) h = rw sub-one (ap (λ (x : Cursor). spanOf (several one n x)) (sym from-row) ∙ sym (several-goes n (read .value) (read .to) (read .is)))
+
+-- Two terms: the first is refused, or it was read to row j and the second gives the span of both.
+module _ (l : Limits) (v levels : ℕ) (outer : Bool) (rows : List ℕ) (i boxes : ℕ) where
+  abbrev both : Span
+  both = spanOf (several (term l v inRows levels outer) 1 (rowCursor rows i boxes))
+
+  pub first-span : (n p : ℕ) → Refused n p ≡ spanOf (term l v inRows levels outer (rowCursor rows i boxes)) → Refused n p ≡ both
+  first-span n p e = stop-span l v levels outer rows i boxes 2 (omega arith) n p e ∙ all-span l v levels outer rows i boxes 2 (omega arith)
+
+  pub second-span : Words rows → (j b : ℕ) → Fine j b ≡ spanOf (term l v inRows levels outer (rowCursor rows i boxes)) → spanOf (term l v inRows levels outer (rowCursor rows j b)) ≡ both
+  unfolding restSpan
+  second-span w j b f = sym (one-span l v levels outer rows j b) ∙ rest-span l v levels outer rows i boxes w j b f 2 (omega arith) ∙ all-span l v levels outer rows i boxes 2 (omega arith)

@@ -12,7 +12,7 @@ use borrow.Author.Tests.{leb-true, leb-false, eqb-true, eqb-false, le-leb, lt-le
 use Rattle.reader.specs.Result.{Result, ok, err, Refusal, pick}
 use Rattle.reader.specs.Limits.{Limits, rowNumbers}
 use Rattle.reader.specs.Script.{Term}
-use Rattle.reader.specs.Kinds.{Kind, kNumber, kReading, kCopy, kMove, kShared, kExclusive, kBox, kLet, kAssign, kBelow, kBlock, kSum, byteOf, kindOf, fields}
+use Rattle.reader.specs.Kinds.{Kind, kNumber, kReading, kCopy, kMove, kShared, kExclusive, kBox, kLet, kAssign, kBelow, kBlock, kChoice, kSum, byteOf, kindOf, fields}
 use Rattle.reader.specs.Layout.{inRows}
 use Rattle.reader.specs.Reader.{Cursor, placeIn, operands, zeroFields, restOfRow, is, boxesOf, ended, opening, built, term}
 use Rattle.reader.specs.Parts.{cursor, knownIn}
@@ -35,6 +35,7 @@ fields-few l kLet = omega arith
 fields-few l kAssign = omega arith
 fields-few l kBelow = omega arith
 fields-few l kBlock = omega arith
+fields-few l kChoice = omega arith
 fields-few l kSum = omega arith
 
 row-place : (i : ℕ) → placeIn inRows (5 * i) ≡ i

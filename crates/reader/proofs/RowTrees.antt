@@ -3,16 +3,18 @@ use Prim.Native.Nat.{ℕ, zero, suc, _+_, _-_, _*_, _≤_}
 use native.Mathlib.Omega.{arith}
 use native.Mathlib.Numerals.{add-one, sub-one}
 use mathlib.Core.Path.{_≡_, ap, _∙_}
+use mathlib.Core.Bool.{true}
 use mathlib.Core.Option.{some}
 use mathlib.Core.List.{List}
 use lib.ListN.{length, getD, length-drop, length-append}
-use borrow.Author.Tests.{le-leb, lt-ltb}
+use lib.Dec.{eqb}
+use borrow.Author.Tests.{le-leb, lt-ltb, eq-eqb}
 use Rattle.reader.specs.Result.{ok}
 use Rattle.reader.specs.Limits.{Limits, rowNumbers}
-use Rattle.reader.specs.Script.{Term, Terms, number, reading, copy, move, borrowShared, borrowExclusive, box, declare, assign, below, block, sum, last, more}
-use Rattle.reader.specs.Kinds.{newest, kindOf, fields}
+use Rattle.reader.specs.Script.{Term, Terms, number, reading, copy, move, borrowShared, borrowExclusive, box, declare, assign, below, block, choice, sum, last, more}
+use Rattle.reader.specs.Kinds.{byteOf, newest, kindOf, fields}
 use Rattle.reader.specs.Layout.{inRows, others, lay, lays}
-use Rattle.reader.specs.Reader.{decode}
+use Rattle.reader.specs.Reader.{branch, decode}
 use Rattle.reader.specs.Measures.{size, sizes, depth, depths, kindIn}
 use Rattle.reader.specs.Within.{Formed, FormedAll, Under}
 use Rattle.reader.specs.RowParts.{fieldAt}
@@ -20,7 +22,7 @@ use Rattle.reader.specs.RowTrees.{RowTree, severalAt, termsAt, kindAt, t
 use Rattle.reader.proofs.KindBytes.{has, added-most}
 use Rattle.reader.proofs.Parts.{counts}
 use Rattle.reader.proofs.RoundTrip.{decoded, laid-rows}
-use Rattle.reader.proofs.View.{values, Stands, row, in-box, in-let, in-assign, in-block, at-last, at-more, stands}
+use Rattle.reader.proofs.View.{values, Stands, row, in-box, in-let, in-assign, in-block, in-choice, at-last, at-more, stands}
 
 module _ (l : Limits) (rs : List ℕ) where
   abbrev tree : ℕ → ℕ → RowTree Term
@@ -39,8 +41,20 @@ module _ (l : Limits) (rs : List ℕ) where
   by-kind zero i t h s = absurd (omega (arith, counts t .levels))
   by-kind (suc d) i t h s = rw (sub-one, le-leb (5 * i + 5) (length rs) (room i t s), kind-found i t s)
 
+  -- A block, from its terms.
+  block-here : (i j : ℕ) (ts : Terms) → Stands rs i (lay inRows (block j ts)) → eqb (fieldAt rs i 0) 11 ≡ true
+  unfolding byteOf kindIn
+  block-here i j ts s =
+      let z : 5 * i + 0 ≡ 5 * i = omega arith in
+      eq-eqb (fieldAt rs i 0) 11 (ap (λ (n : ℕ). getD rs n 0) z ∙ row rs i (block j ts) s .kind)
+
+  block-stands : (j : ℕ) (ts : Terms) (d i : ℕ) → j ≡ i → suc (depths ts) ≤ d → Stands rs i (lay inRows (block j ts)) → severalAt (tree (d - 1)) (others ts) (suc i) ≡ some (ts, suc i + sizes ts) → tree d i ≡ some (block j ts, i + suc (sizes ts))
+  unfolding kindAt termsAt kindIn values depth
+  block-stands j ts d i e h s q =
+      by-kind d i (block j ts) h s ∙ rw (row rs i (block j ts) s .one, add-one i, q, e) (ap (λ (k : ℕ). some (block i ts, k)) (omega arith))
+
   mutual
-    unfolding kindAt severalAt termsAt kindIn values others size sizes depth depths Formed FormedAll fields
+    unfolding kindAt branch severalAt termsAt kindIn values others size sizes depth depths Formed FormedAll fields
 
     standing : (t : Term) (d i : ℕ) → depth t ≤ d → Formed l i t → Stands rs i (lay inRows t) → tree d i ≡ some (t, i + size t)
     standing (number j n) d i h f s = by-kind d i (number j n) h s ∙ rw (row rs i (number j n) s .one, f .0)
@@ -74,9 +88,17 @@ module _ (l : Limits) (rs : List ℕ) where
         let r = row rs i (assign j p t) s in
         by-kind d i (assign j p t) h s
         ∙ rw (r .one, r .two, lt-ltb (p .root) (l .variables) (f .1 .0 .1), add-one i, standing t (d - 1) (suc i) (omega arith) (f .2) (in-assign rs i j p t s), f .0) (ap (λ (k : ℕ). some (assign i p t, k)) (omega arith))
-    standing (block j ts) d i h f s =
-        by-kind d i (block j ts) h s
-        ∙ rw (row rs i (block j ts) s .one, add-one i, standing-all ts (d - 1) (suc i) (omega arith) (f .2) (in-block rs i j ts s), f .0) (ap (λ (k : ℕ). some (block i ts, k)) (omega arith))
+    standing (block j ts) d i h f s = block-stands j ts d i (f .0) h s (standing-all ts (d - 1) (suc i) (omega arith) (f .2) (in-block rs i j ts s))
+    standing (choice m p j us k vs) d i h f s =
+        let r = row rs i (choice m p j us k vs) s in
+        let next = suc i + suc (sizes us) in
+        let b = at-more rs (suc i) (block j us) (last (block k vs)) (in-choice rs i m p j us k vs s) in
+        let c = at-last rs next (block k vs) (b .1) in
+        let one = block-stands j us (d - 1) (suc i) (f .2 .0) (omega arith) (b .0) (standing-all us (d - 1 - 1) (suc (suc i)) (omega arith) (f .2 .2) (in-block rs (suc i) j us (b .0))) in
+        let two = block-stands k vs (d - 1) next (f .3 .0) (omega arith) c (standing-all vs (d - 1 - 1) (suc next) (omega arith) (f .3 .2) (in-block rs next k vs c)) in
+        by-kind d i (choice m p j us k vs) h s
+        ∙ rw (r .one, r .two, lt-ltb (p .root) (l .variables) (f .1 .0 .1), add-one i, block-here (suc i) j us (b .0), one, block-here next k vs c, two, f .0)
+        (ap (λ (n : ℕ). some (choice i p j us k vs, n)) (omega arith))
 
     standing-all : (ts : Terms) (d i : ℕ) → depths ts ≤ d → FormedAll l i ts → Stands rs i (lays inRows ts) → severalAt (tree d) (others ts) i ≡ some (ts, i + sizes ts)
     standing-all (last t) d i h f s = rw (standing t d i h f (at-last rs i t s))

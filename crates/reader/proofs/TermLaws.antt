@@ -3,7 +3,7 @@ use Prim.Native.Nat.{ℕ, zero, suc, _+_, _-_, _*_, _≤_, _<_}
 use native.Mathlib.Omega.{arith}
 use native.Mathlib.Numerals.{add-one}
 use mathlib.Core.Path.{_≡_, refl, sym, ap, ap₂, _∙_, subst}
-use mathlib.Core.Bool.{Bool, false}
+use mathlib.Core.Bool.{Bool, true, false}
 use mathlib.Core.List.{List, [], _∷_, _++_}
 use lib.ListN.{length, getD, take, drop, length-drop}
 use lib.Seq.{sets}
@@ -11,52 +11,56 @@ use borrow.Author.Tests.{leb-true}
 use Rattle.reader.specs.Result.{ok}
 use Rattle.reader.specs.Limits.{Limits, rowNumbers}
 use Rattle.reader.specs.Script.{Term, Terms, number, block, last, more}
-use Rattle.reader.specs.Kinds.{Kind, kNumber, kReading, kCopy, kMove, kShared, kExclusive, kBox, kLet, kAssign, kBelow, kBlock, kSum, byteOf, Field, fields}
+use Rattle.reader.specs.Kinds.{Kind, kNumber, kReading, kCopy, kMove, kShared, kExclusive, kBox, kLet, kAssign, kBelow, kBlock, kChoice, kSum, byteOf, Field, fields}
 use Rattle.reader.specs.Layout.{inBytes, inRows, zeros, wordOf, unused, head, others, lay, lays}
 use Rattle.reader.specs.Reader.{Cursor, Reads, is, boxesOf, several, built, term}
 use Rattle.reader.specs.Parts.{cursor, fieldsOf, boxesWith}
-use Rattle.reader.specs.ByteParts.{openingNumber, judgedFields, oneField, valuesAt, rowWith, RowAfter, Filled, Ready, Got, gotOf, RowsAfter, Reading, readTerm, readBlock}
+use Rattle.reader.specs.ByteParts.{openingNumber, judgedFields, oneField, valuesAt, rowWith, RowAfter, Filled, Ready, Got, gotOf, RowsAfter, Reading, readTerm, readBlock, readBranches}
 use Rattle.reader.specs.declared.operands.Fields.{Fields}
 use Rattle.reader.specs.declared.operands.Fields.the-variants as fieldsFound
 use Rattle.reader.specs.ByteParts as got
 use Rattle.reader.proofs.TermSteps.{Leaf, leafNumber, leafReading, leafCopy, leafMove, leafShared, leafExclusive, leafBelow, leafSum, Around, aroundBox, aroundLet, aroundAssign, wrapped, leaf-ok, around-err, around-ok, block-err, block-ok}
 use Rattle.reader.proofs.Answers.{ran, is-done}
 use Rattle.reader.proofs.Lists.{part-all, under-drop}
+use Rattle.reader.proofs.Sound.{block-read}
+use Rattle.reader.proofs.Branches.{branched, branches-err, branches-ok, branches-laid}
 use Rattle.reader.proofs.BlockLaws.{framed}
 use Rattle.reader.proofs.KnownKinds.{fields-of}
 use Rattle.reader.proofs.ByteLaws.{Clear, fields-within, one-range, opening-refused, term-stops, term-goes}
 
 -- ---- kinds by their bytes
 
-pub around-kind : (k : Kind) → 7 ≤ byteOf k → (byteOf k ≡ 10 → ⊥) → (byteOf k ≡ 11 → ⊥) → (byteOf k ≡ 13 → ⊥) → Around k
+pub around-kind : (k : Kind) → 7 ≤ byteOf k → (byteOf k ≡ 10 → ⊥) → (byteOf k ≡ 11 → ⊥) → (byteOf k ≡ 12 → ⊥) → (byteOf k ≡ 13 → ⊥) → Around k
 unfolding byteOf
-around-kind kNumber a b c d = absurd (omega arith)
-around-kind kReading a b c d = absurd (omega arith)
-around-kind kCopy a b c d = absurd (omega arith)
-around-kind kMove a b c d = absurd (omega arith)
-around-kind kShared a b c d = absurd (omega arith)
-around-kind kExclusive a b c d = absurd (omega arith)
-around-kind kBox a b c d = aroundBox
-around-kind kLet a b c d = aroundLet
-around-kind kAssign a b c d = aroundAssign
-around-kind kBelow a b c d = absurd (b refl)
-around-kind kBlock a b c d = absurd (c refl)
-around-kind kSum a b c d = absurd (d refl)
+around-kind kNumber a b c d e = absurd (omega arith)
+around-kind kReading a b c d e = absurd (omega arith)
+around-kind kCopy a b c d e = absurd (omega arith)
+around-kind kMove a b c d e = absurd (omega arith)
+around-kind kShared a b c d e = absurd (omega arith)
+around-kind kExclusive a b c d e = absurd (omega arith)
+around-kind kBox a b c d e = aroundBox
+around-kind kLet a b c d e = aroundLet
+around-kind kAssign a b c d e = aroundAssign
+around-kind kBelow a b c d e = absurd (b refl)
+around-kind kBlock a b c d e = absurd (c refl)
+around-kind kChoice a b c d e = absurd (d refl)
+around-kind kSum a b c d e = absurd (e refl)
 
-pub leaf-kind : (k : Kind) → (7 ≤ byteOf k → 9 < byteOf k) → (byteOf k ≡ 11 → ⊥) → Leaf k
+pub leaf-kind : (k : Kind) → (7 ≤ byteOf k → 9 < byteOf k) → (byteOf k ≡ 11 → ⊥) → (byteOf k ≡ 12 → ⊥) → Leaf k
 unfolding byteOf
-leaf-kind kNumber a b = leafNumber
-leaf-kind kReading a b = leafReading
-leaf-kind kCopy a b = leafCopy
-leaf-kind kMove a b = leafMove
-leaf-kind kShared a b = leafShared
-leaf-kind kExclusive a b = leafExclusive
-leaf-kind kBox a b = absurd (omega (arith, a (omega arith)))
-leaf-kind kLet a b = absurd (omega (arith, a (omega arith)))
-leaf-kind kAssign a b = absurd (omega (arith, a (omega arith)))
-leaf-kind kBelow a b = leafBelow
-leaf-kind kBlock a b = absurd (b refl)
-leaf-kind kSum a b = leafSum
+leaf-kind kNumber a b c = leafNumber
+leaf-kind kReading a b c = leafReading
+leaf-kind kCopy a b c = leafCopy
+leaf-kind kMove a b c = leafMove
+leaf-kind kShared a b c = leafShared
+leaf-kind kExclusive a b c = leafExclusive
+leaf-kind kBox a b c = absurd (omega (arith, a (omega arith)))
+leaf-kind kLet a b c = absurd (omega (arith, a (omega arith)))
+leaf-kind kAssign a b c = absurd (omega (arith, a (omega arith)))
+leaf-kind kBelow a b c = leafBelow
+leaf-kind kBlock a b c = absurd (b refl)
+leaf-kind kChoice a b c = absurd (c refl)
+leaf-kind kSum a b c = leafSum
 
 pub block-kind : (k : Kind) → byteOf k ≡ 11 → k ≡ kBlock
 unfolding byteOf
@@ -71,7 +75,24 @@ block-kind kLet e = absurd (omega arith)
 block-kind kAssign e = absurd (omega arith)
 block-kind kBelow e = absurd (omega arith)
 block-kind kBlock e = refl
+block-kind kChoice e = absurd (omega arith)
 block-kind kSum e = absurd (omega arith)
+
+pub choice-kind : (k : Kind) → byteOf k ≡ 12 → k ≡ kChoice
+unfolding byteOf
+choice-kind kNumber e = absurd (omega arith)
+choice-kind kReading e = absurd (omega arith)
+choice-kind kCopy e = absurd (omega arith)
+choice-kind kMove e = absurd (omega arith)
+choice-kind kShared e = absurd (omega arith)
+choice-kind kExclusive e = absurd (omega arith)
+choice-kind kBox e = absurd (omega arith)
+choice-kind kLet e = absurd (omega arith)
+choice-kind kAssign e = absurd (omega arith)
+choice-kind kBelow e = absurd (omega arith)
+choice-kind kBlock e = absurd (omega arith)
+choice-kind kChoice e = refl
+choice-kind kSum e = absurd (omega arith)
 
 pub with-boxes : (k : Kind) (b : ℕ) → boxesWith (byteOf k) b ≡ b + boxesOf k
 unfolding boxesWith boxesOf is byteOf
@@ -86,6 +107,7 @@ with-boxes kLet b = omega arith
 with-boxes kAssign b = omega arith
 with-boxes kBelow b = omega arith
 with-boxes kBlock b = omega arith
+with-boxes kChoice b = omega arith
 with-boxes kSum b = omega arith
 
 pub leaf-boxes : {k : Kind} → Leaf k → boxesOf k ≡ 0
@@ -132,11 +154,16 @@ five l kLet t = refl
 five l kAssign t = refl
 five l kBelow t = refl
 five l kBlock t = refl
+five l kChoice t = refl
 five l kSum t = refl
 
 block-boxes : (b : ℕ) → b + boxesOf kBlock ≡ b
 unfolding boxesOf is byteOf
 block-boxes b = omega arith
+
+choice-boxes : (b : ℕ) → b + boxesOf kChoice ≡ b
+unfolding boxesOf is byteOf
+choice-boxes b = omega arith
 
 -- A block has as many terms as were asked for.
 count-says : (inner : Reads Term) (n : ℕ) (s s′ : Cursor) (ts : Terms) → several inner n s ≡ ok (ts, s′) → others ts ≡ n
@@ -247,6 +274,22 @@ module _ (l : Limits) (v levels : ℕ) (outer : Bool) (t : List ℕ) (at n b use
       (λ ts s′ o. ap (λ (c : ℕ). head inRows kBlock (c ∷ []) ++ lays inRows ts) (omega (arith, count-says _ _ s s′ ts o, h .several k))) (five l kBlock t)
       n (n + 1) refl rows rows₁ rows₂ (rows-is ∙ ap (λ (c : Kind). sets rows (n * 5) (head inRows c (valuesAt (fields l c) t 1))) k) r
       (subst (λ (c : Cursor). Reading (lays inRows) (several (term l v inBytes (levels - 1) false) (getD t 1 0 - 1) c) (n + 1) rows₁ rows₂ r) e q)
+
+  pub choice-returns : h .k ≡ kChoice → (rows₂ : List ℕ) (r : Got)
+      → Reading (lays inRows) (readBranches l v (levels - 1) Part (at + used) (n + 1) b) (n + 1) rows₁ rows₂ r
+      → Reading (lay inRows) (readTerm l v levels outer t at n b) n rows rows₂ r
+  unfolding fields valuesAt
+  choice-returns k rows₂ r q =
+      let s : Cursor = cursor (drop used t) (at + used) (suc n) b in
+      let z : b + boxesOf (h .k) ≡ b = rw k (choice-boxes b) in
+      let e : cursor Part (at + used) (n + 1) b ≡ s = rw (part-all, add-one) in
+      let vs : List ℕ = getD t 1 0 ∷ getD t 2 0 ∷ [] in
+      let i : readTerm l v levels outer t at n b ≡ built kChoice n vs (term l v inBytes (levels - 1)) s = h .is ∙ ap (λ (c : ℕ). built (h .k) n (valuesAt (fields l (h .k)) t 1) (term l v inBytes (levels - 1)) (cursor (drop used t) (at + used) (suc n) c)) z ∙ ap (λ (c : Kind). built c n (valuesAt (fields l c) t 1) (term l v inBytes (levels - 1)) s) k in
+      framed (lays inRows) (lay inRows) (branched n vs) (head inRows kChoice vs) (several (term l v inBytes (levels - 1) true) 1 s) (readTerm l v levels outer t at n b)
+      (λ e o. i ∙ branches-err n vs _ s e o) (λ ts s′ o. i ∙ branches-ok n vs _ s ts s′ o)
+      (λ ts s′ o. branches-laid n vs (term l v inBytes (levels - 1)) s (block-read l v inBytes (levels - 1)) ts s′ o) (five l kChoice t)
+      n (n + 1) refl rows rows₁ rows₂ (rows-is ∙ ap (λ (c : Kind). sets rows (n * 5) (head inRows c (valuesAt (fields l c) t 1))) k) r
+      (subst (λ (c : Cursor). Reading (lays inRows) (several (term l v inBytes (levels - 1) true) 1 c) (n + 1) rows₁ rows₂ r) e q)
 
   pub inner-ready : Ready l t at b rows → length rows₁ ≡ rowNumbers l → Ready l Part (at + used) (boxesWith (getD t 0 0) b) rows₁
   inner-ready r full =

@@ -11,7 +11,7 @@ use Rattle.reader.specs.Limits.{Limits}
 use Rattle.reader.specs.Kinds.{byteOf}
 use Rattle.reader.specs.Layout.{inRows, lay, lays}
 use Rattle.reader.specs.Parts.{IsKind, fieldsOf, boxesWith}
-use Rattle.reader.specs.ByteParts.{openingNumber, rowWith, valuesAt, Filled, Ready, Got, Reading, readTerm, readBlock}
+use Rattle.reader.specs.ByteParts.{openingNumber, rowWith, valuesAt, Filled, Ready, Got, Reading, readTerm, readBlock, readBranches}
 use Rattle.reader.specs.ByteParts as got
 use Rattle.reader.specs.declared.operands.Fields.{Fields}
 use Rattle.reader.specs.declared.operands.Fields.the-variants as fieldsFound
@@ -19,7 +19,7 @@ use Rattle.reader.proofs.Ranges.{ranged}
 use Rattle.reader.proofs.Lists.{part-all, within-list}
 use Rattle.reader.proofs.ByteLaws.{Clear, opening-clear}
 use Rattle.reader.proofs.Refusals.{operands-near}
-use Rattle.reader.proofs.TermLaws.{Head, around-kind, leaf-kind, block-kind, head-of, filled-row, number-refused, operand-refused, leaf-returns, around-returns, block-returns, inner-ready, block-ready}
+use Rattle.reader.proofs.TermLaws.{Head, around-kind, leaf-kind, block-kind, choice-kind, head-of, filled-row, number-refused, operand-refused, leaf-returns, around-returns, block-returns, choice-returns, inner-ready, block-ready}
 
 -- ---- parts that run to the end, as a callee gets them
 
@@ -123,13 +123,20 @@ module _ {l : Limits} {v levels : ℕ} {tail : List ℕ} {at terms boxes : ℕ} 
         pub rest-near : next + used ≤ 32768
         rest-near = omega (arith, head .within, g .ready .room)
 
-        pub leaf-stops : (7 ≤ kind → 9 < kind) → (kind ≡ 11 → ⊥) → Whole rows₁ (got.Fine (next + used) (met + 1) boxed)
-        leaf-stops a b =
+        met-near : met + 1 < 8192
+        met-near = omega (arith, head .room, ranged _ (g .ready .ranges) .terms)
+
+        -- Where blocks follow, no box is met.
+        blocks-ready : length rows₁ ≡ length rows → Ready l Rest (next + used) boxed rows₁
+        blocks-ready s = subst (λ (x : List ℕ). Ready l x (next + used) boxed rows₁) rest-is (block-ready l v left false Here next met boxed used head rows rows₁ row (g .ready) (s ∙ g .ready .full))
+
+        pub leaf-stops : (7 ≤ kind → 9 < kind) → (kind ≡ 11 → ⊥) → (kind ≡ 12 → ⊥) → Whole rows₁ (got.Fine (next + used) (met + 1) boxed)
+        leaf-stops a b d =
             g .gives rows₁ (got.Fine (next + used) (met + 1) boxed)
-            (leaf-returns l v left false Here next met boxed used head rows rows₁ row (leaf-kind (head .k) (λ y. omega (arith, byte, a (omega (arith, byte, y)))) (λ y. b (sym byte ∙ y))))
+            (leaf-returns l v left false Here next met boxed used head rows rows₁ row (leaf-kind (head .k) (λ y. omega (arith, byte, a (omega (arith, byte, y)))) (λ y. b (sym byte ∙ y)) (λ y. d (sym byte ∙ y))))
 
         pub pair-stops : (kind ≡ 10) ⊎ (kind ≡ 13) → Whole rows₁ (got.Fine (next + used) (met + 1) boxed)
-        pair-stops h = ⊎-elim (λ z. leaf-stops (λ y. omega arith) (λ y. omega arith)) (λ z. leaf-stops (λ y. omega arith) (λ y. omega arith)) h
+        pair-stops h = ⊎-elim (λ z. leaf-stops (λ y. omega arith) (λ y. omega arith) (λ y. omega arith)) (λ z. leaf-stops (λ y. omega arith) (λ y. omega arith) (λ y. omega arith)) h
 
         -- A block's terms follow.
         module _ (k : kind ≡ 11) where
@@ -143,11 +150,7 @@ module _ {l : Limits} {v levels : ℕ} {tail : List ℕ} {at terms boxes : ℕ} 
           count-within = within-list tail (next - at + 1) some-terms
 
           pub block-asks : length rows₁ ≡ length rows → Ready l Rest (next + used) boxed rows₁ × (0 < getD tail (next - at + 1) 0) × (met + 1 < 8192)
-          block-asks s = (
-            subst (λ (x : List ℕ). Ready l x (next + used) boxed rows₁) rest-is (block-ready l v left false Here next met boxed used head rows rows₁ row (g .ready) (s ∙ g .ready .full)),
-            some-terms,
-            omega (arith, head .room, ranged _ (g .ready .ranges) .terms),
-          )
+          block-asks s = (blocks-ready s, some-terms, met-near)
 
           pub block-stops : (rows₂ : List ℕ) (r : Got) → Reading (lays inRows) (readBlock l v (left - 1) (getD tail (next - at + 1) 0) Rest (next + used) (met + 1) boxed) (met + 1) rows₁ rows₂ r → Whole rows₂ r
           block-stops rows₂ r p =
@@ -155,11 +158,20 @@ module _ {l : Limits} {v levels : ℕ} {tail : List ℕ} {at terms boxes : ℕ} 
               g .gives rows₂ r (block-returns l v left false Here next met boxed used head rows rows₁ row (block-kind (head .k) (byte ∙ k)) rows₂ r
               (subst (λ (x : List ℕ). Reading (lays inRows) (readBlock l v (left - 1) (getD Here 1 0) x (next + used) (met + 1) boxed) (met + 1) rows₁ rows₂ r) (sym rest-is) p′))
 
+        -- A choice's two blocks follow.
+        pub choice-asks : length rows₁ ≡ length rows → Ready l Rest (next + used) boxed rows₁ × (met + 1 < 8192)
+        choice-asks s = (blocks-ready s, met-near)
+
+        pub choice-stops : kind ≡ 12 → (rows₂ : List ℕ) (r : Got) → Reading (lays inRows) (readBranches l v (left - 1) Rest (next + used) (met + 1) boxed) (met + 1) rows₁ rows₂ r → Whole rows₂ r
+        choice-stops k rows₂ r p =
+            g .gives rows₂ r (choice-returns l v left false Here next met boxed used head rows rows₁ row (choice-kind (head .k) (byte ∙ k)) rows₂ r
+            (subst (λ (x : List ℕ). Reading (lays inRows) (readBranches l v (left - 1) x (next + used) (met + 1) boxed) (met + 1) rows₁ rows₂ r) (sym rest-is) p))
+
         -- One inner term follows.
-        pub inner-on : 7 ≤ kind → (kind ≡ 10 → ⊥) → (kind ≡ 11 → ⊥) → (kind ≡ 13 → ⊥) → length rows₁ ≡ length rows → {b : ℕ} → b ≡ boxesWith kind boxed → Inner l v levels tail at terms boxes rows₀ rows₁ (next + used) (left - 1) (met + 1) b
-        inner-on x y w o s {b} i =
+        pub inner-on : 7 ≤ kind → (kind ≡ 10 → ⊥) → (kind ≡ 11 → ⊥) → (kind ≡ 12 → ⊥) → (kind ≡ 13 → ⊥) → length rows₁ ≡ length rows → {b : ℕ} → b ≡ boxesWith kind boxed → Inner l v levels tail at terms boxes rows₀ rows₁ (next + used) (left - 1) (met + 1) b
+        inner-on x y w u o s {b} i =
             let i′ : boxesWith (getD Here 0 0) boxed ≡ b = ap (λ (k : ℕ). boxesWith k boxed) (sym kind-is) ∙ sym i in
-            let a = around-kind (head .k) (omega (arith, byte, x)) (λ z. y (sym byte ∙ z)) (λ z. w (sym byte ∙ z)) (λ z. o (sym byte ∙ z)) in
+            let a = around-kind (head .k) (omega (arith, byte, x)) (λ z. y (sym byte ∙ z)) (λ z. w (sym byte ∙ z)) (λ z. u (sym byte ∙ z)) (λ z. o (sym byte ∙ z)) in
             record {
               from = omega (arith, g .from);
               within = rest-within;

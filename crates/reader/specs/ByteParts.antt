@@ -28,7 +28,7 @@ openingNumber l v levels outer t terms boxes =
     (pick (eqb (getD t 0 0) 7 && leb (l .boxes) boxes) 17
     0)))))
 
--- The outermost term's kind byte is a known kind's, and not a block's.
+-- The kind byte that begins t is a known kind's, and not a block's.
 unfoldable pub noBlockByte : ℕ → List ℕ → Bool
 noBlockByte v t = ltb 0 (length t) && (knownIn v (getD t 0 0) && not (eqb (getD t 0 0) 11))
 
@@ -111,6 +111,10 @@ readTerm l v levels outer tail at terms boxes = term l v inBytes levels outer (c
 
 abbrev pub readBlock : Limits → ℕ → ℕ → ℕ → List ℕ → ℕ → ℕ → ℕ → Result Refusal (Terms × Cursor)
 readBlock l v levels count tail at terms boxes = several (term l v inBytes levels false) (count - 1) (cursor tail at terms boxes)
+
+-- The two blocks of a choice.
+abbrev pub readBranches : Limits → ℕ → ℕ → List ℕ → ℕ → ℕ → ℕ → Result Refusal (Terms × Cursor)
+readBranches l v levels tail at terms boxes = several (term l v inBytes levels true) 1 (cursor tail at terms boxes)
 
 -- ---- a whole script
 

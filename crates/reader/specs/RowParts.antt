@@ -34,9 +34,9 @@ fieldsFit [] (v ∷ vs) = eqb v 0 && fieldsFit [] vs
 fieldsFit (f ∷ fs) [] = false
 fieldsFit (f ∷ fs) (v ∷ vs) = fieldFits f v && fieldsFit fs vs
 
--- The first row is a term's, and not a block's.
-unfoldable pub noBlock : ℕ → List ℕ → Bool
-noBlock v rows = knownIn v (fieldAt rows 0 0) && not (eqb (fieldAt rows 0 0) 11)
+-- Row i is a term's, and not a block's.
+unfoldable pub noBlock : ℕ → List ℕ → ℕ → Bool
+noBlock v rows i = knownIn v (fieldAt rows i 0) && not (eqb (fieldAt rows i 0) 11)
 
 -- The number of the refusal at row i; 0 where there is none.
 unfoldable pub rowNumber : Limits → ℕ → ℕ → Bool → List ℕ → ℕ → ℕ → ℕ
@@ -67,6 +67,10 @@ termRows l v levels outer rows i boxes = term l v inRows levels outer (rowCursor
 
 abbrev pub blockRows : Limits → ℕ → ℕ → ℕ → List ℕ → ℕ → ℕ → Result Refusal (Terms × Cursor)
 blockRows l v levels count rows i boxes = several (term l v inRows levels false) (count - 1) (rowCursor rows i boxes)
+
+-- The two blocks of a choice.
+abbrev pub branchRows : Limits → ℕ → ℕ → List ℕ → ℕ → ℕ → Result Refusal (Terms × Cursor)
+branchRows l v levels rows i boxes = several (term l v inRows levels true) 1 (rowCursor rows i boxes)
 
 -- The number of terms of rows with the kinds of version v.
 unfoldable pub judgedIn : Limits → ℕ → List ℕ → Result Refusal ℕ

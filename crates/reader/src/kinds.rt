@@ -27,16 +27,15 @@ pub const BELOW: u32 = 10;
 
 pub const BLOCK: u32 = 11;
 
-// No version has a kind with this byte (LANGUAGE 2.3).
-const NO_KIND: u32 = 12;
+pub const CHOICE: u32 = 12;
 
 pub const SUM: u32 = 13;
 
 // The newest version there is (LANGUAGE 2.1).
 pub const NEWEST: u32 = 2;
 
-// The version that added the sum (LANGUAGE 2.3).
-pub const SUM_SINCE: usize = 2;
+// The version that added the choice and the sum (LANGUAGE 2.3).
+pub const CHOICE_AND_SUM_SINCE: usize = 2;
 
 // A version that a reader knows whose newest known version is `newest` (LANGUAGE 6.2); any other is refused with 11 (5.4).
 pub fn knows_version(newest: u32, version: u32) -> bool
@@ -60,15 +59,16 @@ pub fn newest_known(newest: u32) -> usize
 }
 
 // A kind of this version (LANGUAGE 2.3); any other is refused with 13 (5.4). The last one is the same for a whole script,
-// so that a term costs three comparisons.
+// so that a term costs two comparisons.
 pub fn known(version: usize, kind: u32) -> bool
     ensures { λ r. ⌜ r ≡ knownIn version kind ⌝ }
 {
-    let last = if version < SUM_SINCE { BLOCK } else { SUM };
-    if kind < NUMBER {
-        return false;
-    }
-    kind <= last && kind != NO_KIND
+    let last = if version < CHOICE_AND_SUM_SINCE {
+        BLOCK
+    } else {
+        SUM
+    };
+    NUMBER <= kind && kind <= last
 }
 
 // Box, let and assign have one inner term (LANGUAGE 2.3), which is in the next row.

@@ -8,8 +8,8 @@ ghost use Rattle.reader.specs.ByteParts.{openingNumber, noBlockByte};
 use crate::kinds;
 use crate::limits;
 
-// 18 (LANGUAGE 5.10): the outermost term's kind byte is a known kind's, and not a block's. No other term can meet that,
-// and nothing but 12 and 13 comes before it, so it is asked once, before the terms are read one after the other.
+// 18 (LANGUAGE 5.10): the kind byte is a known kind's, and not a block's. It is asked only where a block must stand. Nothing
+// but 12 and 13 comes before it, so it is asked before the term is read as any other.
 pub fn no_block_byte(version: usize, tail: &[u8]) -> bool
     ensures { λ r. ⌜ r ≡ noBlockByte version (now (tail .entry)) ⌝ }
 {

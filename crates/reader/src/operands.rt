@@ -103,7 +103,7 @@ pub fn read_one(
     Fields::Fine(2)
 }
 
-// The operands of a copy, a move, a borrow and an assign (LANGUAGE 2.3): one place.
+// The operands of a copy, a move, a borrow, an assign and a choice (LANGUAGE 2.3): one place.
 pub fn read_place(
     variables: u32,
     tail: &[u8],

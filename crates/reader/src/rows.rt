@@ -1,14 +1,14 @@
-// Terms and blocks in term rows (LANGUAGE 5.12), and what stands after them (5.13): what check, machine and writer rely
+// Terms, blocks and choices in term rows (LANGUAGE 5.12), and what stands after them (5.13): what check, machine and writer rely
 // on.
 ghost use mathlib.Core.Path.{_≡_};
-ghost use mathlib.Core.Bool.{false};
+ghost use mathlib.Core.Bool.{true, false};
 ghost use mathlib.Core.List.{_∷_, []};
 ghost use Prim.Native.Nat.{_<_, _≤_};
 ghost use lib.ListN.{length, drop};
 ghost use Rattle.reader.specs.Kinds.{until};
 ghost use Rattle.reader.specs.Limits.{rowNumbers, unpacked, versionOf};
 ghost use Rattle.reader.specs.Parts.{IsKind, placeFields, fieldsOf};
-ghost use Rattle.reader.specs.RowParts.{fieldsFit, noBlock, rowNumber, RowsReady, termRows, blockRows, spanOf, spanned, bitsOf, firstUsed};
+ghost use Rattle.reader.specs.RowParts.{fieldsFit, noBlock, rowNumber, RowsReady, termRows, blockRows, branchRows, spanOf, spanned, bitsOf, firstUsed};
 use crate::fields::field_at;
 use crate::kinds;
 use crate::limits;
@@ -62,13 +62,17 @@ fn fields_fit(sizes: usize, kind: u32, a: u32, b: u32, c: u32, d: u32) -> bool
     }
 }
 
-// 18 (LANGUAGE 5.4): the first row is a term's, and not a block's. No other row can meet that, so it is asked once,
-// before the rows are judged one after the other.
-pub fn no_block(version: usize, rows: &[u32]) -> bool
-    requires { ⌜ 5 ≤ length (now rows) ⌝ }
-    ensures { λ r. ⌜ r ≡ noBlock version (now (rows .entry)) ⌝ }
+// 18 (LANGUAGE 5.12): row i is a term's, and not a block's. It is asked only where a block must stand. Nothing but 12 and 13
+// comes before it, so it is asked before the row is judged as any other.
+fn no_block(version: usize, rows: &[u32], i: usize) -> bool
+    requires { ⌜ i < 8192 ⌝ }
+    ensures { λ r. ⌜ r ≡ noBlock version (now (rows .entry)) i ⌝ }
 {
-    let kind = field_at(rows, 0, 0);
+    let at = 5 * i;
+    if rows.len() <= at {
+        return false;
+    }
+    let kind = rows[at];
     kinds::known(version, kind) && kind != kinds::BLOCK
 }
 
@@ -134,6 +138,9 @@ fn judge_term(sizes: usize, rows: &[u32], i: usize, levels: usize, boxes: usize)
             let count = field_at(rows, at, 1) as usize;
             return judge_block(sizes, rows, next, count, left, boxed);
         }
+        if kind == kinds::CHOICE {
+            return judge_branches(sizes, rows, next, left, boxed);
+        }
         boxed = boxes_with(kind, boxed);
         at = next;
     }
@@ -164,6 +171,32 @@ pub fn judge_block(
         left -= 1;
     }
     packed::counted(next, boxed)
+}
+
+// A term that must be a block, as the outermost one (LANGUAGE 2.1) and those of a choice (2.3): 18 where it is another
+// (5.12). It is judged as a block of one: the judge of a term is then called in one place, and compiled into it.
+pub fn judge_due_block(sizes: usize, rows: &[u32], i: usize, levels: usize, boxes: usize) -> usize
+    requires { ⌜ RowsReady (unpacked sizes) (now rows) i boxes ⌝ }
+    ensures { λ r. ⌜ spanned r ≡ spanOf (termRows (unpacked sizes) (versionOf sizes) levels true (now (rows .entry)) i boxes) ⌝ }
+{
+    if no_block(sizes / limits::VERSION_UNIT, rows, i) {
+        return packed::refused(limits::NO_BLOCK, i);
+    }
+    judge_block(sizes, rows, i, 1, levels, boxes)
+}
+
+// The two blocks of a choice (LANGUAGE 2.3), the second straight after the first.
+fn judge_branches(sizes: usize, rows: &[u32], i: usize, levels: usize, boxes: usize) -> usize
+    requires { ⌜ RowsReady (unpacked sizes) (now rows) i boxes ⌝ }
+    ensures { λ r. ⌜ spanned r ≡ spanOf (branchRows (unpacked sizes) (versionOf sizes) levels (now (rows .entry)) i boxes) ⌝ }
+{
+    let first = judge_due_block(sizes, rows, i, levels, boxes);
+    if packed::REFUSED <= first {
+        return first;
+    }
+    let next = first % packed::TERMS;
+    let boxed = first / packed::TERMS;
+    judge_due_block(sizes, rows, next, levels, boxed)
 }
 
 // The bits that any number from `from` on has: 0 where 19 is not met (LANGUAGE 5.13). Nothing leaves the loop early, so

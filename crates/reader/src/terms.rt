@@ -1,12 +1,14 @@
-// Terms and blocks in a script's bytes. Each term is read from the part of the script that begins at its kind byte
+// Terms, blocks and choices in a script's bytes. Each term is read from the part of the script that begins at its kind byte
 // (LANGUAGE 2.2).
-ghost use mathlib.Core.Bool.{false};
+ghost use mathlib.Core.Bool.{true, false};
 ghost use Prim.Native.Nat.{_<_};
 ghost use Rattle.reader.specs.Limits.{unpacked, versionOf};
 ghost use Rattle.reader.specs.Layout.{lay, lays, inRows};
-ghost use Rattle.reader.specs.ByteParts.{Ready, found, Reading, readTerm, readBlock};
+ghost use Rattle.reader.specs.ByteParts.{Ready, found, Reading, readTerm, readBlock, readBranches};
 use crate::kinds;
+use crate::limits;
 use crate::opening::boxes_with;
+use crate::opening::no_block_byte;
 use crate::opening::opening_number;
 use crate::operands::Fields;
 use crate::operands::read_operands;
@@ -14,7 +16,7 @@ use crate::packed;
 
 // A term (LANGUAGE 2.2): what stands at its kind byte (5.10), its operands (5.11), its inner terms one level deeper
 // (2.7). tail begins at the kind byte, which stands at offset at of the script. Box, let and assign go round the loop,
-// so that only a block costs a call.
+// so that only a block and a choice cost a call.
 fn read_term(
     sizes: usize,
     tail: &[u8],
@@ -67,6 +69,9 @@ fn read_term(
                         rows,
                     );
                 }
+                if kind == kinds::CHOICE {
+                    return read_branches(sizes, &tail[next - at..], next, left, met, boxed, rows);
+                }
                 boxed = boxes_with(kind, boxed);
             }
         }
@@ -103,4 +108,47 @@ pub fn read_block(
         left -= 1;
     }
     packed::fine(next, met, boxed)
+}
+
+// A term that must be a block, as the outermost one (LANGUAGE 2.1) and those of a choice (2.3): 18 where it is another
+// (5.10). It is read as a block of one term is: with one caller only, the term reader becomes part of the block reader.
+pub fn read_due_block(
+    sizes: usize,
+    tail: &[u8],
+    at: usize,
+    levels: usize,
+    terms: usize,
+    boxes: usize,
+    rows: &mut [u32],
+) -> usize
+    requires { ⌜ Ready (unpacked sizes) (now tail) at boxes (now rows) × (terms < 8192) ⌝ }
+    ensures { λ r. ⌜ Reading (lay inRows) (readTerm (unpacked sizes) (versionOf sizes) levels true (now (tail .entry)) at terms boxes) terms (now (rows .entry)) (now (rows .exit)) (found r) ⌝ }
+{
+    if no_block_byte(sizes / limits::VERSION_UNIT, tail) {
+        return packed::refused(limits::NO_BLOCK, at);
+    }
+    read_block(sizes, tail, at, 1, levels, terms, boxes, rows)
+}
+
+// The two blocks of a choice (LANGUAGE 2.3), the second straight after the first.
+fn read_branches(
+    sizes: usize,
+    tail: &[u8],
+    at: usize,
+    levels: usize,
+    terms: usize,
+    boxes: usize,
+    rows: &mut [u32],
+) -> usize
+    requires { ⌜ Ready (unpacked sizes) (now tail) at boxes (now rows) × (terms < 8192) ⌝ }
+    ensures { λ r. ⌜ Reading (lays inRows) (readBranches (unpacked sizes) (versionOf sizes) levels (now (tail .entry)) at terms boxes) terms (now (rows .entry)) (now (rows .exit)) (found r) ⌝ }
+{
+    let first = read_due_block(sizes, tail, at, levels, terms, boxes, rows);
+    if packed::REFUSED <= first {
+        return first;
+    }
+    let next = first % packed::OFFSETS;
+    let met = first / packed::OFFSETS % packed::TERMS;
+    let boxed = first / packed::OFFSETS / packed::TERMS;
+    read_due_block(sizes, &tail[next - at..], next, levels, met, boxed, rows)
 }

@@ -1,4 +1,4 @@
--- The outermost term in bytes must be a block: the code asks that once, of the first byte, and then reads the term as any other.
+-- A term in bytes that must be a block: the code asks that first, of its kind byte, and then reads the term as any other.
 use Prim.Native.Nat.{ℕ, zero, suc, _+_, _-_, _≤_}
 use native.Mathlib.Omega.{arith}
 use mathlib.Core.Path.{_≡_, refl, sym, ap, _∙_}
