@@ -1,6 +1,6 @@
--- `reader::rows::judge_term` and `reader::rows::judge_block`, which call each other, meet their contracts. Each term inside another has one level less left.
--- The loops' invariants: the terms that are left, from where it stands, have the span of the whole block; and inside box, let and assign, the term where
--- it stands has the span of the whole term. Assumes nothing.
+-- The judges of a term, of a block's terms, of a block that is due and of a choice's two, which call one another, meet their contracts. Each
+-- term inside another has one level less left. The loops' invariants: the terms that are left, from where it stands, have the span of the whole
+-- block; and inside box, let and assign, the term where it stands has the span of the whole term. Assumes nothing.
 use Prim.Native.Nat.{ℕ, _<_, _≤_, _+_, _*_}
 use native.Mathlib.Omega.{arith}
 use mathlib.Core.Path.{_≡_, refl, sym, _∙_}
@@ -34,12 +34,8 @@ use Rattle.reader.proofs.packed.counted.Reads as counted-reads
 use Rattle.reader.proofs.packed.refused.Reads as refused-reads
 use Rattle.reader.proofs.rows.no_block.Reads as no-block-reads
 use Rattle.reader.proofs.rows.row_number.Reads as row-number-reads
-use Rattle.reader.proofs.rows.+judge_block+judge_branches+judge_due_block+judge_term.{
-  statement,
-}
-use Rattle.reader.proofs.rows.+judge_block+judge_branches+judge_due_block+judge_term.Tie.{
-  close,
-}
+use Rattle.reader.proofs.rows.+judge_block+judge_branches+judge_due_block+judge_term.{statement}
+use Rattle.reader.proofs.rows.+judge_block+judge_branches+judge_due_block+judge_term.Tie.{close}
 
 abbrev μ-judge-block : Measures 1 judge-block-kinds.ps ℕ
 μ-judge-block κs a = a .1 .1 .1 .1 .0 * 4 + 1
@@ -54,52 +50,28 @@ abbrev μ-judge-term : Measures 1 judge-term-kinds.ps ℕ
 μ-judge-term κs a = a .1 .1 .1 .0 * 4
 
 abbrev judge-block-at : ℕ → In 1 judge-block-kinds.ps
-judge-block-at t =
-    and 1 judge-block-kinds.ps (is 1 judge-block-kinds.ps μ-judge-block t) judge-block.Pre
+judge-block-at t = and 1 judge-block-kinds.ps (is 1 judge-block-kinds.ps μ-judge-block t) judge-block.Pre
 
 abbrev judge-block-below : ℕ → In 1 judge-block-kinds.ps
-judge-block-below t =
-    and 1 judge-block-kinds.ps (falls 1 judge-block-kinds.ps _<_ μ-judge-block t) judge-block.Pre
+judge-block-below t = and 1 judge-block-kinds.ps (falls 1 judge-block-kinds.ps _<_ μ-judge-block t) judge-block.Pre
 
 abbrev judge-branches-at : ℕ → In 1 judge-branches-kinds.ps
-judge-branches-at t =
-    and
-    1
-    judge-branches-kinds.ps
-    (is 1 judge-branches-kinds.ps μ-judge-branches t)
-    judge-branches.Pre
+judge-branches-at t = and 1 judge-branches-kinds.ps (is 1 judge-branches-kinds.ps μ-judge-branches t) judge-branches.Pre
 
 abbrev judge-branches-below : ℕ → In 1 judge-branches-kinds.ps
-judge-branches-below t =
-    and
-    1
-    judge-branches-kinds.ps
-    (falls 1 judge-branches-kinds.ps _<_ μ-judge-branches t)
-    judge-branches.Pre
+judge-branches-below t = and 1 judge-branches-kinds.ps (falls 1 judge-branches-kinds.ps _<_ μ-judge-branches t) judge-branches.Pre
 
 abbrev judge-due-block-at : ℕ → In 1 judge-due-block-kinds.ps
-judge-due-block-at t =
-    and
-    1
-    judge-due-block-kinds.ps
-    (is 1 judge-due-block-kinds.ps μ-judge-due-block t)
-    judge-due-block.Pre
+judge-due-block-at t = and 1 judge-due-block-kinds.ps (is 1 judge-due-block-kinds.ps μ-judge-due-block t) judge-due-block.Pre
 
 abbrev judge-due-block-below : ℕ → In 1 judge-due-block-kinds.ps
-judge-due-block-below t =
-    and
-    1
-    judge-due-block-kinds.ps
-    (falls 1 judge-due-block-kinds.ps _<_ μ-judge-due-block t)
-    judge-due-block.Pre
+judge-due-block-below t = and 1 judge-due-block-kinds.ps (falls 1 judge-due-block-kinds.ps _<_ μ-judge-due-block t) judge-due-block.Pre
 
 abbrev judge-term-at : ℕ → In 1 judge-term-kinds.ps
-judge-term-at t =
-    and 1 judge-term-kinds.ps (is 1 judge-term-kinds.ps μ-judge-term t) judge-term.Pre
+judge-term-at t = and 1 judge-term-kinds.ps (is 1 judge-term-kinds.ps μ-judge-term t) judge-term.Pre
 
 abbrev judge-term-below : ℕ → In 1 judge-term-kinds.ps
-judge-term-below t =
-    and 1 judge-term-kinds.ps (falls 1 judge-term-kinds.ps _<_ μ-judge-term t) judge-term.Pre
+judge-term-below t = and 1 judge-term-kinds.ps (falls 1 judge-term-kinds.ps _<_ μ-judge-term t) judge-term.Pre
 
 abbrev judge-block-Inv-loop : judge-block-lts.InvT-loop
 judge-block-Inv-loop sizes rows i count levels boxes next₀ boxed₀ left₀ next boxed left =
@@ -317,54 +289,19 @@ judge-term-loop-again t c =
 
 pub +judge-block+judge-branches+judge-due-block+judge-term-spec : {M : Type 1} → statement M
 +judge-block+judge-branches+judge-due-block+judge-term-spec =
-    close μ-judge-block μ-judge-branches μ-judge-due-block μ-judge-term (λ t. judge-block-lts.spec (judge-block-claims t) (judge-block-at t)
-    judge-block.Post
-    judge-block-Inv-loop
-    judge-block-μ-loop
-    (judge-block-loop-holds t)
-    (judge-block-judge-term-requires t)
-    (judge-block-returns t)
-    (judge-block-sub-left t)
-    (judge-block-loop-less t)
-    (judge-block-loop-again t)
-    (judge-block-counted-requires t)
-    (judge-block-returns-2 t))
-    (λ t. judge-branches-lts.spec
-    (judge-due-block-below t, judge-due-block.Post)
-    (judge-branches-at t)
-    judge-branches.Post
-    (judge-branches-judge-due-block-requires t)
-    (judge-branches-returns t)
-    (judge-branches-judge-due-block-requires-2 t)
+    close μ-judge-block μ-judge-branches μ-judge-due-block μ-judge-term
+    (λ t. judge-block-lts.spec (judge-block-claims t) (judge-block-at t) judge-block.Post judge-block-Inv-loop judge-block-μ-loop
+    (judge-block-loop-holds t) (judge-block-judge-term-requires t) (judge-block-returns t) (judge-block-sub-left t)
+    (judge-block-loop-less t) (judge-block-loop-again t) (judge-block-counted-requires t) (judge-block-returns-2 t))
+    (λ t. judge-branches-lts.spec (judge-due-block-below t, judge-due-block.Post) (judge-branches-at t) judge-branches.Post
+    (judge-branches-judge-due-block-requires t) (judge-branches-returns t) (judge-branches-judge-due-block-requires-2 t)
     (judge-branches-returns-2 t))
-    (λ t. judge-due-block-lts.spec (judge-due-block-claims t) (judge-due-block-at t)
-    judge-due-block.Post
-    (judge-due-block-no-block-requires t)
-    (judge-due-block-refused-requires t)
-    (judge-due-block-returns t)
-    (judge-due-block-judge-block-requires t)
-    (judge-due-block-returns-2 t))
-    λ t. judge-term-lts.spec (judge-term-claims t) (judge-term-at t)
-    judge-term.Post
-    judge-term-Inv-loop
-    judge-term-μ-loop
-    (judge-term-loop-holds t)
-    (judge-term-row-number-requires t)
-    (judge-term-refused-requires t)
-    (judge-term-returns t)
-    (judge-term-field-at-requires t)
-    (judge-term-add-next t)
-    (judge-term-counted-requires t)
-    (judge-term-returns-2 t)
-    (judge-term-counted-requires-2 t)
-    (judge-term-returns-3 t)
-    (judge-term-sub-left t)
-    (judge-term-field-at-requires-2 t)
-    (judge-term-cast-count t)
-    (judge-term-judge-block-requires t)
-    (judge-term-returns-4 t)
-    (judge-term-judge-branches-requires t)
-    (judge-term-returns-5 t)
-    (judge-term-boxes-with-requires t)
-    (judge-term-loop-less t)
-    (judge-term-loop-again t)
+    (λ t. judge-due-block-lts.spec (judge-due-block-claims t) (judge-due-block-at t) judge-due-block.Post
+    (judge-due-block-no-block-requires t) (judge-due-block-refused-requires t) (judge-due-block-returns t)
+    (judge-due-block-judge-block-requires t) (judge-due-block-returns-2 t))
+    λ t. judge-term-lts.spec (judge-term-claims t) (judge-term-at t) judge-term.Post judge-term-Inv-loop judge-term-μ-loop
+    (judge-term-loop-holds t) (judge-term-row-number-requires t) (judge-term-refused-requires t) (judge-term-returns t)
+    (judge-term-field-at-requires t) (judge-term-add-next t) (judge-term-counted-requires t) (judge-term-returns-2 t)
+    (judge-term-counted-requires-2 t) (judge-term-returns-3 t) (judge-term-sub-left t) (judge-term-field-at-requires-2 t)
+    (judge-term-cast-count t) (judge-term-judge-block-requires t) (judge-term-returns-4 t) (judge-term-judge-branches-requires t)
+    (judge-term-returns-5 t) (judge-term-boxes-with-requires t) (judge-term-loop-less t) (judge-term-loop-again t)

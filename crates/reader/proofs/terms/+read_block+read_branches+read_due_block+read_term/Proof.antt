@@ -1,5 +1,6 @@
--- The term reader and the block reader, which call each other, meet their contracts. The measure is twice the levels left, one more for
--- the block; the loops' invariants are `Inner` and `Going`. Assumes nothing.
+-- The readers of a term, of a block's terms, of a block that is due and of a choice's two, which call one another, meet their contracts.
+-- The measure is four times the levels left, with 1, 2 and 3 more for the latter three; the loops' invariants are `Inner` and `Going`.
+-- Assumes nothing.
 use Prim.Native.Nat.{ℕ, _<_, _+_, _-_, _*_}
 use native.Mathlib.Omega.{arith}
 use mathlib.Core.Path.{_≡_, refl, sym, _∙_}
@@ -37,12 +38,8 @@ use Rattle.reader.proofs.opening.opening_number.Reads as opening-number
 use Rattle.reader.proofs.operands.read_operands.Reads as read-operands-reads
 use Rattle.reader.proofs.packed.fine.Reads as fine-reads
 use Rattle.reader.proofs.packed.refused.Reads as refused-reads
-use Rattle.reader.proofs.terms.+read_block+read_branches+read_due_block+read_term.{
-  statement,
-}
-use Rattle.reader.proofs.terms.+read_block+read_branches+read_due_block+read_term.Tie.{
-  close,
-}
+use Rattle.reader.proofs.terms.+read_block+read_branches+read_due_block+read_term.{statement}
+use Rattle.reader.proofs.terms.+read_block+read_branches+read_due_block+read_term.Tie.{close}
 
 abbrev μ-read-block : Measures 2 read-block-kinds.ps ℕ
 μ-read-block κs a = a .1 .1 .1 .1 .0 * 4 + 1
@@ -57,47 +54,28 @@ abbrev μ-read-term : Measures 2 read-term-kinds.ps ℕ
 μ-read-term κs a = a .1 .1 .1 .0 * 4
 
 abbrev read-block-at : ℕ → In 2 read-block-kinds.ps
-read-block-at t =
-    and 2 read-block-kinds.ps (is 2 read-block-kinds.ps μ-read-block t) read-block.Pre
+read-block-at t = and 2 read-block-kinds.ps (is 2 read-block-kinds.ps μ-read-block t) read-block.Pre
 
 abbrev read-block-below : ℕ → In 2 read-block-kinds.ps
-read-block-below t =
-    and 2 read-block-kinds.ps (falls 2 read-block-kinds.ps _<_ μ-read-block t) read-block.Pre
+read-block-below t = and 2 read-block-kinds.ps (falls 2 read-block-kinds.ps _<_ μ-read-block t) read-block.Pre
 
 abbrev read-branches-at : ℕ → In 2 read-branches-kinds.ps
-read-branches-at t =
-    and 2 read-branches-kinds.ps (is 2 read-branches-kinds.ps μ-read-branches t) read-branches.Pre
+read-branches-at t = and 2 read-branches-kinds.ps (is 2 read-branches-kinds.ps μ-read-branches t) read-branches.Pre
 
 abbrev read-branches-below : ℕ → In 2 read-branches-kinds.ps
-read-branches-below t =
-    and
-    2
-    read-branches-kinds.ps
-    (falls 2 read-branches-kinds.ps _<_ μ-read-branches t)
-    read-branches.Pre
+read-branches-below t = and 2 read-branches-kinds.ps (falls 2 read-branches-kinds.ps _<_ μ-read-branches t) read-branches.Pre
 
 abbrev read-due-block-at : ℕ → In 2 read-due-block-kinds.ps
-read-due-block-at t =
-    and
-    2
-    read-due-block-kinds.ps
-    (is 2 read-due-block-kinds.ps μ-read-due-block t)
-    read-due-block.Pre
+read-due-block-at t = and 2 read-due-block-kinds.ps (is 2 read-due-block-kinds.ps μ-read-due-block t) read-due-block.Pre
 
 abbrev read-due-block-below : ℕ → In 2 read-due-block-kinds.ps
-read-due-block-below t =
-    and
-    2
-    read-due-block-kinds.ps
-    (falls 2 read-due-block-kinds.ps _<_ μ-read-due-block t)
-    read-due-block.Pre
+read-due-block-below t = and 2 read-due-block-kinds.ps (falls 2 read-due-block-kinds.ps _<_ μ-read-due-block t) read-due-block.Pre
 
 abbrev read-term-at : ℕ → In 2 read-term-kinds.ps
 read-term-at t = and 2 read-term-kinds.ps (is 2 read-term-kinds.ps μ-read-term t) read-term.Pre
 
 abbrev read-term-below : ℕ → In 2 read-term-kinds.ps
-read-term-below t =
-    and 2 read-term-kinds.ps (falls 2 read-term-kinds.ps _<_ μ-read-term t) read-term.Pre
+read-term-below t = and 2 read-term-kinds.ps (falls 2 read-term-kinds.ps _<_ μ-read-term t) read-term.Pre
 
 abbrev read-block-Inv-loop : read-block-lts.InvT-loop
 read-block-Inv-loop sizes tail at count levels terms boxes rows₀ next₀ met₀ boxed₀ left₀ rows next met boxed left =
@@ -175,23 +153,23 @@ read-branches-same-length : (t : ℕ) → read-branches-lts.Need-same-length (re
 read-branches-same-length t c = c .before .before .before .read-due-block .kept .1 .1 .1 .1 .1 .1 .0
 
 read-branches-returns : (t : ℕ) → read-branches-lts.Need-returns (read-branches-claims t) (read-branches-at t) read-branches.Post
-read-branches-returns t c = first-refused _ _ _ _ _ _ _ _ _ (c .before .before .before .before .before .before .before .pre .1 .0) _ (c .before .before .before .read-due-block .ensures) _ _ (found-refused _ (c .if1 .taken))
+read-branches-returns t c = first-refused _ _ _ _ _ _ _ _ _ (c .before .before .before .before .before .before .before .pre .1 .0) _ (c .before .before .before .read-due-block .ensures) (c .if1 .taken)
 
 read-branches-sub-read-due-block : (t : ℕ) → read-branches-lts.Need-sub-read-due-block (read-branches-claims t) (read-branches-at t) read-branches.Post
 read-branches-sub-read-due-block t c =
     let d = c .before .before .before .read-due-block in
-    second-due _ _ _ _ _ _ _ _ _ (c .before .before .before .before .before .before .before .pre .1 .0) _ (d .ensures) _ _ _ (found-fine _ (c .if1 .left)) (d .kept .1 .1 .1 .1 .1 .1 .0 ∙ c .before .before .before .before .before .before .before .pre .1 .0 .full) .from
+    second-due _ _ _ _ _ _ _ _ _ (c .before .before .before .before .before .before .before .pre .1 .0) _ (d .ensures) (c .if1 .left) (d .kept .1 .1 .1 .1 .1 .1 .0) .from
 
 read-branches-sub-read-due-block-2 : (t : ℕ) → read-branches-lts.Need-sub-read-due-block-2 (read-branches-claims t) (read-branches-at t) read-branches.Post
 read-branches-sub-read-due-block-2 t c =
     let d = c .before .before .before .read-due-block in
-    second-due _ _ _ _ _ _ _ _ _ (c .before .before .before .before .before .before .before .pre .1 .0) _ (d .ensures) _ _ _ (found-fine _ (c .if1 .left)) (d .kept .1 .1 .1 .1 .1 .1 .0 ∙ c .before .before .before .before .before .before .before .pre .1 .0 .full) .within
+    second-due _ _ _ _ _ _ _ _ _ (c .before .before .before .before .before .before .before .pre .1 .0) _ (d .ensures) (c .if1 .left) (d .kept .1 .1 .1 .1 .1 .1 .0) .within
 
 read-branches-part-read-due-block-start :
     (t : ℕ) → read-branches-lts.Need-part-read-due-block-start (read-branches-claims t) (read-branches-at t) read-branches.Post
 read-branches-part-read-due-block-start t c =
     let d = c .before .before .before .read-due-block in
-    second-due _ _ _ _ _ _ _ _ _ (c .before .before .before .before .before .before .before .pre .1 .0) _ (d .ensures) _ _ _ (found-fine _ (c .if1 .left)) (d .kept .1 .1 .1 .1 .1 .1 .0 ∙ c .before .before .before .before .before .before .before .pre .1 .0 .full) .within
+    second-due _ _ _ _ _ _ _ _ _ (c .before .before .before .before .before .before .before .pre .1 .0) _ (d .ensures) (c .if1 .left) (d .kept .1 .1 .1 .1 .1 .1 .0) .within
 
 read-branches-part-read-due-block-end : (t : ℕ) → read-branches-lts.Need-part-read-due-block-end (read-branches-claims t) (read-branches-at t) read-branches.Post
 read-branches-part-read-due-block-end t c = search needs
@@ -200,7 +178,7 @@ read-branches-read-due-block-requires-2 :
     (t : ℕ) → read-branches-lts.Need-read-due-block-requires-2 (read-branches-claims t) (read-branches-at t) read-branches.Post
 read-branches-read-due-block-requires-2 t c κs =
     let d = c .before .before .before .before .before .read-due-block in
-    let g = second-due _ _ _ _ _ _ _ _ _ (c .before .before .before .before .before .before .before .before .before .pre .1 .0) _ (d .ensures) _ _ _ (found-fine _ (c .before .before .if1 .left)) (d .kept .1 .1 .1 .1 .1 .1 .0 ∙ c .before .before .before .before .before .before .before .before .before .pre .1 .0 .full) in
+    let g = second-due _ _ _ _ _ _ _ _ _ (c .before .before .before .before .before .before .before .before .before .pre .1 .0) _ (d .ensures) (c .before .before .if1 .left) (d .kept .1 .1 .1 .1 .1 .1 .0) in
     (omega (arith, c .before .before .before .before .before .before .before .before .before .pre .0), (going-ready _ _ _ _ _ _ _ _ _ _ _ _ _ _ _ g, omega arith))
 
 read-branches-same-length-2 : (t : ℕ) → read-branches-lts.Need-same-length-2 (read-branches-claims t) (read-branches-at t) read-branches.Post
@@ -209,7 +187,7 @@ read-branches-same-length-2 t c = c .before .before .read-due-block2 .kept .1 .1
 read-branches-returns-2 : (t : ℕ) → read-branches-lts.Need-returns-2 (read-branches-claims t) (read-branches-at t) read-branches.Post
 read-branches-returns-2 t c =
     let d = c .before .before .before .before .before .before .before .before .read-due-block in
-    let g = second-due _ _ _ _ _ _ _ _ _ (c .before .before .before .before .before .before .before .before .before .before .before .before .pre .1 .0) _ (d .ensures) _ _ _ (found-fine _ (c .before .before .before .before .before .if1 .left)) (d .kept .1 .1 .1 .1 .1 .1 .0 ∙ c .before .before .before .before .before .before .before .before .before .before .before .before .pre .1 .0 .full) in
+    let g = second-due _ _ _ _ _ _ _ _ _ (c .before .before .before .before .before .before .before .before .before .before .before .before .pre .1 .0) _ (d .ensures) (c .before .before .before .before .before .if1 .left) (d .kept .1 .1 .1 .1 .1 .1 .0) in
     going-last _ _ _ _ _ _ _ _ _ _ _ _ _ _ _ g (omega arith) _ _ (c .before .before .read-due-block2 .ensures) refl
 
 read-due-block-no-block-byte-requires : (t : ℕ) → read-due-block-lts.Need-no-block-byte-requires (read-due-block-claims t) (read-due-block-at t) read-due-block.Post
@@ -404,96 +382,29 @@ read-term-loop-again t c = inner-on (c .before .before .before .before .before .
 
 pub +read-block+read-branches+read-due-block+read-term-spec : {M : Type 1} → statement M
 +read-block+read-branches+read-due-block+read-term-spec =
-    close μ-read-block μ-read-branches μ-read-due-block μ-read-term (λ t. read-block-lts.spec (read-block-claims t) (read-block-at t)
-    read-block.Post
-    read-block-Inv-loop
-    read-block-μ-loop
-    (read-block-loop-holds t)
-    (read-block-sub-used t)
-    (read-block-sub-read-term t)
-    (read-block-part-read-term-start t)
-    (read-block-part-read-term-end t)
-    (read-block-read-term-requires t)
-    (read-block-same-length t)
-    (read-block-returns t)
-    (read-block-sub-left t)
-    (read-block-loop-less t)
-    (read-block-loop-again t)
-    (read-block-fine-requires t)
-    (read-block-same-length-2 t)
+    close μ-read-block μ-read-branches μ-read-due-block μ-read-term
+    (λ t. read-block-lts.spec (read-block-claims t) (read-block-at t) read-block.Post read-block-Inv-loop read-block-μ-loop
+    (read-block-loop-holds t) (read-block-sub-used t) (read-block-sub-read-term t) (read-block-part-read-term-start t)
+    (read-block-part-read-term-end t) (read-block-read-term-requires t) (read-block-same-length t) (read-block-returns t)
+    (read-block-sub-left t) (read-block-loop-less t) (read-block-loop-again t) (read-block-fine-requires t) (read-block-same-length-2 t)
     (read-block-returns-2 t))
-    (λ t. read-branches-lts.spec
-    (read-due-block-below t, read-due-block.Post)
-    (read-branches-at t)
-    read-branches.Post
-    (read-branches-read-due-block-requires t)
-    (read-branches-same-length t)
-    (read-branches-returns t)
-    (read-branches-sub-read-due-block t)
-    (read-branches-sub-read-due-block-2 t)
-    (read-branches-part-read-due-block-start t)
-    (read-branches-part-read-due-block-end t)
-    (read-branches-read-due-block-requires-2 t)
-    (read-branches-same-length-2 t)
-    (read-branches-returns-2 t))
-    (λ t. read-due-block-lts.spec (read-due-block-claims t) (read-due-block-at t)
-    read-due-block.Post
-    (read-due-block-no-block-byte-requires t)
-    (read-due-block-refused-requires t)
-    (read-due-block-returns t)
-    (read-due-block-read-block-requires t)
-    (read-due-block-same-length t)
-    (read-due-block-returns-2 t))
-    λ t. read-term-lts.spec (read-term-claims t) (read-term-at t)
-    read-term.Post
-    read-term-Inv-loop
-    read-term-μ-loop
-    (read-term-loop-holds t)
-    (read-term-sub-used t)
-    (read-term-sub-opening-number t)
-    (read-term-part-opening-number-start t)
-    (read-term-part-opening-number-end t)
-    (read-term-opening-number-requires t)
-    (read-term-refused-requires t)
-    (read-term-same-length t)
-    (read-term-returns t)
-    (read-term-shared-slice-read-kind t)
-    (read-term-cast-kind t)
-    (read-term-sub-read-operands t)
-    (read-term-part-read-operands-start t)
-    (read-term-part-read-operands-end t)
-    (read-term-read-operands-requires t)
-    (read-term-enum-known-fields t)
-    (read-term-refused-requires-2 t)
-    (read-term-same-length-2 t)
-    (read-term-returns-2 t)
-    (read-term-enum-known-fields-2 t)
-    (read-term-add-next t)
-    (read-term-add-met t)
-    (read-term-fine-requires t)
-    (read-term-same-length-3 t)
-    (read-term-returns-3 t)
-    (read-term-fine-requires-2 t)
-    (read-term-same-length-4 t)
-    (read-term-returns-4 t)
-    (read-term-sub-left t)
-    (read-term-add-count t)
-    (read-term-shared-slice-read-count t)
-    (read-term-cast-count t)
-    (read-term-sub-read-block t)
-    (read-term-sub-read-block-2 t)
-    (read-term-part-read-block-start t)
-    (read-term-part-read-block-end t)
-    (read-term-read-block-requires t)
-    (read-term-same-length-5 t)
-    (read-term-returns-5 t)
-    (read-term-sub-read-branches t)
-    (read-term-sub-read-branches-2 t)
-    (read-term-part-read-branches-start t)
-    (read-term-part-read-branches-end t)
-    (read-term-read-branches-requires t)
-    (read-term-same-length-6 t)
-    (read-term-returns-6 t)
-    (read-term-boxes-with-requires t)
-    (read-term-loop-less t)
-    (read-term-loop-again t)
+    (λ t. read-branches-lts.spec (read-due-block-below t, read-due-block.Post) (read-branches-at t) read-branches.Post
+    (read-branches-read-due-block-requires t) (read-branches-same-length t) (read-branches-returns t) (read-branches-sub-read-due-block t)
+    (read-branches-sub-read-due-block-2 t) (read-branches-part-read-due-block-start t) (read-branches-part-read-due-block-end t)
+    (read-branches-read-due-block-requires-2 t) (read-branches-same-length-2 t) (read-branches-returns-2 t))
+    (λ t. read-due-block-lts.spec (read-due-block-claims t) (read-due-block-at t) read-due-block.Post
+    (read-due-block-no-block-byte-requires t) (read-due-block-refused-requires t) (read-due-block-returns t)
+    (read-due-block-read-block-requires t) (read-due-block-same-length t) (read-due-block-returns-2 t))
+    λ t. read-term-lts.spec (read-term-claims t) (read-term-at t) read-term.Post read-term-Inv-loop read-term-μ-loop
+    (read-term-loop-holds t) (read-term-sub-used t) (read-term-sub-opening-number t) (read-term-part-opening-number-start t)
+    (read-term-part-opening-number-end t) (read-term-opening-number-requires t) (read-term-refused-requires t) (read-term-same-length t)
+    (read-term-returns t) (read-term-shared-slice-read-kind t) (read-term-cast-kind t) (read-term-sub-read-operands t)
+    (read-term-part-read-operands-start t) (read-term-part-read-operands-end t) (read-term-read-operands-requires t)
+    (read-term-enum-known-fields t) (read-term-refused-requires-2 t) (read-term-same-length-2 t) (read-term-returns-2 t)
+    (read-term-enum-known-fields-2 t) (read-term-add-next t) (read-term-add-met t) (read-term-fine-requires t) (read-term-same-length-3 t)
+    (read-term-returns-3 t) (read-term-fine-requires-2 t) (read-term-same-length-4 t) (read-term-returns-4 t) (read-term-sub-left t)
+    (read-term-add-count t) (read-term-shared-slice-read-count t) (read-term-cast-count t) (read-term-sub-read-block t)
+    (read-term-sub-read-block-2 t) (read-term-part-read-block-start t) (read-term-part-read-block-end t) (read-term-read-block-requires t)
+    (read-term-same-length-5 t) (read-term-returns-5 t) (read-term-sub-read-branches t) (read-term-sub-read-branches-2 t)
+    (read-term-part-read-branches-start t) (read-term-part-read-branches-end t) (read-term-read-branches-requires t)
+    (read-term-same-length-6 t) (read-term-returns-6 t) (read-term-boxes-with-requires t) (read-term-loop-less t) (read-term-loop-again t)
