@@ -5,7 +5,7 @@ use mathlib.Core.Path.{_≡_, refl, sym, ap, ap₂, _∙_}
 use mathlib.Core.Bool.{Bool, true}
 use mathlib.Core.List.{List, _++_}
 use Rattle.reader.specs.Result.{Result, ok, err, Refusal}
-use Rattle.reader.specs.Script.{Term, Terms, block, choice, last, more}
+use Rattle.reader.specs.Script.{Term, Terms, choice, last, more}
 use Rattle.reader.specs.Kinds.{kBlock, kChoice}
 use Rattle.reader.specs.Layout.{inRows, zeros, unused, head, placeOf, others, lay, lays}
 use Rattle.reader.specs.Reader.{Cursor, Reads, done, several, placeAt, branch, built}
