@@ -15,7 +15,7 @@ use Rattle.reader.specs.Script.{Term}
 use Rattle.reader.specs.Kinds.{Kind, kNumber, kReading, kCopy, kMove, kShared, kExclusive, kBox, kLet, kAssign, kBelow, kBlock, kChoice, kSum, byteOf, kindOf, fields}
 use Rattle.reader.specs.Layout.{inRows}
 use Rattle.reader.specs.Reader.{Cursor, placeIn, operands, zeroFields, restOfRow, is, boxesOf, ended, opening, built, term}
-use Rattle.reader.specs.Parts.{cursor, knownIn}
+use Rattle.reader.specs.Parts.{cursor, knownIn, fieldsOf}
 use Rattle.reader.specs.RowParts.{fieldAt, fieldsAt, fieldsFit, rowNumber, rowCursor, termRows}
 use Rattle.reader.proofs.KindBytes.{found}
 use Rattle.reader.proofs.KnownKinds.{known-some, known-none, fields-of}
@@ -229,6 +229,20 @@ module _ (l : Limits) (v levels : ℕ) (outer : Bool) (rows : List ℕ) (i boxes
               enters = λ z. record { kind = k; is = h; room = room; deep = omega arith; few = fits; fit = t; builds = by-fields ∙ ap (λ (u : Bool). pick u inner (err (14, i))) t };
             }
 
+  -- The tests for 18, 15, 17 and 14, at a row whose kind is k.
+  of-kind : i < l .terms → (k : Kind) → kindOf v (fieldAt rows i 0) ≡ some k
+      → Row (pick (outer && not (eqb (fieldAt rows i 0) 11)) 18 (pick (eqb levels 0) 15 (pick (eqb (fieldAt rows i 0) 7 && leb (l .boxes) boxes) 17 (pick (fieldsFit (fieldsOf l (fieldAt rows i 0)) (fieldsAt rows i)) 0 14))))
+  of-kind room k h =
+      let b = fieldAt rows i 0 in
+      choose (outer && not (eqb b 11)) 18 _ (no-block room k h) λ st.
+      choose (eqb levels 0) 15 _ (λ t. too-deep room k h st (eqb-true levels 0 t)) λ q.
+      let level : levels ≡ suc (levels - 1) = omega (arith, eqb-false levels 0 q) in
+      let e : boxesOf k ≡ pick (eqb b 7) 1 0 = boxes-of v b k h in
+      choose (eqb b 7 && leb (l .boxes) boxes) 17 _ (λ t. too-many room k h st (levels - 1) level (rw e (boxes-over (l .boxes) (eqb b 7) (leb (l .boxes) boxes) boxes refl t))) λ m.
+      let fits : boxes + boxesOf k ≤ l .boxes = rw e (boxes-fit (l .boxes) (eqb b 7) (leb (l .boxes) boxes) boxes few refl m) in
+      rw (fields-of b l v k h)
+      (choose (fieldsFit (fields l k) (fieldsAt rows i)) 0 14 (entered room k h st (levels - 1) level fits) (misfit room k h st (levels - 1) level fits))
+
   pub row-judged : Row (rowNumber l v levels outer rows i boxes)
   unfolding rowNumber
   row-judged =
@@ -238,12 +252,4 @@ module _ (l : Limits) (v levels : ℕ) (outer : Bool) (rows : List ℕ) (i boxes
       choose (eqb b 0) 12 _ (λ t. kind-zero room (eqb-true b 0 t)) λ z.
       choose (not (knownIn v b)) 13 _ (λ t. kind-unknown room z (denied (knownIn v b) t)) λ w.
       let o = known-some b v (granted (knownIn v b) w) in
-      let k = o .0 in
-      choose (outer && not (eqb b 11)) 18 _ (no-block room k (o .1)) λ st.
-      choose (eqb levels 0) 15 _ (λ t. too-deep room k (o .1) st (eqb-true levels 0 t)) λ q.
-      let level : levels ≡ suc (levels - 1) = omega (arith, eqb-false levels 0 q) in
-      let e : boxesOf k ≡ pick (eqb b 7) 1 0 = boxes-of v b k (o .1) in
-      choose (eqb b 7 && leb (l .boxes) boxes) 17 _ (λ t. too-many room k (o .1) st (levels - 1) level (rw e (boxes-over (l .boxes) (eqb b 7) (leb (l .boxes) boxes) boxes refl t))) λ m.
-      let fits : boxes + boxesOf k ≤ l .boxes = rw e (boxes-fit (l .boxes) (eqb b 7) (leb (l .boxes) boxes) boxes few refl m) in
-      rw (fields-of b l v k (o .1))
-      (choose (fieldsFit (fields l k) (fieldsAt rows i)) 0 14 (entered room k (o .1) st (levels - 1) level fits) (misfit room k (o .1) st (levels - 1) level fits))
+      of-kind room (o .0) (o .1)
