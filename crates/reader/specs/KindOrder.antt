@@ -2,7 +2,7 @@
 -- it gives the first; on a kind of a later version (2.3); and on versions (5.9, 6.2).
 use Prim.Native.Nat.{ℕ}
 use mathlib.Core.Path.{_≡_, refl}
-use mathlib.Core.List.{List, [], _∷_}
+use mathlib.Core.List.{List, [], _∷_, _++_}
 use Rattle.reader.specs.Result
 use Rattle.reader.specs.Result.{err, need}
 use Rattle.reader.specs.Limits.{Limits}
@@ -22,8 +22,17 @@ outermost v kind = 0x52 ∷ 0x43 ∷ 0x53 ∷ 0 ∷ v ∷ kind ∷ []
 abbrev blockOf : List ℕ → List ℕ
 blockOf bytes = 0x52 ∷ 0x43 ∷ 0x53 ∷ 0 ∷ 1 ∷ 0x0B ∷ 1 ∷ bytes
 
+-- Mark, version 2, and a block of one choice, of whose branches these bytes are there.
+abbrev choiceOf : List ℕ → List ℕ
+choiceOf bytes = 0x52 ∷ 0x43 ∷ 0x53 ∷ 0 ∷ 2 ∷ 0x0B ∷ 1 ∷ 0x0C ∷ 0 ∷ 0 ∷ bytes
+
+-- A block of one number.
+abbrev numberBlock : List ℕ
+numberBlock = 0x0B ∷ 1 ∷ 0x01 ∷ 0 ∷ 0 ∷ 0 ∷ 0 ∷ []
+
 -- No byte; a choice and a sum in version 1 and in version 2, and a box, as the outermost term; a box inside where a term, a level and a box
--- are too many, each without the one before; one byte of a version, versions 257 and 3, versions that are newer than the newest known one, and a
+-- are too many, each without the one before; as a branch where a term, a level and a box are too many, no byte, a byte that is no kind, a box, a
+-- block, and a block with a term more, and a box as the second branch; one byte of a version, versions 257 and 3, versions that are newer than the newest known one, and a
 -- reader that is told a newer one than there is.
 pub order :
     (parse (few 1 1) 2 (blockOf []) ≡ err (12, 7))
@@ -35,6 +44,12 @@ pub order :
     × (parse (few 1 1) 2 (blockOf (0x07 ∷ [])) ≡ err (16, 7))
     × (parse (few 2 1) 2 (blockOf (0x07 ∷ [])) ≡ err (15, 7))
     × (parse (few 2 2) 2 (blockOf (0x07 ∷ [])) ≡ err (17, 7))
+    × (parse (few 2 2) 2 (choiceOf []) ≡ err (12, 10))
+    × (parse (few 2 2) 2 (choiceOf (0x0E ∷ [])) ≡ err (13, 10))
+    × (parse (few 2 2) 2 (choiceOf (0x07 ∷ [])) ≡ err (18, 10))
+    × (parse (few 2 2) 2 (choiceOf (0x0B ∷ [])) ≡ err (16, 10))
+    × (parse (few 3 2) 2 (choiceOf (0x0B ∷ [])) ≡ err (15, 10))
+    × (parse (few 4 4) 2 (choiceOf (numberBlock ++ 0x07 ∷ [])) ≡ err (18, 17))
     × (parse (few 1 1) 2 (0x52 ∷ 0x43 ∷ 0x53 ∷ 1 ∷ []) ≡ err (12, 4))
     × (parse (few 1 1) 2 (0x52 ∷ 0x43 ∷ 0x53 ∷ 1 ∷ 1 ∷ []) ≡ err (11, 3))
     × (parse (few 1 1) 2 (outermost 3 0x0C) ≡ err (11, 3))
@@ -45,4 +60,4 @@ unfolding
     need Result._>>=_
     Kinds.newest Kinds.knows Kinds.byteOf Kinds.kinds Kinds.among Kinds.kindOf Kinds.fields
     Reader._>>=_ Reader.done Reader.placeIn Reader.expect Reader.first Reader.peek Reader.skip Reader.next Reader.ranged Reader.field Reader.operands Reader.restOfRow Reader.is Reader.boxesOf Reader.ended Reader.known Reader.kind Reader.opening Reader.counted Reader.several Reader.built Reader.term Reader.nothingLeft Reader.over Reader.script Reader.mark Reader.version Reader.leading Reader.wholeScript Reader.answer Reader.parse
-order = (refl, refl, refl, refl, refl, refl, refl, refl, refl, refl, refl, refl, refl, refl, refl)
+order = (refl, refl, refl, refl, refl, refl, refl, refl, refl, refl, refl, refl, refl, refl, refl, refl, refl, refl, refl, refl, refl)
