@@ -21,7 +21,8 @@ use crate::limits::Limits;
 use crate::limits::in_ranges;
 use crate::limits::row_numbers;
 use crate::rows::first_used;
-use crate::rows::judge_due_block;
+use crate::rows::judge_block;
+use crate::rows::no_block;
 use crate::script::clear_from;
 use crate::script::read_script;
 
@@ -70,8 +71,13 @@ fn judge_given(sizes: usize, rows: &[u32]) -> Outcome
     requires { ⌜ RowsFor (unpacked sizes) (now rows) ⌝ }
     ensures { λ r. ⌜ told r ≡ judgedIn (unpacked sizes) (versionOf sizes) (now (rows .entry)) ⌝ }
 {
+    if no_block(sizes / limits::VERSION_UNIT, rows, 0) {
+        return Outcome::Refused(limits::NO_BLOCK, 0);
+    }
+    // The outermost term as a block of one. 18 was asked here, so that the judges are entered by that of a block: the judge
+    // of a term is then compiled into it.
     let levels = sizes / limits::LEVELS_UNIT % limits::LEVELS_MODULUS;
-    let span = judge_due_block(sizes, rows, 0, levels, 0);
+    let span = judge_block(sizes, rows, 0, 1, levels, 0);
     if packed::REFUSED <= span {
         return Outcome::Refused(packed::number_of(span), span % packed::PLACES);
     }

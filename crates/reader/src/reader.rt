@@ -13,9 +13,10 @@ ghost use Rattle.reader.specs.Lent.{begun, reached, advanced, Inside, Ro
 use crate::fields::wide;
 use crate::kinds;
 use crate::limits;
+use crate::opening::no_block_byte;
 use crate::operands::Fields;
 use crate::packed;
-use crate::terms::read_due_block;
+use crate::terms::read_block;
 
 // The lent bytes of a script, and the next offset.
 pub struct Reader<'a> {
@@ -112,7 +113,9 @@ fn tell_version(version: usize, got: usize) -> usize
 }
 
 // The outermost term (LANGUAGE 2.1), with the kinds of the version that `lead` tells (2.3), which is 11 where it is newer
-// than the one in `sizes` (5.4, 6.2). It is read from the part of the script that begins at its kind byte (2.2).
+// than the one in `sizes` (5.4, 6.2). It is read from the part of the script that begins at its kind byte (2.2), as a
+// block of one term is. 18 is asked here, so that the readers are entered by the block reader: the compiler then makes the
+// term reader part of it.
 fn outermost_answer(sizes: usize, script: &[u8], at: usize, lead: usize, rows: &mut [u32]) -> usize
     requires { ⌜ Inside (now script) at × RowsFor (unpacked sizes) (now rows) ⌝ }
     ensures { λ r. ⌜ OutermostRead (unpacked sizes) (versionOf sizes) (found lead) (now (script .entry)) at (now (rows .entry)) (now (rows .exit)) (found r) ⌝ }
@@ -124,9 +127,12 @@ fn outermost_answer(sizes: usize, script: &[u8], at: usize, lead: usize, rows: &
     if sizes / limits::VERSION_UNIT < version {
         return packed::refused(limits::VERSION, limits::VERSION_PLACE);
     }
+    if no_block_byte(version, &script[at..]) {
+        return packed::refused(limits::NO_BLOCK, at);
+    }
     let levels = sizes / limits::LEVELS_UNIT % limits::LEVELS_MODULUS;
     let own_sizes = limits::with_version(sizes, version);
-    let got = read_due_block(own_sizes, &script[at..], at, levels, 0, 0, rows);
+    let got = read_block(own_sizes, &script[at..], at, 1, levels, 0, 0, rows);
     tell_version(version, got)
 }
 

@@ -64,7 +64,7 @@ fn fields_fit(sizes: usize, kind: u32, a: u32, b: u32, c: u32, d: u32) -> bool
 
 // 18 (LANGUAGE 5.12): row i is a term's, and not a block's. It is asked only where a block must stand. Nothing but 12 and 13
 // comes before it, so it is asked before the row is judged as any other.
-fn no_block(version: usize, rows: &[u32], i: usize) -> bool
+pub fn no_block(version: usize, rows: &[u32], i: usize) -> bool
     requires { ⌜ i < 8192 ⌝ }
     ensures { λ r. ⌜ r ≡ noBlock version (now (rows .entry)) i ⌝ }
 {
@@ -173,9 +173,9 @@ pub fn judge_block(
     packed::counted(next, boxed)
 }
 
-// A term that must be a block, as the outermost one (LANGUAGE 2.1) and those of a choice (2.3): 18 where it is another
-// (5.12). It is judged as a block of one: the judge of a term is then called in one place, and compiled into it.
-pub fn judge_due_block(sizes: usize, rows: &[u32], i: usize, levels: usize, boxes: usize) -> usize
+// A term that must be a block, one of a choice (LANGUAGE 2.3): 18 where it is another (5.12). It is judged as a block of one
+// term is: the judge of a term is then called in one place, and compiled into it.
+fn judge_due_block(sizes: usize, rows: &[u32], i: usize, levels: usize, boxes: usize) -> usize
     requires { ⌜ RowsReady (unpacked sizes) (now rows) i boxes ⌝ }
     ensures { λ r. ⌜ spanned r ≡ spanOf (termRows (unpacked sizes) (versionOf sizes) levels true (now (rows .entry)) i boxes) ⌝ }
 {

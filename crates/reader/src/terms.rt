@@ -110,9 +110,9 @@ pub fn read_block(
     packed::fine(next, met, boxed)
 }
 
-// A term that must be a block, as the outermost one (LANGUAGE 2.1) and those of a choice (2.3): 18 where it is another
-// (5.10). It is read as a block of one term is: with one caller only, the term reader becomes part of the block reader.
-pub fn read_due_block(
+// A term that must be a block, one of a choice (LANGUAGE 2.3): 18 where it is another (5.10). It is read as a block of one
+// term is: with one caller only, the term reader becomes part of the block reader.
+fn read_due_block(
     sizes: usize,
     tail: &[u8],
     at: usize,
