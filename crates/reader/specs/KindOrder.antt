@@ -31,9 +31,9 @@ abbrev numberBlock : List ℕ
 numberBlock = 0x0B ∷ 1 ∷ 0x01 ∷ 0 ∷ 0 ∷ 0 ∷ 0 ∷ []
 
 -- No byte; a choice and a sum in version 1 and in version 2, and a box, as the outermost term; a box inside where a term, a level and a box
--- are too many, each without the one before; as a branch where a term, a level and a box are too many, no byte, a byte that is no kind, a box, a
--- block, and a block with a term more, and a box as the second branch; one byte of a version, versions 257 and 3, versions that are newer than the newest known one, and a
--- reader that is told a newer one than there is.
+-- are too many, each without the one before; as a branch where these are too many, no byte, a byte that is no kind, a box, a block, and a block
+-- with a term more, and a box as the second branch; one byte of a version, versions 257 and 3, versions that are newer than the newest known
+-- one, and a reader that is told a newer one than there is.
 pub order :
     (parse (few 1 1) 2 (blockOf []) ≡ err (12, 7))
     × (parse (few 0 0) 2 (outermost 1 0x0C) ≡ err (13, 5))
