@@ -1,4 +1,4 @@
--- E1 to E11: the definitions give the lines of LANGUAGE 8.4.
+-- E1 to E11, sums and choices: the definitions give the lines of LANGUAGE 8.4, 8.8 and 8.9.
 use mathlib.Core.Path.{refl}
 use Rattle.reader.specs.Result
 use Rattle.reader.specs.Limits
@@ -8,9 +8,11 @@ use Rattle.reader.specs.Reader
 use Rattle.reader.specs.Measures
 use Rattle.reader.specs.Answers as Reading
 use Rattle.rules.specs.Links
+use Rattle.rules.specs.Places
 use Rattle.rules.specs.Environment
 use Rattle.rules.specs.Follow
 use Rattle.rules.specs.Bars
+use Rattle.rules.specs.Choice
 use Rattle.rules.specs.Rules
 use Rattle.rules.specs.Judge
 use Rattle.machine.specs.Store
@@ -36,14 +38,16 @@ unfolding
     Limits.base Limits.inRanges Limits.maxBytes Limits.rowNumbers Limits.storeNumbers
     Kinds.newest Kinds.knows Kinds.byteOf Kinds.kinds Kinds.among Kinds.kindOf Kinds.fields
     Layout.bytesOf Layout.lay Layout.head Layout.wordOf Layout.unused Layout.zeros Layout.others Layout.rowsOf
-    Reader._>>=_ Reader.done Reader.placeIn Reader.expect Reader.first Reader.peek Reader.skip Reader.next Reader.ranged Reader.field Reader.operands Reader.restOfRow Reader.is Reader.boxesOf Reader.ended Reader.known Reader.kind Reader.opening Reader.counted Reader.several Reader.built Reader.term Reader.nothingLeft Reader.over Reader.script Reader.mark Reader.version Reader.leading Reader.wholeScript Reader.answer Reader.parse Reader.decodeIn Reader.decode Reader.zeroFields
+    Reader._>>=_ Reader.done Reader.placeIn Reader.expect Reader.first Reader.peek Reader.skip Reader.next Reader.ranged Reader.field Reader.operands Reader.restOfRow Reader.is Reader.boxesOf Reader.ended Reader.known Reader.kind Reader.opening Reader.counted Reader.several Reader.branch Reader.built Reader.term Reader.nothingLeft Reader.over Reader.script Reader.mark Reader.version Reader.leading Reader.wholeScript Reader.answer Reader.parse Reader.decodeIn Reader.decode Reader.zeroFields
     Measures.size
     Reading.lengthsFit Reading.parsedInto Reading.onFit Reading.readOf
     Links.leadingBoxes Links.maxLinks Links.noShared Links.isNumber Links.copies Links.sameLink Links.sameLinks
-    Environment.update Environment.isFree Environment.levelOf Environment.borrowOf Environment.livesAt Environment.leaveSlot Environment.leave
-    Follow.through Follow.followAt Follow.follow Follow.wholeAt Follow.wholeThere Follow.valueWhole
-    Bars.borrowsAny Bars.borrowsExclusive Bars.holding Bars.heldBy Bars.held
-    Rules.inScope Rules.reached Rules.valued Rules.judgePlace Rules.judgeReadable Rules.judgeCopy Rules.judgeMove Rules.judgeShared Rules.judgeExclusive Rules.judgeBox Rules.judgeLet Rules.judgeAssign Rules.judgeNumber Rules.judgeBelow Rules.judgeBlockEnd
+    Places.samePlace Places.before Places.member Places.insert Places.unite Places.every Places.someOf Places.only Places.rooted
+    Environment.borrowEnd Environment.update Environment.write Environment.isFree Environment.levelOf Environment.borrowOf Environment.borrowsAt Environment.livesAt Environment.leaveSlot Environment.leave Environment.holding
+    Follow.past Follow.onward Follow.onMet Follow.meetAll Follow.follow Follow.ownLink Follow.ownPath Follow.wholeSlot Follow.wholeThere Follow.valueWhole
+    Bars.borrowsAny Bars.borrowsExclusive Bars.heldBy Bars.held
+    Choice.carried Choice.earlier Choice.joined Choice.agreeing
+    Rules.inScope Rules.reached Rules.valued Rules.judgePlace Rules.judgeReadable Rules.judgeCopy Rules.judgeMove Rules.judgeShared Rules.judgeExclusive Rules.judgeBox Rules.judgeLet Rules.judgeAssign Rules.judgeNumber Rules.judgeBelow Rules.judgeBlockEnd Rules.judgeChoice
     Judge.judge Judge.judgeScript
     Store.sameLocation Store.put Store.isOpen
     Locate.followed Locate.locateFrom Locate.locate Locate.filled Locate.numberIn
@@ -51,5 +55,5 @@ unfolding
     Signed.less Signed.compared Signed.held Signed.heldSum
     Run.runCopy Run.runMove Run.runBorrow Run.runNumber Run.runPair Run.runBox Run.runLet Run.runAssign Run.runBlockEnd Run.run Run.runScript
     Answers.runFits Answers.runnable Answers.bitsOf
-    Examples.boxed Examples.e1Bytes Examples.e2 Examples.e3 Examples.e4 Examples.e5 Examples.e6 Examples.e7 Examples.e9 Examples.nine Examples.eight Examples.e11 Examples.sums
+    Examples.boxed Examples.e1Bytes Examples.e2 Examples.e3 Examples.e4 Examples.e5 Examples.e6 Examples.e7 Examples.e9 Examples.nine Examples.eight Examples.e11 Examples.sums Examples.lent Examples.away
 lines-hold = refl

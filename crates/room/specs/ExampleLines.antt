@@ -8,7 +8,7 @@ use lib.ListN.{take}
 use Rattle.reader.specs.Limits.{base, rowNumbers, storeNumbers}
 use Rattle.reader.specs.Script.{Term}
 use Rattle.reader.specs.Layout.{zeros, bytesOf}
-use Rattle.safety.specs.Examples.{e1Bytes, e2, e3, e4, e5, e6, e7, e9, nine, eight, e11, sums}
+use Rattle.safety.specs.Examples.{e1Bytes, e2, e3, e4, e5, e6, e7, e9, nine, eight, e11, sums, lent, away}
 use Rattle.room.specs.Line.{ascii, Reported, reportOf}
 
 -- The bytes that go out: as many of the buffer's as the answer says.
@@ -19,7 +19,7 @@ lineIn r = take (r .0) (r .1 .1 .1)
 unfoldable pub printed : List ℕ → List ℕ
 printed input = lineIn (reportOf base input (zeros (rowNumbers base)) (zeros (storeNumbers base)) (zeros 80))
 
--- Readings 185 and 200 for E1 and for the sum, the others 0; no other example has a reading.
+-- Readings 185 and 200 for E1, for the sum and for a choice, the others 0.
 unfoldable pub someReadings : List ℕ
 someReadings = (0 ∷ 0 ∷ 0 ∷ 185 ∷ 0 ∷ 0 ∷ 0 ∷ 200 ∷ []) ++ zeros 24
 
@@ -46,6 +46,9 @@ examples =
     ∷ (on e11, "refused 40 at 8\n")
     ∷ (someReadings ++ bytesIn 2 sums, "accepted 6 call 385 cells 0\n")
     ∷ (on sums, "refused 13 at 15\n")
+    ∷ (someReadings ++ bytesIn 2 lent, "accepted 14 call 1 cells 0\n")
+    ∷ (zeros 32 ++ bytesIn 2 lent, "accepted 14 call 2 cells 0\n")
+    ∷ (zeros 32 ++ bytesIn 2 away, "refused 33 at 19\n")
     ∷ []
 
 abbrev pub LinesHold : Type 0
