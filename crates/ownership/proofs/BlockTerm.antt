@@ -2,6 +2,7 @@
 use Prim.Native.Nat.{ℕ, zero, suc, _+_, _-_}
 use native.Mathlib.Numerals.{add-one}
 use mathlib.Core.Path.{_≡_, refl, _∙_}
+use mathlib.Core.Option.{Option}
 use mathlib.Core.List.{List}
 use Rattle.reader.specs.Script.{Term, Terms, block}
 use Rattle.reader.specs.RowParts.{fieldAt}
@@ -10,35 +11,36 @@ use Rattle.reader.proofs.RowTreeLaws.{block-is, block-inner}
 use Rattle.rules.specs.declared.verdicts.Value.{Value}
 use Rattle.rules.specs.declared.verdicts.Verdict.{Verdict}
 use Rattle.rules.specs.declared.verdicts.Verdict.the-variants as verdict
-use Rattle.rules.specs.Environment.{Environment}
+use Rattle.rules.specs.Environment.{Environment, Ty}
 use Rattle.rules.specs.Rules.{judgeBlockEnd}
 use Rattle.rules.specs.Judge.{judge, judges}
+use Rattle.rules.specs.Table.{environmentOf}
 use Rattle.rules.specs.Verdicts.{asValue, answered}
 use Rattle.ownership.specs.declared.judge.JudgedTerm.{JudgedTerm}
 use Rattle.ownership.specs.JudgeRows.{ended, judgeAt, judgesAt, restAt}
 use Rattle.ownership.proofs.JudgeLaws.{inner-refused, inner-fine}
 
 -- The terms of a block, one at least: whatever the value before them.
-all-terms : (nv : ℕ) (f : ℕ → RowTree Term) (level n i : ℕ) (v : Value) (Γ : Environment) → IsTree (termsAt f n i) → restAt nv f level n i v Γ ≡ judgesAt nv (termsAt f n i) level Γ
+all-terms : (nv : ℕ) (f : ℕ → RowTree Term) (level n i : ℕ) (o : Option Ty) (Γ : Environment) → IsTree (termsAt f n i) → restAt nv f level n i o Γ ≡ judgesAt nv (termsAt f n i) level Γ
 unfolding restAt termsAt
-all-terms nv f level zero i v Γ h = absurd h
-all-terms nv f level (suc n) i v Γ h = refl
+all-terms nv f level zero i o Γ h = absurd h
+all-terms nv f level (suc n) i o Γ h = refl
 
 module _ (nv l : ℕ) (rows : List ℕ) (i : ℕ) (good : IsTree (treeAt nv l rows i)) (level : ℕ) (Γ : Environment) where
   -- Block, with its count n.
-  module _ (k : fieldAt rows i 0 ≡ 11) (n : ℕ) (en : n ≡ fieldAt rows i 1) (v₀ : Value) (Γ₁ : Environment) (inner : JudgedTerm) (e : ended Γ₁ inner ≡ restAt nv (treeAt nv (l - 1) rows) (level + 1) n (i + 1) v₀ Γ) where
+  module _ (k : fieldAt rows i 0 ≡ 11) (n : ℕ) (en : n ≡ fieldAt rows i 1) (o : Option Ty) (env : List ℕ) (inner : JudgedTerm) (e : ended env inner ≡ restAt nv (treeAt nv (l - 1) rows) (level + 1) n (i + 1) o Γ) where
     abbrev terms : RowTree Terms
     terms = termsAt (treeAt nv (l - 1) rows) (fieldAt rows i 1) (i + 1)
 
-    block-judged : ended Γ₁ inner ≡ judgesAt nv terms (suc level) Γ
-    block-judged = rw (en, add-one level) at e ∙ all-terms nv (treeAt nv (l - 1) rows) (suc level) (fieldAt rows i 1) (i + 1) v₀ Γ (block-inner nv l rows i good k)
+    block-judged : ended env inner ≡ judgesAt nv terms (suc level) Γ
+    block-judged = rw (en, add-one level) at e ∙ all-terms nv (treeAt nv (l - 1) rows) (suc level) (fieldAt rows i 1) (i + 1) o Γ (block-inner nv l rows i good k)
 
-    pub block-refused : (m at : ℕ) → inner .verdict ≡ verdict.Refused m at → ended Γ₁ inner ≡ judgeAt nv (treeAt nv l rows i) level Γ
+    pub block-refused : (m at : ℕ) → inner .verdict ≡ verdict.Refused m at → ended env inner ≡ judgeAt nv (treeAt nv l rows i) level Γ
     unfolding judge
     block-refused m at q =
-        rw (block-is nv l rows i good k) (inner-refused (block i) (λ ts. judges nv ts (suc level) Γ) (λ t. judge nv t level Γ) (λ o. judgeBlockEnd nv level (o .0) i (o .1)) (λ ts. refl) Γ₁ inner terms (block-inner nv l rows i good k) block-judged m at q)
+        rw (block-is nv l rows i good k) (inner-refused (block i) (λ ts. judges nv ts (suc level) Γ) (λ t. judge nv t level Γ) (λ o. judgeBlockEnd nv level (o .0) i (o .1)) (λ ts. refl) env inner terms (block-inner nv l rows i good k) block-judged m at q)
 
-    pub block-fine : (v : Value) → inner .verdict ≡ verdict.Fine v → (Γ₂ : Environment) (out : Verdict) → answered Γ₂ out ≡ judgeBlockEnd nv level Γ₁ i (asValue v) → ended Γ₂ (record { next = inner .next; verdict = out }) ≡ judgeAt nv (treeAt nv l rows i) level Γ
+    pub block-fine : (v : Value) → inner .verdict ≡ verdict.Fine v → (env′ : List ℕ) (out : Verdict) → answered env′ out ≡ judgeBlockEnd nv level (environmentOf env) i (asValue env v) → ended env′ (record { next = inner .next; verdict = out }) ≡ judgeAt nv (treeAt nv l rows i) level Γ
     unfolding judge
-    block-fine v q Γ₂ out w =
-        rw (block-is nv l rows i good k) (inner-fine (block i) (λ ts. judges nv ts (suc level) Γ) (λ t. judge nv t level Γ) (λ o. judgeBlockEnd nv level (o .0) i (o .1)) (λ ts. refl) Γ₁ inner terms (block-inner nv l rows i good k) block-judged v q Γ₂ out w)
+    block-fine v q env′ out w =
+        rw (block-is nv l rows i good k) (inner-fine (block i) (λ ts. judges nv ts (suc level) Γ) (λ t. judge nv t level Γ) (λ o. judgeBlockEnd nv level (o .0) i (o .1)) (λ ts. refl) env inner terms (block-inner nv l rows i good k) block-judged v q env′ out w)

@@ -3,19 +3,20 @@ use Prim.Native.Nat.{ℕ}
 use native.Mathlib.Omega.{arith}
 use mathlib.Core.Path.{_≡_, refl, sym, ap}
 use mathlib.Core.Option.{none, some}
+use mathlib.Core.List.{List}
 use Rattle.reader.specs.Result.{ok, err, Refusal, _>>=_}
 use Rattle.reader.specs.RowTrees.{RowTree, IsTree, around}
 use Rattle.rules.specs.declared.verdicts.Value.{Value}
 use Rattle.rules.specs.declared.verdicts.Verdict.{Verdict}
 use Rattle.rules.specs.declared.verdicts.Verdict.the-variants as verdict
-use Rattle.rules.specs.Environment.{Environment}
+use Rattle.rules.specs.Table.{environmentOf}
 use Rattle.rules.specs.Rules.{Judged, Out}
 use Rattle.rules.specs.Verdicts.{asValue, answered}
 use Rattle.ownership.specs.declared.judge.JudgedTerm.{JudgedTerm}
 use Rattle.ownership.specs.JudgeRows.{atRow, ended, judgedAt}
 
 -- What the code's verdict says of the definition's answer R, which ends at row j.
-module _ (R : Judged Out) (j : ℕ) (Γ : Environment) (r : JudgedTerm) (e : ended Γ r ≡ atRow j R) where
+module _ (R : Judged Out) (j : ℕ) (env : List ℕ) (r : JudgedTerm) (e : ended env r ≡ atRow j R) where
   pub refused-is : (n at : ℕ) → r .verdict ≡ verdict.Refused n at → R ≡ err (n, at)
   unfolding ended answered _>>=_
   refused-is n at q = go R (rw q at e)
@@ -24,28 +25,28 @@ module _ (R : Judged Out) (j : ℕ) (Γ : Environment) (r : JudgedTerm) (e : end
       go (ok o) z = let y : _≡_ {A = ℕ} 0 1 = cc in absurd (omega arith)
       go (err x) z = let y : _≡_ {A = Refusal} (n, at) x = cc in ap (λ (x : Refusal). err x) (sym y)
 
-  pub fine-is : (v : Value) → r .verdict ≡ verdict.Fine v → (R ≡ ok (Γ, asValue v)) × (r .next ≡ j)
+  pub fine-is : (v : Value) → r .verdict ≡ verdict.Fine v → (R ≡ ok (environmentOf env, asValue env v)) × (r .next ≡ j)
   unfolding ended answered _>>=_
   fine-is v q = go R (rw q at e)
     where
-      go : (R : Judged Out) → ok ((Γ, asValue v), r .next) ≡ atRow j R → (R ≡ ok (Γ, asValue v)) × (r .next ≡ j)
+      go : (R : Judged Out) → ok ((environmentOf env, asValue env v), r .next) ≡ atRow j R → (R ≡ ok (environmentOf env, asValue env v)) × (r .next ≡ j)
       go (ok o) z =
-          let y : _≡_ {A = Out × ℕ} ((Γ, asValue v), r .next) (o, j) = cc in
+          let y : _≡_ {A = Out × ℕ} ((environmentOf env, asValue env v), r .next) (o, j) = cc in
           (ap (λ (x : Out × ℕ). ok (x .0)) (sym y), ap (λ (x : Out × ℕ). x .1) y)
       go (err x) z = let y : _≡_ {A = ℕ} 0 1 = cc in absurd (omega arith)
 
 -- f makes the term, K is the rule that follows its inner term.
-module _ {A B : Type 0} (f : A → B) (J : A → Judged Out) (J′ : B → Judged Out) (K : Out → Judged Out) (rule : (a : A) → J′ (f a) ≡ (J a >>= K)) (Γ : Environment) (inner : JudgedTerm) where
-  pub inner-refused : (d : RowTree A) → IsTree d → ended Γ inner ≡ judgedAt J d → (n at : ℕ) → inner .verdict ≡ verdict.Refused n at → ended Γ inner ≡ judgedAt J′ (around f d)
+module _ {A B : Type 0} (f : A → B) (J : A → Judged Out) (J′ : B → Judged Out) (K : Out → Judged Out) (rule : (a : A) → J′ (f a) ≡ (J a >>= K)) (env : List ℕ) (inner : JudgedTerm) where
+  pub inner-refused : (d : RowTree A) → IsTree d → ended env inner ≡ judgedAt J d → (n at : ℕ) → inner .verdict ≡ verdict.Refused n at → ended env inner ≡ judgedAt J′ (around f d)
   unfolding ended answered judgedAt _>>=_
   inner-refused none h e n at q = absurd h
-  inner-refused (some r) h e n at q = rw (q, rule (r .0), refused-is (J (r .0)) (r .1) Γ inner e n at q)
+  inner-refused (some r) h e n at q = rw (q, rule (r .0), refused-is (J (r .0)) (r .1) env inner e n at q)
 
-  pub inner-fine : (d : RowTree A) → IsTree d → ended Γ inner ≡ judgedAt J d → (v : Value) → inner .verdict ≡ verdict.Fine v → (Γ′ : Environment) (out : Verdict) → answered Γ′ out ≡ K (Γ, asValue v) → ended Γ′ (record { next = inner .next; verdict = out }) ≡ judgedAt J′ (around f d)
+  pub inner-fine : (d : RowTree A) → IsTree d → ended env inner ≡ judgedAt J d → (v : Value) → inner .verdict ≡ verdict.Fine v → (env′ : List ℕ) (out : Verdict) → answered env′ out ≡ K (environmentOf env, asValue env v) → ended env′ (record { next = inner .next; verdict = out }) ≡ judgedAt J′ (around f d)
   unfolding ended judgedAt _>>=_
-  inner-fine none h e v q Γ′ out w = absurd h
-  inner-fine (some r) h e v q Γ′ out w =
-      let z = fine-is (J (r .0)) (r .1) Γ inner e v q in
+  inner-fine none h e v q env′ out w = absurd h
+  inner-fine (some r) h e v q env′ out w =
+      let z = fine-is (J (r .0)) (r .1) env inner e v q in
       rw (w, z .1, rule (r .0), z .0)
 
 -- The same, whatever the inner term's answer.

@@ -7,7 +7,7 @@ use lib.Dec.{ltb}
 use Rattle.reader.specs.Result.{ok}
 use Rattle.reader.specs.Script as script
 use Rattle.reader.specs.Script.{Term}
-use Rattle.reader.specs.Kinds.{Kind, kNumber, kReading, kCopy, kMove, kShared, kExclusive, kBox, kLet, kAssign, kBelow, kBlock, kSum, newest, byteOf, kindOf}
+use Rattle.reader.specs.Kinds.{Kind, kNumber, kReading, kCopy, kMove, kShared, kExclusive, kBox, kLet, kAssign, kBelow, kBlock, kChoice, kSum, newest, byteOf, kindOf}
 use Rattle.reader.specs.RowParts.{fieldAt}
 use Rattle.reader.specs.RowTrees.{placeAt, RowTree, IsTree, kindAt, treeAt}
 use Rattle.reader.proofs.KindBytes.{found}
@@ -39,11 +39,12 @@ leaf-number nv k i p q Γ a b c d e f = go (kindOf newest k) refl
     go (some kAssign) h = refl
     go (some kBelow) h = absurd (e (sym (found newest k kBelow h)))
     go (some kBlock) h = refl
+    go (some kChoice) h = refl
     go (some kSum) h = absurd (f (sym (found newest k kSum h)))
 
-pub leaf-judged : (nv l : ℕ) (rows : List ℕ) (i : ℕ) → IsTree (treeAt nv l rows i) → (level : ℕ) (Γ : Environment) (k : ℕ) → k ≡ fieldAt rows i 0 → (k ≡ 7 → ⊥) × (k ≡ 8 → ⊥) × (k ≡ 9 → ⊥) → (k ≡ 11 → ⊥) → (p q : Place) → p ≡ rowPlace rows i 1 → q ≡ rowPlace rows i 3 → (Γ₁ : Environment) (out : Verdict) → answered Γ₁ out ≡ judgeLeaf nv (kindOf newest k) i (asPlace p) (asPlace q) Γ → ended Γ₁ (record { next = i + 1; verdict = out }) ≡ judgeAt nv (treeAt nv l rows i) level Γ
+pub leaf-judged : (nv l : ℕ) (rows : List ℕ) (i : ℕ) → IsTree (treeAt nv l rows i) → (level : ℕ) (Γ : Environment) (k : ℕ) → k ≡ fieldAt rows i 0 → (k ≡ 7 → ⊥) × (k ≡ 8 → ⊥) × (k ≡ 9 → ⊥) → (k ≡ 11 → ⊥) → (k ≡ 12 → ⊥) → (p q : Place) → p ≡ rowPlace rows i 1 → q ≡ rowPlace rows i 3 → (env : List ℕ) (out : Verdict) → answered env out ≡ judgeLeaf nv (kindOf newest k) i (asPlace p) (asPlace q) Γ → ended env (record { next = i + 1; verdict = out }) ≡ judgeAt nv (treeAt nv l rows i) level Γ
 unfolding ended judgedAt judge kindAt judgeLeaf byteOf
-leaf-judged nv l rows i good level Γ k ek n d p q ep eq Γ₁ out w =
+leaf-judged nv l rows i good level Γ k ek n d c p q ep eq env out w =
     let z : treeAt nv l rows i ≡ kindAt (kindOf newest k) nv (treeAt nv (l - 1) rows) rows i = tree-kind nv l rows i (kindOf newest k) good (rw ek) in
     rw (w, ep, eq, z) (go (treeAt nv (l - 1) rows) (kindOf newest k) refl (rw z at good))
   where
@@ -65,3 +66,4 @@ leaf-judged nv l rows i good level Γ k ek n d p q ep eq Γ₁ out w =
         let u = only-in (ltb (fieldAt rows i 1) nv) _ t in
         rw (only-is (ltb (fieldAt rows i 1) nv) _ t, only-is (ltb (fieldAt rows i 3) nv) _ u)
     go f (some kBlock) h t = absurd (d (sym (found newest k kBlock h)))
+    go f (some kChoice) h t = absurd (c (sym (found newest k kChoice h)))

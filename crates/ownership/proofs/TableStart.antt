@@ -1,33 +1,26 @@
 -- The table with which the judge starts: its words are all 0, so nothing is taken, and its notes are right.
 use Prim.Native.Nat.{ℕ, zero, suc, _+_, _*_, _≤_}
 use native.Mathlib.Omega.{arith}
-use mathlib.Core.Path.{_≡_, refl, sym, _∙_, fun-ext}
+use mathlib.Core.Path.{_≡_, refl, ap, fun-ext}
 use mathlib.Core.List.{List}
 use lib.ListN.{length, getD, take, replicate, length-replicate}
 use lib.Seq.{length-take-le}
-use Rattle.rules.specs.Bars.{heldBy}
 use Rattle.rules.specs.Environment.{levelOf}
 use Rattle.rules.specs.Judge.{nothingTaken}
-use Rattle.rules.specs.Table.{asSlot, environmentOf, weightOf, holders, Noted, TableFor}
-use Rattle.rules.proofs.TableLaws.{entry-free}
-
-no-holders : (n nv r : ℕ) → holders n (nothingTaken nv) r ≡ 0
-unfolding holders weightOf heldBy
-no-holders zero nv r = refl
-no-holders (suc n) nv r = let rest = no-holders n nv r in omega arith
+use Rattle.rules.specs.Table.{variableAt, slotAs, environmentOf, Noted, TableFor}
 
 module _ (l : List ℕ) (zeros : (k : ℕ) → _≡_ {A = ℕ} (getD l k 0) 0) where
   all-free : (nv : ℕ) → environmentOf l ≡ nothingTaken nv
-  unfolding environmentOf asSlot
-  all-free nv = fun-ext λ x. rw (entry-free l x (zeros (x * 8 + 0)))
+  unfolding environmentOf slotAs
+  all-free nv = fun-ext λ x. ap (λ (s : ℕ). slotAs s (variableAt l x)) (zeros (x * 8 + 0))
 
   all-noted : (n : ℕ) → Noted l n
   unfolding levelOf
   all-noted n = record {
-    held = λ r h. zeros (r * 8 + 7) ∙ sym (rw (all-free n) (no-holders n n r));
+    held = λ y r a b h e. (let z = zeros (y * 8 + 0) in absurd (omega arith));
     levels = λ x. rw (all-free n) (omega arith);
     most = rw (zeros (suc n * 8 + 7)) (omega arith);
-    untaken = λ x h. entry-free l x (zeros (x * 8 + 0));
+    untaken = λ x h. zeros (x * 8 + 0);
   }
 
 -- The first w of m words.

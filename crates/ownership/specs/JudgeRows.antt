@@ -75,11 +75,6 @@ pub record AfterReady (nv level : ℕ) (rows : List ℕ) (i : ℕ) (env : List �
   pub value : (v : Value) → inner .verdict ≡ verdict.Fine v → NeatValue (environmentOf env) level (asValue env v)
   pub taken : (v : Value) → inner .verdict ≡ verdict.Fine v → fieldAt rows i 0 ≡ 8 → environmentOf env (fieldAt rows i 1) ≡ used
 
--- What follows the innermost term, of n around it from row i on.
-unfoldable pub outwards : ℕ → ℕ → List ℕ → ℕ → ℕ → Ended → Ended
-outwards nv level rows i zero inner = inner
-outwards nv level rows i (suc n) inner = outwards nv level rows i n (afterAt nv level rows (i + n) inner)
-
 -- What is left of a block: n terms from row i on, after one with this value.
 unfoldable pub restAt : ℕ → (ℕ → RowTree Term) → ℕ → ℕ → ℕ → Option Ty → Environment → Ended
 restAt nv term level zero i o Γ = ok ((Γ, o), i)

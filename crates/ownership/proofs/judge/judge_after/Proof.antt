@@ -27,14 +27,24 @@ index-at-requires c κs = (c .before .before .before .before .before .before .be
 judge-let-requires : tie.Need-judge-let-requires
 judge-let-requires c κs =
     let at-field-at = c .before .before .before in
-    let start = at-field-at .before .before .before .before .before .before in
-    (start .pre .1, omega (arith, c .before .index-at .ensures, start .pre .0 .number (sym (at-field-at .field-at .ensures) ∙ c .before .before .match2 .keys2)))
+    let at-verdict = at-field-at .before .before in
+    let fine = at-verdict .verdict .given .1 in
+    let start = at-verdict .before .before .before .before in
+    let ready = start .pre .2 in
+    let k = sym (at-field-at .field-at .ensures) ∙ c .before .before .match2 .keys2 in
+    let x = c .before .index-at .ensures in
+    ((start .pre .1, (_, ready .neat _ fine)), omega (arith, x, start .pre .0 .number k), rw x (ready .taken _ fine k), ready .value _ fine)
 
 place-at-requires : tie.Need-place-at-requires
 place-at-requires c κs = (c .before .before .before .before .before .before .before .pre .0 .room, omega arith)
 
 judge-assign-requires : tie.Need-judge-assign-requires
-judge-assign-requires c κs = search needs
+judge-assign-requires c κs =
+    let at-verdict = c .before .before .before .before .before in
+    let fine = at-verdict .verdict .given .1 in
+    let start = at-verdict .before .before .before .before in
+    let ready = start .pre .2 in
+    ((start .pre .1, (_, ready .neat _ fine)), (_, ready .value _ fine))
 
 returns-2 : tie.Need-returns-2
 returns-2 c =

@@ -31,7 +31,7 @@ same-length c = search needs
 
 returns : tie.Need-returns
 unfolding judgeLeaf newest kindOf among kinds byteOf
-returns c = (rw (c .before .before .match .keys1) (c .judge-copy .ensures), c .before .before .before .before .pre)
+returns c = (rw (c .before .before .match .keys1) (c .judge-copy .ensures), c .before .before .before .before .pre .0)
 
 same-length-2 : tie.Need-same-length-2
 same-length-2 c = search needs
@@ -45,14 +45,14 @@ same-length-3 c = search needs
 
 returns-3 : tie.Need-returns-3
 unfolding judgeLeaf newest kindOf among kinds byteOf
-returns-3 c = (rw (c .before .before .match .keys3) (c .judge-shared .ensures), c .before .before .before .before .pre)
+returns-3 c = (rw (c .before .before .match .keys3) (c .judge-shared .ensures), c .before .before .before .before .pre .0)
 
 same-length-4 : tie.Need-same-length-4
 same-length-4 c = search needs
 
 returns-4 : tie.Need-returns-4
 unfolding judgeLeaf newest kindOf among kinds byteOf
-returns-4 c = (rw (c .before .before .match .keys4) (c .judge-exclusive .ensures), c .before .before .before .before .pre)
+returns-4 c = (rw (c .before .before .match .keys4) (c .judge-exclusive .ensures), c .before .before .before .before .pre .0)
 
 same-length-5 : tie.Need-same-length-5
 same-length-5 c = search needs
@@ -60,12 +60,12 @@ same-length-5 c = search needs
 returns-5 : tie.Need-returns-5
 unfolding judgeLeaf newest kindOf among kinds byteOf
 returns-5 c =
-    ⊎-elim (λ k. (rw k (c .judge-below .ensures), c .before .before .before .before .pre)) (λ k. (rw k (c .judge-below .ensures), c .before .before .before .before .pre)) (c .before .before .match .keys5)
+    ⊎-elim (λ k. (rw k (c .judge-below .ensures), c .before .before .before .before .pre .0)) (λ k. (rw k (c .judge-below .ensures), c .before .before .before .before .pre .0)) (c .before .before .match .keys5)
 
 returns-6 : tie.Need-returns-6
 returns-6 c =
     let r = c .before .match .rest in
-    (c .number-value .ensures _ ∙ sym (leaf-number _ _ _ _ _ _ (r .0 .0 .0 .0 .1) (r .0 .0 .0 .1) (r .0 .0 .1) (r .0 .1) (λ k. r .1 (inl k)) (λ k. r .1 (inr k))), c .before .before .before .pre)
+    (c .number-value .ensures _ ∙ sym (leaf-number _ _ _ _ _ _ (r .0 .0 .0 .0 .1) (r .0 .0 .0 .1) (r .0 .0 .1) (r .0 .1) (λ k. r .1 (inl k)) (λ k. r .1 (inr k))), c .before .before .before .pre .0)
 
 pub judge-leaf-spec : {M : Type 1} → statement M
 judge-leaf-spec =

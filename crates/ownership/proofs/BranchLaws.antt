@@ -1,0 +1,179 @@
+-- The two blocks of a choice: what is known of the table after each, and the answer from theirs.
+use Prim.Native.Nat.{ℕ, _+_, _-_}
+use mathlib.Core.Path.{_≡_, sym, ap, _∙_, subst}
+use mathlib.Core.Option.{none, some}
+use mathlib.Core.List.{List}
+use lib.ListN.{length}
+use Rattle.reader.specs.Result.{ok, err, _>>=_}
+use Rattle.reader.specs.Script.{Term, Terms}
+use Rattle.reader.specs.RowParts.{fieldAt}
+use Rattle.reader.specs.RowTrees.{placeAt, RowTree, IsTree, around, blockAt, choiceOf, treeAt}
+use Rattle.rules.specs.declared.table.Place.{Place}
+use Rattle.rules.specs.declared.rules.Requirement.{Requirement}
+use Rattle.rules.specs.declared.rules.Requirement.the-variants as requirement
+use Rattle.rules.specs.declared.verdicts.Value.{Value}
+use Rattle.rules.specs.declared.verdicts.Verdict.{Verdict}
+use Rattle.rules.specs.declared.verdicts.Verdict.the-variants as verdict
+use Rattle.ownership.specs.declared.judge.JudgedTerm.{JudgedTerm}
+use Rattle.rules.specs.Links.{Link}
+use Rattle.rules.specs.Environment.{Environment}
+use Rattle.rules.specs.Choice.{carried, joined}
+use Rattle.rules.specs.Rules.{judgeNumber, judgeChoice}
+use Rattle.rules.specs.Judge.{judge}
+use Rattle.rules.specs.Neat.{Neat, NeatValue, LetsBelow, LetsBelowAll}
+use Rattle.rules.specs.Met.{judgeBranch}
+use Rattle.rules.specs.Table.{environmentOf, SameLinks, asPlace}
+use Rattle.rules.specs.Verdicts.{asRequirement, asValue, answered, Joins}
+use Rattle.rules.specs.Kept.{Stays}
+use Rattle.ownership.specs.JudgeRows.{rowPlace, atRow, ended, judgedAt, judgeAt, judgeBranches, branchesAt}
+use Rattle.rules.proofs.Slots.{live-carried}
+use Rattle.ownership.proofs.JudgeLaws.{refused-is, fine-is}
+use Rattle.rules.proofs.NeatSteps.{Fine, Lived}
+use Rattle.rules.proofs.NeatBlocks.{neat-carried}
+use Rattle.rules.proofs.NeatJudged.{neat-after-all, branch}
+use Rattle.ownership.proofs.TreeLets.{tree-lets}
+use Rattle.ownership.proofs.ChoiceTrees.{blocksAt, choice-is, choice-blocks, in-block, first-in, second-in, BlockStands, block-stands}
+use Rattle.ownership.proofs.ChoiceValues.{live-long, AsLong, same-value, links-value}
+
+-- ---- one block
+
+-- The block at row j has been judged from Γ, and accepted.
+pub record Accepted (nv l : ℕ) (rows : List ℕ) (j level : ℕ) (Γ : Environment) (env : List ℕ) (r : JudgedTerm) (v : Value) : Type 0 where
+  pub terms : Terms
+  pub stands : blockAt (treeAt nv l rows) rows j ≡ some ((j, terms), r .next)
+  pub judged : judgeBranch nv terms j level Γ ≡ ok (environmentOf env, asValue env v)
+  pub lets : LetsBelowAll nv terms
+
+module _ (nv l : ℕ) (rows : List ℕ) (j : ℕ) (good : IsTree (treeAt nv l rows j)) (kind : fieldAt rows j 0 ≡ 11) (level : ℕ) (Γ : Environment) (env : List ℕ) (r : JudgedTerm)
+    (e : ended env r ≡ judgeAt nv (treeAt nv l rows j) level Γ) where
+  abbrev here : BlockStands nv l rows j
+  here = block-stands nv l rows j good kind
+
+  block-ended : ended env r ≡ atRow (here .after) (judgeBranch nv (here .terms) j level Γ)
+  unfolding judgedAt judge
+  block-ended = rw (here .tree) at e
+
+  block-lets : LetsBelowAll nv (here .terms)
+  unfolding LetsBelow
+  block-lets = rw (here .tree) at (tree-lets nv l rows j)
+
+  pub accepted : (v : Value) → r .verdict ≡ verdict.Fine v → Accepted nv l rows j level Γ env r v
+  accepted v fine =
+      let z = fine-is (judgeBranch nv (here .terms) j level Γ) (here .after) env r block-ended v fine in
+      record { terms = here .terms; stands = rw (z .1) (here .of-choice); judged = z .0; lets = block-lets }
+
+  pub not-accepted : (n at : ℕ) → r .verdict ≡ verdict.Refused n at → judgeBranch nv (here .terms) j level Γ ≡ err (n, at)
+  not-accepted n at q = refused-is (judgeBranch nv (here .terms) j level Γ) (here .after) env r block-ended n at q
+
+module _ {nv l : ℕ} {rows : List ℕ} {j level : ℕ} {Γ : Environment} {env : List ℕ} {r : JudgedTerm} {v : Value} (N : Neat nv Γ level) (A : Accepted nv l rows j level Γ env r v) where
+  both : Fine nv Γ (environmentOf env) (asValue env v) level × Lived Γ (environmentOf env)
+  both = branch nv j (A .terms) (neat-after-all nv (A .terms)) level Γ (environmentOf env, asValue env v) (A .lets) (A .judged) N
+
+  pub accepted-neat : Neat nv (environmentOf env) level
+  accepted-neat = both .0 .neat
+
+  pub accepted-value : NeatValue (environmentOf env) level (asValue env v)
+  accepted-value = both .0 .value
+
+  pub accepted-stays : Stays Γ (environmentOf env)
+  accepted-stays = record { lives = both .0 .lives; lived = λ x w q. (let k = both .1 x w q in (k .0, k .1)); taken = both .0 .taken }
+
+-- ---- both
+
+-- What the first block's value borrows has as many links after the second.
+as-long : (Γ : Environment) (env₁ env₂ : List ℕ) → Stays Γ (environmentOf env₁) → Stays (carried Γ (environmentOf env₁)) (environmentOf env₂) → AsLong env₁ env₂
+unfolding carried
+as-long Γ env₁ env₂ S₁ S₂ y u e =
+    let k = S₁ .lived y u e in
+    let a = S₁ .lives y (k .0) (k .1) in
+    let b = S₂ .lives y (k .0) (live-carried (Γ y) (environmentOf env₁ y) (k .0) (k .1)) in
+    live-long env₂ y (b .0) (b .1) ∙ ap (λ (ks : List Link). length ks) (b .2 ∙ sym (a .2)) ∙ sym (live-long env₁ y (a .0) (a .1))
+
+module _ (nv l : ℕ) (rows : List ℕ) (i : ℕ) (good : IsTree (treeAt nv l rows i)) (kind : fieldAt rows i 0 ≡ 12) where
+  abbrev inside : ℕ → RowTree Term
+  inside = treeAt nv (l - 1) rows
+
+  pub first-ready : IsTree (inside (i + 1)) × (fieldAt rows (i + 1) 0 ≡ 11)
+  first-ready = in-block inside rows (i + 1) (first-in inside rows i (choice-blocks nv l rows i good kind))
+
+  module _ (level : ℕ) (Γ : Environment) (env₁ : List ℕ) (one : JudgedTerm) (e₁ : ended env₁ one ≡ judgeAt nv (inside (i + 1)) level Γ) where
+    pub first-refused : (n at : ℕ) → one .verdict ≡ verdict.Refused n at → ended env₁ one ≡ branchesAt nv l rows i level Γ
+    unfolding ended answered judgedAt judgeBranches _>>=_
+    first-refused n at q =
+        let B = block-stands nv (l - 1) rows (i + 1) (first-ready .0) (first-ready .1) in
+        let z = not-accepted nv (l - 1) rows (i + 1) (first-ready .0) (first-ready .1) level Γ env₁ one e₁ n at q in
+        rw (q, B .of-choice) (go (B .terms) z (blockAt inside rows (B .after)) (second-in inside rows i (choice-blocks nv l rows i good kind) (i + 1, B .terms) (B .after) (B .of-choice)))
+      where
+        go : (ts : Terms) → judgeBranch nv ts (i + 1) level Γ ≡ err (n, at) → (d : RowTree (ℕ × Terms)) → IsTree d → err (n, at) ≡ judgedAt (judgeBranches nv level Γ i) (around (λ b. ((i + 1, ts), b)) d)
+        go ts z none h = absurd h
+        go ts z (some d) h = rw z
+
+    module _ (N : Neat nv Γ level) (v : Value) (fine₁ : one .verdict ≡ verdict.Fine v) where
+      first : Accepted nv (l - 1) rows (i + 1) level Γ env₁ one v
+      first = accepted nv (l - 1) rows (i + 1) (first-ready .0) (first-ready .1) level Γ env₁ one e₁ v fine₁
+
+      pub first-neat : Neat nv (environmentOf env₁) level
+      first-neat = accepted-neat N first
+
+      pub first-stays : Stays Γ (environmentOf env₁)
+      first-stays = accepted-stays N first
+
+      pub second-ready : IsTree (inside (one .next)) × (fieldAt rows (one .next) 0 ≡ 11)
+      second-ready = in-block inside rows (one .next) (second-in inside rows i (choice-blocks nv l rows i good kind) (i + 1, first .terms) (one .next) (first .stands))
+
+      -- The second block is judged from what is carried into it.
+      module _ (Γ₂ : Environment) (from : Γ₂ ≡ carried Γ (environmentOf env₁)) where
+        pub second-start : Neat nv Γ₂ level
+        second-start = subst (λ (Δ : Environment). Neat nv Δ level) (sym from) (neat-carried (environmentOf env₁) N)
+
+        module _ (env₂ : List ℕ) (two : JudgedTerm) (e₂ : ended env₂ two ≡ judgeAt nv (inside (one .next)) level Γ₂) where
+          pub second-refused : (n at : ℕ) → two .verdict ≡ verdict.Refused n at → ended env₂ two ≡ branchesAt nv l rows i level Γ
+          unfolding ended answered judgedAt judgeBranches _>>=_
+          second-refused n at q =
+              let B = block-stands nv (l - 1) rows (one .next) (second-ready .0) (second-ready .1) in
+              let z = not-accepted nv (l - 1) rows (one .next) (second-ready .0) (second-ready .1) level Γ₂ env₂ two e₂ n at q in
+              rw (q, first .stands, B .of-choice, first .judged, ← from, z)
+
+          module _ (w : Value) (fine₂ : two .verdict ≡ verdict.Fine w) where
+            second : Accepted nv (l - 1) rows (one .next) level Γ₂ env₂ two w
+            second = accepted nv (l - 1) rows (one .next) (second-ready .0) (second-ready .1) level Γ₂ env₂ two e₂ w fine₂
+
+            pub second-neat : Neat nv (environmentOf env₂) level
+            second-neat = accepted-neat second-start second
+
+            pub second-stays : Stays (carried Γ (environmentOf env₁)) (environmentOf env₂)
+            second-stays = subst (λ (Δ : Environment). Stays Δ (environmentOf env₂)) from (accepted-stays second-start second)
+
+            module _ (env₃ : List ℕ) (same : SameLinks env₂ env₃) where
+              first-value : asValue env₃ v ≡ asValue env₁ v
+              first-value = links-value env₂ env₃ same v ∙ same-value env₁ env₂ (as-long Γ env₁ env₂ first-stays second-stays) v level (accepted-value N first)
+
+              pub branches-fine : environmentOf env₃ ≡ joined Γ (environmentOf env₁) (environmentOf env₂) → (out : Verdict) → Joins i v w out → ended env₃ (record { next = two .next; verdict = out }) ≡ branchesAt nv l rows i level Γ
+              unfolding ended judgedAt judgeBranches judgeChoice _>>=_
+              branches-fine j out J = rw (first .stands, second .stands, first .judged, ← from, second .judged, J env₃, first-value, links-value env₂ env₃ same w, j)
+
+  -- ---- the choice
+
+  -- Its place is judged first.
+  module _ (p : Place) (is : p ≡ rowPlace rows i 1) (level : ℕ) (Γ : Environment) (r : Requirement) (e : asRequirement r ≡ judgeNumber nv Γ i (asPlace p)) where
+    place-judged : asRequirement r ≡ judgeNumber nv Γ i (placeAt rows i 1)
+    place-judged = rw is at e
+
+    abbrev blocks : RowTree ((ℕ × Terms) × (ℕ × Terms))
+    blocks = blocksAt inside rows i
+
+    pub choice-refused : (n at : ℕ) → r ≡ requirement.Refused n at → err (n, at) ≡ judgeAt nv (treeAt nv l rows i) level Γ
+    unfolding asRequirement judgedAt judge _>>=_
+    choice-refused n at q = rw (choice-is nv l rows i good kind) (go blocks (choice-blocks nv l rows i good kind) (sym (rw q at place-judged)))
+      where
+        go : (d : RowTree ((ℕ × Terms) × (ℕ × Terms))) → IsTree d → judgeNumber nv Γ i (placeAt rows i 1) ≡ err (n, at) → err (n, at) ≡ judgeAt nv (around (choiceOf i (placeAt rows i 1)) d) level Γ
+        go none h z = absurd h
+        go (some b) h z = rw z
+
+    pub choice-met : r ≡ requirement.Met → (env : List ℕ) (out : JudgedTerm) → ended env out ≡ branchesAt nv l rows i level Γ → ended env out ≡ judgeAt nv (treeAt nv l rows i) level Γ
+    unfolding asRequirement judgedAt judge judgeBranches _>>=_
+    choice-met q env out w = w ∙ rw (choice-is nv l rows i good kind) (go blocks (choice-blocks nv l rows i good kind) (sym (rw q at place-judged)))
+      where
+        go : (d : RowTree ((ℕ × Terms) × (ℕ × Terms))) → IsTree d → judgeNumber nv Γ i (placeAt rows i 1) ≡ ok tt → judgedAt (judgeBranches nv level Γ i) d ≡ judgeAt nv (around (choiceOf i (placeAt rows i 1)) d) level Γ
+        go none h z = absurd h
+        go (some b) h z = rw z
