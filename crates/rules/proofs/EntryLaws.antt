@@ -1,49 +1,88 @@
 -- An entry that the code has loaded, in the rules' terms: in scope, or not.
-use Prim.Native.Nat.{ℕ, _<_}
+use Prim.Native.Nat.{ℕ, zero, suc, _<_, _≤_}
 use native.Mathlib.Omega.{arith}
-use mathlib.Core.Path.{_≡_, refl}
+use native.Mathlib.Decide.{decLt}
+use mathlib.Core.Path.{_≡_, refl, sym, ap, _∙_}
 use mathlib.Core.Logic.{⊎-elim}
-use mathlib.Core.Bool.{false}
 use mathlib.Core.List.{List, [], _∷_}
+use lib.Dec.{eqb}
 use types.Run.{OneOf}
 use denote.Enum.Declared.{tagOf}
-use Rattle.reader.specs.Result.{err, Refusal}
+use borrow.Author.Tests.{ne-eqb}
+use Rattle.reader.specs.Result.{err, Refusal, pick}
 use Rattle.rules.specs.declared.table.VariableState.{VariableState}
 use Rattle.rules.specs.declared.table.Entry.{Entry}
 use Rattle.rules.specs.declared.table.Entry.the-variants as entry
 use Rattle.rules.proofs.table.Entry.{the-type}
-use Rattle.rules.specs.Environment.{live}
-use Rattle.rules.specs.Follow.{wholeAt}
+use Rattle.rules.specs.Environment.{Variable, Slot, free, used, live}
 use Rattle.rules.specs.Rules.{inScope}
-use Rattle.rules.specs.Table.{entryAt, asVariable, asSlot, environmentOf, TableFor}
-use Rattle.rules.proofs.NotedLaws.{live-inside}
+use Rattle.rules.proofs.Slots.{free≢live, used≢live}
+use Rattle.rules.specs.Table.{entryWord, entryAt, stateAt, variableAt, slotAs, environmentOf, TableFor}
 
 -- What an `else` knows: the entry is one of the first two.
 abbrev pub NotLive : Entry → Type 0
 NotLive e = OneOf (0 ∷ 1 ∷ []) (tagOf the-type e)
 
-module _ (l : List ℕ) (x : ℕ) (e : Entry) (loaded : e ≡ entryAt l x) where
-  pub slot-live : (v : VariableState) → e ≡ entry.Live v → environmentOf l x ≡ live (asVariable v)
-  unfolding environmentOf asSlot
-  slot-live v q = rw (← loaded, q)
+abbrev loadedAs : ℕ → VariableState → Entry
+loadedAs s v = pick (eqb s 0) entry.Free (pick (eqb s 1) entry.Used (entry.Live v))
 
-  pub in-range : (n : ℕ) (v : VariableState) → TableFor l n → e ≡ entry.Live v → x < n
-  in-range n v T q = live-inside l n T x (asVariable v) (slot-live v q)
+-- By the status, what the code loads and what the rules say.
+by-status : (v : Variable) (w : VariableState) (s : ℕ) → 2 ≤ s → (slotAs s v ≡ live v) × (loadedAs s w ≡ entry.Live w)
+unfolding slotAs
+by-status v w zero l = absurd (omega arith)
+by-status v w (suc zero) l = absurd (omega arith)
+by-status v w (suc (suc n)) l = (rw (ne-eqb (suc (suc n)) 0 (omega arith), ne-eqb (suc (suc n)) 1 (omega arith)), rw (ne-eqb (suc (suc n)) 0 (omega arith), ne-eqb (suc (suc n)) 1 (omega arith)))
 
-  pub not-in-scope : (r : Refusal) → NotLive e → inScope (environmentOf l x) r ≡ err r
-  unfolding environmentOf inScope asSlot
-  not-in-scope r h = rw (← loaded) (go e h)
+-- In scope is what has such a status, and its state is what the words say.
+pub status-live : (env : List ℕ) (x : ℕ) → 2 ≤ entryWord env x 0 → environmentOf env x ≡ live (variableAt env x)
+unfolding environmentOf
+status-live env x h = by-status (variableAt env x) (stateAt env x) (entryWord env x 0) h .0
+
+pub live-status : (env : List ℕ) (x : ℕ) (v : Variable) → environmentOf env x ≡ live v → (2 ≤ entryWord env x 0) × (v ≡ variableAt env x)
+unfolding environmentOf slotAs
+live-status env x v h = go (entryWord env x 0) h
+  where
+    go : (s : ℕ) → slotAs s (variableAt env x) ≡ live v → (2 ≤ s) × (v ≡ variableAt env x)
+    go zero e = absurd (free≢live e)
+    go (suc zero) e = absurd (used≢live e)
+    go (suc (suc n)) e = let z = sym (by-status (variableAt env x) (stateAt env x) (suc (suc n)) (omega arith) .0) ∙ e in (omega arith, cc)
+
+-- A variable in scope is one that the table has.
+pub live-inside : (env : List ℕ) (n : ℕ) → TableFor env n → (x : ℕ) (v : Variable) → environmentOf env x ≡ live v → x < n
+live-inside env n T x v h = go (decLt x n)
+  where
+    go : Dec (x < n) → x < n
+    go (yes l) = l
+    go (no l) =
+        let s = live-status env x v h .0 in
+        let m = T .2 .most in
+        let z = T .2 .untaken x (omega arith) in
+        absurd (omega arith)
+
+module _ (env : List ℕ) (x : ℕ) (e : Entry) (loaded : e ≡ entryAt env x) where
+  pub slot-live : (v : VariableState) → e ≡ entry.Live v → (environmentOf env x ≡ live (variableAt env x)) × (v ≡ stateAt env x)
+  unfolding entryAt environmentOf slotAs
+  slot-live v q = go (entryWord env x 0) (sym q ∙ loaded)
     where
-      go : (e : Entry) → NotLive e → inScope (asSlot e) r ≡ err r
-      go entry.Free h = refl
-      go entry.Used h = refl
-      go (entry.Live v) h = ⊎-elim (λ z. absurd (omega arith)) (λ z. absurd (omega arith)) h
+      go : (s : ℕ) → entry.Live v ≡ loadedAs s (stateAt env x) → (slotAs s (variableAt env x) ≡ live (variableAt env x)) × (v ≡ stateAt env x)
+      go zero h = absurd (let z : 2 ≡ 0 = ap (tagOf the-type) h in omega arith)
+      go (suc zero) h = absurd (let z : 2 ≡ 1 = ap (tagOf the-type) h in omega arith)
+      go (suc (suc n)) h =
+          let b = by-status (variableAt env x) (stateAt env x) (suc (suc n)) (omega arith) in
+          let z : entry.Live v ≡ entry.Live (stateAt env x) = h ∙ b .1 in
+          (b .0, cc)
 
-  pub not-whole : (d : ℕ) → NotLive e → wholeAt (environmentOf l x) d ≡ false
-  unfolding environmentOf wholeAt asSlot
-  not-whole d h = rw (← loaded) (go e h)
+  pub in-range : (n : ℕ) (v : VariableState) → TableFor env n → e ≡ entry.Live v → x < n
+  in-range n v T q = live-inside env n T x (variableAt env x) (slot-live v q .0)
+
+  pub not-in-scope : (r : Refusal) → NotLive e → inScope (environmentOf env x) r ≡ err r
+  unfolding entryAt environmentOf slotAs inScope
+  not-in-scope r h = go (entryWord env x 0) e loaded h
     where
-      go : (e : Entry) → NotLive e → wholeAt (asSlot e) d ≡ false
-      go entry.Free h = refl
-      go entry.Used h = refl
-      go (entry.Live v) h = ⊎-elim (λ z. absurd (omega arith)) (λ z. absurd (omega arith)) h
+      dead : (e : Entry) → NotLive e → e ≡ entry.Live (stateAt env x) → ⊥
+      dead e h z = ⊎-elim (λ k. let w : 2 ≡ tagOf the-type e = sym (ap (tagOf the-type) z) in omega arith) (λ k. let w : 2 ≡ tagOf the-type e = sym (ap (tagOf the-type) z) in omega arith) h
+
+      go : (s : ℕ) (e : Entry) → e ≡ loadedAs s (stateAt env x) → NotLive e → inScope (slotAs s (variableAt env x)) r ≡ err r
+      go zero e q h = refl
+      go (suc zero) e q h = refl
+      go (suc (suc n)) e q h = absurd (dead e h (q ∙ by-status (variableAt env x) (stateAt env x) (suc (suc n)) (omega arith) .1))

@@ -1,13 +1,16 @@
--- Scripts that two likely errors would misjudge (LANGUAGE 3.25, 3.26): an assign's place judged before its right side, and lifetimes compared
--- with the variable named, not the one finally written.
+-- Scripts that likely errors would misjudge: an assign's place judged before its right side, lifetimes compared with the variable named and not
+-- with the one finally written (LANGUAGE 3.25, 3.26); and of a choice (3.31) a path judged at the named place only, a write that may land in
+-- either of two taken for one that does, the state of one branch alone kept, the numbers of the first branch free again.
 use Prim.Native.Nat.{ℕ}
 use mathlib.Core.Path.{_≡_, refl}
 use Rattle.reader.specs.Result.{err, need, _>>=_}
-use Rattle.reader.specs.Script.{Place, Term, number, move, borrowShared, borrowExclusive, box, declare, assign, block, last, more}
+use Rattle.reader.specs.Script.{Place, Term, Terms, number, reading, copy, move, borrowShared, borrowExclusive, box, declare, assign, block, choice, last, more}
 use Rattle.rules.specs.Links
+use Rattle.rules.specs.Places
 use Rattle.rules.specs.Environment
 use Rattle.rules.specs.Follow
 use Rattle.rules.specs.Bars
+use Rattle.rules.specs.Choice
 use Rattle.rules.specs.Rules
 use Rattle.rules.specs.Judge.{judge, judgeScript}
 
@@ -25,13 +28,50 @@ outliving =
     (more (block 5 (more (declare 6 2 (borrowExclusive 7 (v 1 0))) (more (declare 8 3 (number 9 2)) (more (assign 10 (v 2 1) (borrowShared 11 (v 3 0))) (last (number 12 0))))))
     (last (number 13 0)))))
 
+-- `let v0=reading 0; ..`
+abbrev after-reading : Terms → Term
+after-reading ts = block 0 (more (declare 1 0 (reading 2 0)) ts)
+
+-- `let v1=box 1; let v2=box 2; let v3=&mut *v1; choice v0 {v3=&mut *v2; move v1; 1} {1}; *v3=5; 1`: v3 may borrow v1, which is moved away.
+abbrev reaching : Term
+reaching =
+    after-reading (more (declare 3 1 (box 4 (number 5 1))) (more (declare 6 2 (box 7 (number 8 2))) (more (declare 9 3 (borrowExclusive 10 (v 1 1)))
+    (more (choice 11 (v 0 0) 12 (more (assign 13 (v 3 0) (borrowExclusive 14 (v 2 1))) (more (move 15 (v 1 0)) (last (number 16 1)))) 17 (last (number 18 1)))
+    (more (assign 19 (v 3 1) (number 20 5)) (last (number 21 1)))))))
+
+-- `let v1=box 1; let v2=box 2; let v3=&mut v1; choice v0 {v3=&mut v2; move v1; 1} {1}; *v3=box 3; move v3; 0`: the write may have landed in v2, so that v1, which v3 may
+-- borrow, is still moved away.
+abbrev landing : Term
+landing =
+    after-reading (more (declare 3 1 (box 4 (number 5 1))) (more (declare 6 2 (box 7 (number 8 2))) (more (declare 9 3 (borrowExclusive 10 (v 1 0)))
+    (more (choice 11 (v 0 0) 12 (more (assign 13 (v 3 0) (borrowExclusive 14 (v 2 0))) (more (move 15 (v 1 0)) (last (number 16 1)))) 17 (last (number 18 1)))
+    (more (assign 19 (v 3 1) (box 20 (number 21 3))) (more (move 22 (v 3 0)) (last (number 23 0))))))))
+
+-- `let v1=box 1; choice v0 {0} {move v1; 0}; copy *v1`: the second branch moves v1 away.
+abbrev second-moves : Term
+second-moves =
+    after-reading (more (declare 3 1 (box 4 (number 5 1)))
+    (more (choice 6 (v 0 0) 7 (last (number 8 0)) 9 (more (move 10 (v 1 0)) (last (number 11 0)))) (last (copy 12 (v 1 1)))))
+
+-- `choice v0 {let v1=1; 0} {let v1=2; 0}`: the number stays taken.
+abbrev taking : Term
+taking = after-reading (last (choice 3 (v 0 0) 4 (more (declare 5 1 (number 6 1)) (last (number 7 0))) 8 (more (declare 9 1 (number 10 2)) (last (number 11 0)))))
+
 -- With the four variables that they have; under every larger set it is the same (LANGUAGE 7.7).
-pub scripts-refused : (judgeScript 4 moving ≡ err (33, 4)) × (judgeScript 4 outliving ≡ err (40, 10))
+pub scripts-refused :
+    (judgeScript 4 moving ≡ err (33, 4))
+    × (judgeScript 4 outliving ≡ err (40, 10))
+    × (judgeScript 4 reaching ≡ err (33, 19))
+    × (judgeScript 4 landing ≡ err (33, 22))
+    × (judgeScript 4 second-moves ≡ err (33, 12))
+    × (judgeScript 4 taking ≡ err (30, 9))
 unfolding
     judgeScript judge need _>>=_
     Links.leadingBoxes Links.maxLinks Links.noShared Links.isNumber Links.copies Links.sameLink Links.sameLinks
-    Environment.update Environment.isFree Environment.levelOf Environment.borrowOf Environment.livesAt Environment.leaveSlot Environment.leave
-    Follow.through Follow.followAt Follow.follow Follow.wholeAt Follow.wholeThere Follow.valueWhole
-    Bars.borrowsAny Bars.borrowsExclusive Bars.holding Bars.heldBy Bars.held
-    Rules.inScope Rules.reached Rules.valued Rules.judgePlace Rules.judgeReadable Rules.judgeCopy Rules.judgeMove Rules.judgeShared Rules.judgeExclusive Rules.judgeBox Rules.judgeLet Rules.judgeAssign Rules.judgeBlockEnd
-scripts-refused = (refl, refl)
+    Places.samePlace Places.before Places.member Places.insert Places.unite Places.every Places.someOf Places.only Places.rooted
+    Environment.borrowEnd Environment.update Environment.write Environment.isFree Environment.levelOf Environment.borrowOf Environment.borrowsAt Environment.livesAt Environment.leaveSlot Environment.leave Environment.holding
+    Follow.past Follow.onward Follow.onMet Follow.meetAll Follow.follow Follow.ownLink Follow.ownPath Follow.wholeSlot Follow.wholeThere Follow.valueWhole
+    Bars.borrowsAny Bars.borrowsExclusive Bars.heldBy Bars.held
+    Choice.carried Choice.earlier Choice.joined Choice.agreeing
+    Rules.inScope Rules.reached Rules.valued Rules.judgePlace Rules.judgeReadable Rules.judgeCopy Rules.judgeMove Rules.judgeShared Rules.judgeExclusive Rules.judgeBox Rules.judgeLet Rules.judgeAssign Rules.judgeNumber Rules.judgeBlockEnd Rules.judgeChoice
+scripts-refused = (refl, refl, refl, refl, refl, refl)

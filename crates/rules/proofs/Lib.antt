@@ -1,13 +1,59 @@
--- The laws that the proofs of the functions cite: each joins what the code does with a definition of specs/.
+-- Facts of the judge alone, of its definitions; then the laws that the proofs of the functions cite: each joins what the code does with a
+-- definition of specs/.
+
+-- Scripts that likely errors would misjudge.
+pub mod ErrorScripts
+-- Answers, numbers, chains and sets of places taken apart.
+pub mod Answers
+pub mod Slots
+pub mod LinkChains
+pub mod SetLaws
+pub mod SetOrder
+pub mod SetEquality
+-- Every state that judging reaches is neat.
+pub mod NeatSteps
+pub mod NeatPaths
+pub mod NeatTerms
+pub mod NeatAssign
+pub mod NeatBlocks
+pub mod NeatJudged
+-- Sets of places by their roots.
+pub mod RootLaws
+pub mod RootSets
+-- Following: its bound, and what it meets.
+pub mod Pigeon
+pub mod FollowBound
+pub mod FollowClosed
+pub mod ClosureLoop
+pub mod FollowRoots
+-- Larger limits.
+pub mod LargerRules
+pub mod LargerJudge
+-- Chains and sets in numbers.
 pub mod ChainLaws
 pub mod EqualChains
-pub mod TableLaws
+pub mod MaskLaws
+-- The table.
 pub mod EntryLaws
-pub mod HoldingLaws
-pub mod HolderLaws
-pub mod NoteLaws
-pub mod NotedLaws
+-- Following, as the code searches.
+pub mod StepLaws
+pub mod SearchLaws
+pub mod TableLaws
+pub mod EndLaws
+pub mod EveryRoot
+pub mod HeldLaws
 pub mod LeavingLaws
-pub mod FollowLaws
+-- Words put into the table, and its notes.
+pub mod WordLaws
+pub mod NoteLaws
+pub mod StoreLaws
+-- Values and places as the rules' functions have them.
+pub mod ValueLaws
 pub mod PlaceLaws
-pub mod ErrorScripts
+-- Assigns and choices.
+pub mod EndRoots
+pub mod WriteLaws
+pub mod AssignLaws
+pub mod RowLaws
+pub mod KeptLaws
+pub mod ChoiceLaws

@@ -1,103 +1,288 @@
--- The notes of a table: which words they are, what a variable's words add to them, and how they are raised.
-use Prim.Native.Nat.{ℕ, suc, _+_, _-_, _*_, _<_, _≤_}
+-- The notes stay right: when the entry of one variable changes, and while it is noted who may hold a borrow. Assumes nothing.
+use Prim.Native.Nat.{ℕ, suc, _<_, _≤_}
 use native.Mathlib.Omega.{arith}
 use native.Mathlib.Decide.{ℕ-discrete}
-use mathlib.Core.Path.{_≡_, refl, sym, _∙_, fun-ext}
-use mathlib.Core.Bool.{Bool, true, false}
+use mathlib.Core.Path.{_≡_, refl, sym, ap, ap₂, _∙_, subst}
+use mathlib.Core.Logic.{_⊎_, inl, inr}
+use mathlib.Core.Bool.{Bool, true, false, true≢false}
 use mathlib.Core.List.{List}
-use lib.Dec.{ltb, eqb}
-use lib.ListN.{length, set}
-use lib.Seq.{getD-set-same, getD-set-other}
-use borrow.Author.Tests.{eq-eqb, ne-eqb, le-leb, lt-leb}
+use lib.Dec.{eqb}
+use lib.ListN.{length}
+use borrow.Author.Tests.{eq-eqb, ne-eqb}
 use Rattle.reader.specs.Result.{pick}
-use Rattle.rules.specs.Table.{entryWord, environmentOf, borrowsBy, noteAt, weightOf, weightBelow, raisedAt}
-use Rattle.rules.proofs.TableLaws.{same-words}
-use Rattle.rules.proofs.HoldingLaws.{holds-other}
-use Rattle.rules.proofs.HolderLaws.{weight-none}
+use Rattle.rules.specs.declared.roots.Roots.{Roots}
+use Rattle.rules.specs.Links.{leadingBoxes}
+use Rattle.rules.specs.Environment.{Borrow, Variable, Slot, free, used, live, levelOf, update, movedAwayAt, refilled, widened}
+use Rattle.rules.specs.Chains.{chainOf}
+use Rattle.rules.specs.Masks.{has}
+use Rattle.rules.specs.Table.{entryWord, linksAt, rootsAt, holdersAt, endIn, variableOf, variableAt, slotAs, environmentOf, noteAt, TableFor, HolderNoted, SameLinks}
+use Rattle.rules.proofs.MaskLaws.{in-none}
+use Rattle.rules.proofs.RootLaws.{or, or-true}
+use Rattle.rules.proofs.WordLaws.{Put, put-at, put-off, PutSet, set-off, roots-put, holders-put, Raised, raised-off, raised-there, roots-same, holders-same, links-same, SameEntry, end-same, end-united, slot-same, updated, slot-changed, slot-level}
 
--- A note is no part of an entry.
-module _ (l : List ℕ) (y v : ℕ) where
-  pub noted : environmentOf (set l (y * 8 + 7) v) ≡ environmentOf l
-  unfolding environmentOf
-  noted = fun-ext λ x. rw (same-words (set l (y * 8 + 7) v) l x (λ k b. getD-set-other l (y * 8 + 7) (x * 8 + k) v 0 (λ e. absurd (omega arith))))
+-- ---- while holders are noted
 
-  pub note-there : y * 8 + 8 ≤ length l → noteAt (set l (y * 8 + 7) v) y ≡ v
-  note-there h = getD-set-same l (y * 8 + 7) v 0 (omega arith)
+-- Of the roots s those of `todo` are still to be noted.
+pub record Noting (n : ℕ) (env : List ℕ) (x : ℕ) (s todo : Roots) (env′ : List ℕ) : Type 0 where
+  pub entries : (y k : ℕ) → k < 8 → (k ≡ 3 → ⊥) → (k ≡ 7 → ⊥) → entryWord env′ y k ≡ entryWord env y k
+  pub notes : (y : ℕ) → n ≤ y → noteAt env′ y ≡ noteAt env y
+  pub kept : (r y : ℕ) → r < n → has (holdersAt env r) y ≡ true → has (holdersAt env′ r) y ≡ true
+  pub new : (r : ℕ) → r < n → has s r ≡ true → has todo r ≡ false → has (holdersAt env′ r) x ≡ true
 
-  pub note-other : (r : ℕ) → (y ≡ r → ⊥) → noteAt (set l (y * 8 + 7) v) r ≡ noteAt l r
-  note-other r n = getD-set-other l (y * 8 + 7) (r * 8 + 7) v 0 (λ e. n (omega arith))
+module _ (n : ℕ) (env : List ℕ) (x : ℕ) (s : Roots) where
+  pub noting-starts : Noting n env x s s env
+  noting-starts = record { entries = λ y k a b c. refl; notes = λ y l. refl; kept = λ r y l h. h; new = λ r l h k. absurd (true≢false (sym h ∙ k)) }
 
--- A variable adds to the note of the root that its words name, and to no other.
-elsewhere : (l : List ℕ) (x r : ℕ) → (entryWord l x 4 ≡ r → ⊥) → weightOf (environmentOf l x) r ≡ 0
-unfolding borrowsBy
-elsewhere l x r n = weight-none (environmentOf l x) r (sym (holds-other l x r false n)) (sym (holds-other l x r true n))
+  pub noting-ends : (todo : Roots) (env′ : List ℕ) → Noting n env x s todo env′ → ((y : ℕ) → has todo y ≡ false) → HolderNoted n env x s env′
+  noting-ends todo env′ N none = record { entries = N .entries; notes = N .notes; kept = N .kept; new = λ r l h. N .new r l h (none r) }
 
-pick-zero : (b : Bool) → _≡_ {A = ℕ} (pick b 0 0) 0
-pick-zero true = refl
-pick-zero false = refl
+  module _ (todo todo′ : Roots) (root : ℕ) (env₁ : List ℕ) (N : Noting n env x s todo env₁) (less : (y : ℕ) → has todo′ y ≡ pick (eqb root y) false (has todo y)) where
+    -- What is not to be noted any more is the root, or was not to be noted before.
+    done : (r : ℕ) → has todo′ r ≡ false → (root ≡ r → ⊥) → has todo r ≡ false
+    done r h q = sym (less r ∙ ap (λ (b : Bool). pick b false (has todo r)) (ne-eqb root r q)) ∙ h
 
-module _ (l : List ℕ) (n x y : ℕ) (named : y ≡ entryWord l x 4) where
-  below-elsewhere : (r : ℕ) → (y ≡ r → ⊥) → weightBelow n (environmentOf l x) r ≡ 0
-  unfolding weightBelow
-  below-elsewhere r h = rw (elsewhere l x r (λ e. h (named ∙ e))) (pick-zero (ltb r n))
+    -- The table has no such row.
+    pub noting-skips : n ≤ root → Noting n env x s todo′ env₁
+    noting-skips l = record { entries = N .entries; notes = N .notes; kept = N .kept; new = λ r b h k. N .new r b h (done r k (λ q. omega arith)) }
 
-  pub below-past : n ≤ y → (r : ℕ) → weightBelow n (environmentOf l x) r ≡ 0
-  unfolding weightBelow
-  below-past h r = go (ℕ-discrete y r)
-    where
-      go : Dec (y ≡ r) → pick (ltb r n) (weightOf (environmentOf l x) r) 0 ≡ 0
-      go (yes e) = rw (lt-leb (suc r) n (omega arith))
-      go (no e) = below-elsewhere r e
+    -- x is added to the holders of the root.
+    module _ (env₂ : List ℕ) (old one holders : Roots) (inside : root < n) (read : old ≡ holdersAt env₁ root) (own : (y : ℕ) → has one y ≡ eqb x y)
+        (more : (y : ℕ) → has holders y ≡ pick (has old y) true (has one y)) (put : PutSet env₁ root 3 holders env₂) where
+      others : (r : ℕ) → (root ≡ r → ⊥) → holdersAt env₂ r ≡ holdersAt env₁ r
+      others r q = holders-same env₁ env₂ r (set-off env₁ env₂ root 3 holders put r 3 (omega arith) (λ p k. q p) (λ p k. q p)) (set-off env₁ env₂ root 3 holders put r 7 (omega arith) (λ p k. q p) (λ p k. q p))
 
-  pub below-none : weightOf (environmentOf l x) y ≤ 0 → (r : ℕ) → weightBelow n (environmentOf l x) r ≡ 0
-  unfolding weightBelow
-  below-none h r = go (ℕ-discrete y r)
-    where
-      go : Dec (y ≡ r) → pick (ltb r n) (weightOf (environmentOf l x) r) 0 ≡ 0
-      go (yes e) = let z : weightOf (environmentOf l x) y ≡ 0 = omega arith in rw (← e, z) (pick-zero (ltb y n))
-      go (no e) = below-elsewhere r e
+      at-root : (r y : ℕ) → root ≡ r → has (holdersAt env₂ r) y ≡ or (has (holdersAt env₁ r) y) (eqb x y)
+      at-root r y q =
+          subst (λ (k : ℕ). has (holdersAt env₂ k) y ≡ or (has (holdersAt env₁ k) y) (eqb x y)) q
+          (ap (λ (h : Roots). has h y) (holders-put env₁ env₂ root holders put) ∙ more y ∙ ap₂ (λ (k : Roots) (b : Bool). or (has k y) b) read (own y))
 
-  below-there : y < n → weightBelow n (environmentOf l x) y ≡ weightOf (environmentOf l x) y
-  unfolding weightBelow
-  below-there h = rw (le-leb (suc y) n h)
+      still : (r y : ℕ) → has (holdersAt env₁ r) y ≡ true → has (holdersAt env₂ r) y ≡ true
+      still r y h = go (ℕ-discrete root r)
+        where
+          go : Dec (root ≡ r) → has (holdersAt env₂ r) y ≡ true
+          go (yes q) = at-root r y q ∙ ap (λ (b : Bool). or b (eqb x y)) h
+          go (no q) = ap (λ (k : Roots). has k y) (others r q) ∙ h
 
-  module _ (w : ℕ) (is : w ≡ weightOf (environmentOf l x) y) (room : n * 8 ≤ length l) where
-    pub forgotten : y < n → w ≤ noteAt l y → (r : ℕ) → noteAt (set l (y * 8 + 7) (noteAt l y - w)) r + weightBelow n (environmentOf l x) r ≡ noteAt l r
-    forgotten h le r = go (ℕ-discrete y r)
+      now-there : (r : ℕ) → root ≡ r → has (holdersAt env₂ r) x ≡ true
+      now-there r q = at-root r x q ∙ go (has (holdersAt env₁ r) x)
+        where
+          go : (b : Bool) → or b (eqb x x) ≡ true
+          go true = refl
+          go false = eq-eqb x x refl
+
+      pub noting-adds : Noting n env x s todo′ env₂
+      noting-adds =
+          record {
+            entries = λ y k a b c. set-off env₁ env₂ root 3 holders put y k a (λ p q. b (sym q)) (λ p q. c (sym q)) ∙ N .entries y k a b c;
+            notes = λ y l. set-off env₁ env₂ root 3 holders put y 7 (omega arith) (λ p q. omega arith) (λ p q. omega arith) ∙ N .notes y l;
+            kept = λ r y l h. still r y (N .kept r y l h);
+            new = λ r l h k. new-at r l h k (ℕ-discrete root r);
+          }
+        where
+          new-at : (r : ℕ) → r < n → has s r ≡ true → has todo′ r ≡ false → Dec (root ≡ r) → has (holdersAt env₂ r) x ≡ true
+          new-at r l h k (yes q) = now-there r q
+          new-at r l h k (no q) = still r x (N .new r l h (done r k q))
+
+-- ---- one entry changed
+
+module _ (env : List ℕ) (n x : ℕ) (T : TableFor env n) (inside : x < n) where
+  -- x is given s, with its holders noted, and the last two notes as they are or raised.
+  module _ (env′ : List ℕ) (s : Slot) (same : length env′ ≡ length env) (changed : environmentOf env′ ≡ update (environmentOf env) x s)
+      (others : (y : ℕ) → (x ≡ y → ⊥) → SameEntry env env′ y)
+      (kept : (r y : ℕ) → r < n → has (holdersAt env r) y ≡ true → has (holdersAt env′ r) y ≡ true)
+      (own : (r : ℕ) → r < n → 2 ≤ entryWord env′ x 0 → has (rootsAt env′ x) r ≡ true → has (holdersAt env′ r) x ≡ true)
+      (deeper : noteAt env n ≤ noteAt env′ n) (deep : levelOf s ≤ noteAt env′ n)
+      (higher : noteAt env (suc n) ≤ noteAt env′ (suc n)) (high : noteAt env′ (suc n) ≤ n)
+      (none : noteAt env′ (suc n) ≤ x → entryWord env′ x 0 ≡ 0) where
+    new-held : (y r : ℕ) → y < n → r < n → 2 ≤ entryWord env′ y 0 → has (rootsAt env′ y) r ≡ true → has (holdersAt env′ r) y ≡ true
+    new-held y r a b l h = go (ℕ-discrete x y)
       where
-        go : Dec (y ≡ r) → noteAt (set l (y * 8 + 7) (noteAt l y - w)) r + weightBelow n (environmentOf l x) r ≡ noteAt l r
-        go (yes e) = rw (← e, note-there l y (noteAt l y - w) (omega arith), below-there h, ← is) (omega arith)
-        go (no e) = rw (note-other l y (noteAt l y - w) r e, below-elsewhere r e) (omega arith)
+        go : Dec (x ≡ y) → has (holdersAt env′ r) y ≡ true
+        go (yes q) = subst (λ (z : ℕ). 2 ≤ entryWord env′ z 0 → has (rootsAt env′ z) r ≡ true → has (holdersAt env′ r) z ≡ true) q (own r b) l h
+        go (no q) =
+            let w = others y q in
+            let status = w 0 (omega arith) (λ k. omega arith) (λ k. omega arith) in
+            let roots = roots-same env env′ y (w 2 (omega arith) (λ k. omega arith) (λ k. omega arith)) (w 6 (omega arith) (λ k. omega arith) (λ k. omega arith)) in
+            kept r y b (T .2 .held y r a b (subst (λ (k : ℕ). 2 ≤ k) status l) (ap (λ (k : Roots). has k r) (sym roots) ∙ h))
 
-    pub counted : y < n → (r : ℕ) → noteAt (set l (y * 8 + 7) (noteAt l y + w)) r ≡ noteAt l r + weightBelow n (environmentOf l x) r
-    counted h r = go (ℕ-discrete y r)
+    new-levels : (y : ℕ) → levelOf (environmentOf env′ y) ≤ noteAt env′ n
+    unfolding update
+    new-levels y = subst (λ (Γ : ℕ → Slot). levelOf (Γ y) ≤ noteAt env′ n) (sym changed) (go (eqb x y))
       where
-        go : Dec (y ≡ r) → noteAt (set l (y * 8 + 7) (noteAt l y + w)) r ≡ noteAt l r + weightBelow n (environmentOf l x) r
-        go (yes e) = rw (← e, note-there l y (noteAt l y + w) (omega arith), below-there h, ← is)
-        go (no e) = rw (note-other l y (noteAt l y + w) r e, below-elsewhere r e) (omega arith)
+        go : (b : Bool) → levelOf (pick b s (environmentOf env y)) ≤ noteAt env′ n
+        go true = deep
+        go false = omega (arith, T .2 .levels y)
 
--- Nothing is added to any note.
-module _ (l : List ℕ) (n x : ℕ) (none : (r : ℕ) → weightBelow n (environmentOf l x) r ≡ 0) where
-  pub not-forgotten : (r : ℕ) → noteAt l r + weightBelow n (environmentOf l x) r ≡ noteAt l r
-  not-forgotten r = rw (none r) (omega arith)
+    new-untaken : (y : ℕ) → noteAt env′ (suc n) ≤ y → entryWord env′ y 0 ≡ 0
+    new-untaken y h = go (ℕ-discrete x y)
+      where
+        go : Dec (x ≡ y) → entryWord env′ y 0 ≡ 0
+        go (yes q) = subst (λ (z : ℕ). noteAt env′ (suc n) ≤ z → entryWord env′ z 0 ≡ 0) q none h
+        go (no q) = others y q 0 (omega arith) (λ k. omega arith) (λ k. omega arith) ∙ T .2 .untaken y (omega arith)
 
-  pub not-counted : (r : ℕ) → noteAt l r ≡ noteAt l r + weightBelow n (environmentOf l x) r
-  not-counted r = rw (none r) (omega arith)
+    pub still-noted : TableFor env′ n
+    still-noted = (same ∙ T .0, T .1, record { held = new-held; levels = new-levels; most = high; untaken = new-untaken })
 
--- A raised note.
-module _ (l : List ℕ) (y v : ℕ) where
-  pub raised : y * 8 + 8 ≤ length l → noteAt l y < v → (r : ℕ) → noteAt (set l (y * 8 + 7) v) r ≡ raisedAt y v (noteAt l) r
-  unfolding raisedAt
-  raised room h r = go (ℕ-discrete y r)
-    where
-      go : Dec (y ≡ r) → noteAt (set l (y * 8 + 7) v) r ≡ pick (eqb y r) (pick (ltb (noteAt l r) v) v (noteAt l r)) (noteAt l r)
-      go (yes e) = rw (← e, eq-eqb y y refl, note-there l y v room, le-leb (suc (noteAt l y)) v h)
-      go (no e) = rw (ne-eqb y r e, note-other l y v r e)
+  -- ---- the number is taken
 
-  pub not-raised : v ≤ noteAt l y → (r : ℕ) → noteAt l r ≡ raisedAt y v (noteAt l) r
-  unfolding raisedAt
-  not-raised h r = go (ℕ-discrete y r)
-    where
-      go : Dec (y ≡ r) → noteAt l r ≡ pick (eqb y r) (pick (ltb (noteAt l r) v) v (noteAt l r)) (noteAt l r)
-      go (yes e) = rw (← e, eq-eqb y y refl, lt-leb (suc (noteAt l y)) v (omega arith))
-      go (no e) = rw (ne-eqb y r e)
+  module _ (env₁ env₂ : List ℕ) (same : length env₂ ≡ length env) (put : Put env x 0 1 env₁) (up : Raised env₁ (suc n) (suc x) env₂) where
+    take-off : (y j : ℕ) → j < 8 → (x ≡ y → 0 ≡ j → ⊥) → (suc n ≡ y → 7 ≡ j → ⊥) → entryWord env₂ y j ≡ entryWord env y j
+    take-off y j l p q = raised-off env₁ env₂ (suc n) (suc x) up y j l q ∙ put-off env env₁ x 0 1 put y j l p
+
+    take-status : entryWord env₂ x 0 ≡ 1
+    take-status = raised-off env₁ env₂ (suc n) (suc x) up x 0 (omega arith) (λ p q. omega arith) ∙ put-at env env₁ x 0 1 put (omega arith)
+
+    take-others : (y : ℕ) → (x ≡ y → ⊥) → SameEntry env env₂ y
+    take-others y q k l a b = take-off y k l (λ p e. q p) (λ p e. b (sym e))
+
+    take-links : SameLinks env env₂
+    take-links y = links-same env env₂ y (take-off y 1 (omega arith) (λ p q. omega arith) (λ p q. omega arith))
+
+    take-holders : (r : ℕ) → r < n → holdersAt env₂ r ≡ holdersAt env r
+    take-holders r l = holders-same env env₂ r (take-off r 3 (omega arith) (λ p q. omega arith) (λ p q. omega arith)) (take-off r 7 (omega arith) (λ p q. omega arith) (λ p q. omega arith))
+
+    take-used : environmentOf env₂ x ≡ used
+    unfolding environmentOf slotAs
+    take-used = ap (λ (s : ℕ). slotAs s (variableAt env₂ x)) take-status
+
+    taken-environment : environmentOf env₂ ≡ update (environmentOf env) x used
+    taken-environment =
+        updated env env₂ x used
+        (λ y q. slot-same env env₂ y (take-others y q) (λ l. end-same env env₂ (chainOf (linksAt env y)) (rootsAt env y) (rootsAt env y) (λ z. refl) (λ z h. take-links z)))
+        take-used
+
+    taken-table : TableFor env₂ n
+    unfolding levelOf
+    taken-table =
+        let up-there = raised-there env₁ env₂ (suc n) (suc x) up in
+        let before : entryWord env₁ (suc n) 7 ≡ noteAt env (suc n) = put-off env env₁ x 0 1 put (suc n) 7 (omega arith) (λ p q. omega arith) in
+        let most : noteAt env (suc n) ≤ n = T .2 .most in
+        still-noted env₂ used same taken-environment take-others
+        (λ r y l h. ap (λ (k : Roots). has k y) (take-holders r l) ∙ h)
+        (λ r l s h. absurd (omega (arith, take-status)))
+        (omega (arith, take-off n 7 (omega arith) (λ p q. omega arith) (λ p q. omega arith)))
+        (omega arith)
+        (omega (arith, up-there .0, before))
+        (up-there .2 n (omega arith) (omega arith))
+        (λ h. absurd (omega (arith, up-there .1)))
+
+    pub number-taken : (environmentOf env₂ ≡ update (environmentOf env) x used) × TableFor env₂ n × SameLinks env env₂
+    number-taken = (taken-environment, taken-table, take-links)
+
+  -- ---- its value changes: from where it is moved away, its roots, or both; and who may hold a borrow of these is noted
+
+  module _ (env₁ env₂ : List ℕ) (d : ℕ) (s t : Roots)
+      (off : (y j : ℕ) → j < 8 → (x ≡ y → 2 ≡ j → ⊥) → (x ≡ y → 4 ≡ j → ⊥) → (x ≡ y → 6 ≡ j → ⊥) → entryWord env₁ y j ≡ entryWord env y j)
+      (moved : entryWord env₁ x 4 ≡ d) (roots : rootsAt env₁ x ≡ s) (H : HolderNoted n env₁ x t env₂) (same : length env₂ ≡ length env)
+      (covered : (r : ℕ) → has s r ≡ true → (has (rootsAt env x) r ≡ true) ⊎ (has t r ≡ true)) where
+    value-off : (y j : ℕ) → j < 8 → (j ≡ 3 → ⊥) → (j ≡ 7 → ⊥) → (x ≡ y → 2 ≡ j → ⊥) → (x ≡ y → 4 ≡ j → ⊥) → (x ≡ y → 6 ≡ j → ⊥) → entryWord env₂ y j ≡ entryWord env y j
+    value-off y j l a b p q r = H .entries y j l a b ∙ off y j l p q r
+
+    value-others : (y : ℕ) → (x ≡ y → ⊥) → SameEntry env env₂ y
+    value-others y q k l a b = value-off y k l a b (λ p e. q p) (λ p e. q p) (λ p e. q p)
+
+    value-links : SameLinks env env₂
+    value-links y = links-same env env₂ y (value-off y 1 (omega arith) (λ q. omega arith) (λ q. omega arith) (λ p q. omega arith) (λ p q. omega arith) (λ p q. omega arith))
+
+    value-status : entryWord env₂ x 0 ≡ entryWord env x 0
+    value-status = value-off x 0 (omega arith) (λ q. omega arith) (λ q. omega arith) (λ p q. omega arith) (λ p q. omega arith) (λ p q. omega arith)
+
+    value-roots : rootsAt env₂ x ≡ s
+    value-roots = roots-same env₁ env₂ x (H .entries x 2 (omega arith) (λ q. omega arith) (λ q. omega arith)) (H .entries x 6 (omega arith) (λ q. omega arith) (λ q. omega arith)) ∙ roots
+
+    value-variable : variableAt env₂ x ≡ variableOf env (linksAt env x) d s (entryWord env x 5)
+    value-variable =
+        rw (
+          value-links x,
+          H .entries x 4 (omega arith) (λ q. omega arith) (λ q. omega arith) ∙ moved,
+          value-off x 5 (omega arith) (λ q. omega arith) (λ q. omega arith) (λ p q. omega arith) (λ p q. omega arith) (λ p q. omega arith),
+          value-roots,
+          end-same env env₂ (chainOf (linksAt env x)) s s (λ y. refl) (λ y h. value-links y),
+        )
+
+    value-kept : (r y : ℕ) → r < n → has (holdersAt env r) y ≡ true → has (holdersAt env₂ r) y ≡ true
+    value-kept r y l h =
+        let as-before : holdersAt env₁ r ≡ holdersAt env r =
+        holders-same env env₁ r (off r 3 (omega arith) (λ p q. omega arith) (λ p q. omega arith) (λ p q. omega arith)) (off r 7 (omega arith) (λ p q. omega arith) (λ p q. omega arith) (λ p q. omega arith)) in
+        H .kept r y l (ap (λ (k : Roots). has k y) as-before ∙ h)
+
+    value-own : (r : ℕ) → r < n → 2 ≤ entryWord env₂ x 0 → has (rootsAt env₂ x) r ≡ true → has (holdersAt env₂ r) x ≡ true
+    value-own r l a h = elim (covered r (ap (λ (k : Roots). has k r) (sym value-roots) ∙ h)) [
+      | inl o ↦ value-kept r x l (T .2 .held x r inside l (subst (λ (k : ℕ). 2 ≤ k) value-status a) o)
+      | inr o ↦ H .new r l o
+    ]
+
+    value-notes : (y : ℕ) → n ≤ y → noteAt env₂ y ≡ noteAt env y
+    value-notes y l = H .notes y l ∙ off y 7 (omega arith) (λ p q. omega arith) (λ p q. omega arith) (λ p q. omega arith)
+
+    module _ (f : Slot → Slot) (none : f free ≡ free) (taken : f used ≡ used)
+        (there : f (live (variableAt env x)) ≡ live (variableOf env (linksAt env x) d s (entryWord env x 5))) where
+      value-slot : environmentOf env₂ x ≡ f (environmentOf env x)
+      unfolding environmentOf
+      value-slot =
+          ap (λ (k : ℕ). slotAs k (variableAt env₂ x)) value-status
+          ∙ slot-changed f (variableAt env x) (variableAt env₂ x) none taken (there ∙ ap live (sym value-variable)) (entryWord env x 0)
+
+      value-level : levelOf (f (environmentOf env x)) ≡ levelOf (environmentOf env x)
+      unfolding environmentOf
+      value-level =
+          ap levelOf (sym value-slot)
+          ∙ ap (λ (k : ℕ). levelOf (slotAs k (variableAt env₂ x))) value-status
+          ∙ slot-level (entryWord env x 0) (variableAt env x) (variableAt env₂ x) (ap (λ (v : Variable). v .level) value-variable)
+
+      value-environment : environmentOf env₂ ≡ update (environmentOf env) x (f (environmentOf env x))
+      value-environment =
+          updated env env₂ x (f (environmentOf env x))
+          (λ y q. slot-same env env₂ y (value-others y q) (λ l. end-same env env₂ (chainOf (linksAt env y)) (rootsAt env y) (rootsAt env y) (λ z. refl) (λ z h. value-links z)))
+          value-slot
+
+      pub value-changed : (environmentOf env₂ ≡ update (environmentOf env) x (f (environmentOf env x))) × TableFor env₂ n × SameLinks env env₂
+      value-changed =
+          let at-n = value-notes n (omega arith) in
+          let at-next = value-notes (suc n) (omega arith) in (
+            value-environment,
+            still-noted env₂ (f (environmentOf env x)) same value-environment value-others value-kept value-own
+                (omega arith)
+                (omega (arith, value-level, T .2 .levels x))
+                (omega arith)
+                (omega (arith, T .2 .most))
+                (λ h. value-status ∙ T .2 .untaken x (omega arith)),
+            value-links,
+          )
+
+  pub moved-away : (k : ℕ) (env₁ : List ℕ) → length env₁ ≡ length env → Put env x 4 k env₁
+      → (environmentOf env₁ ≡ update (environmentOf env) x (movedAwayAt (environmentOf env x) k)) × TableFor env₁ n × SameLinks env env₁
+  moved-away k env₁ same put =
+      value-changed env₁ env₁ k (rootsAt env x) (record { low = 0; high = 0 })
+      (λ y j l p q r. put-off env env₁ x 4 k put y j l q)
+      (put-at env env₁ x 4 k put (omega arith))
+      (roots-same env env₁ x (put-off env env₁ x 4 k put x 2 (omega arith) (λ p q. omega arith)) (put-off env env₁ x 4 k put x 6 (omega arith) (λ p q. omega arith)))
+      (record { entries = λ y j l a b. refl; notes = λ y l. refl; kept = λ r y l h. h; new = λ r l h. absurd (true≢false (sym h ∙ in-none r)) })
+      same
+      (λ r h. inl h)
+      (λ (z : Slot). movedAwayAt z k) refl refl refl
+
+  pub refilled-by : (d : ℕ) (s : Roots) (env₁ env₂ env₃ : List ℕ) → length env₃ ≡ length env → d ≡ suc (leadingBoxes (chainOf (linksAt env x)))
+      → Put env x 4 d env₁ → PutSet env₁ x 2 s env₂ → HolderNoted n env₂ x s env₃
+      → (environmentOf env₃ ≡ update (environmentOf env) x (refilled (environmentOf env x) (endIn env (chainOf (linksAt env x)) s))) × TableFor env₃ n × SameLinks env env₃
+  refilled-by d s env₁ env₂ env₃ same whole put set H =
+      value-changed env₂ env₃ (suc (leadingBoxes (chainOf (linksAt env x)))) s s
+      (λ y j l p q r. set-off env₁ env₂ x 2 s set y j l p r ∙ put-off env env₁ x 4 d put y j l q)
+      (set-off env₁ env₂ x 2 s set x 4 (omega arith) (λ p q. omega arith) (λ p q. omega arith) ∙ put-at env env₁ x 4 d put (omega arith) ∙ whole)
+      (roots-put env₁ env₂ x s set) H same
+      (λ r h. inr h)
+      (λ (z : Slot). refilled z (endIn env (chainOf (linksAt env x)) s)) refl refl refl
+
+  pub widened-by : (old s all : Roots) (env₁ env₂ : List ℕ) → length env₂ ≡ length env → old ≡ rootsAt env x → ((y : ℕ) → has all y ≡ pick (has old y) true (has s y))
+      → PutSet env x 2 all env₁ → HolderNoted n env₁ x s env₂
+      → (environmentOf env₂ ≡ update (environmentOf env) x (widened (environmentOf env x) (endIn env (chainOf (linksAt env x)) s))) × TableFor env₂ n × SameLinks env env₂
+  widened-by old s all env₁ env₂ same read more set H =
+      let either : (y : ℕ) → has all y ≡ or (has (rootsAt env x) y) (has s y) = λ y. more y ∙ ap (λ (k : Roots). or (has k y) (has s y)) read in
+      value-changed env₁ env₂ (entryWord env x 4) all s
+      (λ y j l p q r. set-off env env₁ x 2 all set y j l p r)
+      (set-off env env₁ x 2 all set x 4 (omega arith) (λ p q. omega arith) (λ p q. omega arith))
+      (roots-put env env₁ x all set) H same
+      (λ r h. or-true (has (rootsAt env x) r) (has s r) (sym (either r) ∙ h))
+      (λ (z : Slot). widened z (endIn env (chainOf (linksAt env x)) s)) refl refl
+      (ap (λ (b : Borrow). live (record { chain = chainOf (linksAt env x); movedFrom = entryWord env x 4; borrow = b; level = entryWord env x 5 }))
+      (end-united env (chainOf (linksAt env x)) (rootsAt env x) s all either))

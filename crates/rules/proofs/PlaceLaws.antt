@@ -1,93 +1,304 @@
--- A judged place as the code has it, by what the rules found: of its root the links only.
-use Prim.Native.Nat.{ℕ, _+_, _<_, _≤_}
+-- A judged place as the code has it, by what the rules found, and the rules that ask for such a place.
+use Prim.Native.Nat.{ℕ, suc, _-_, _≤_, _<_}
 use native.Mathlib.Omega.{arith}
-use mathlib.Core.Path.{_≡_, refl, sym, _∙_, ap}
-use mathlib.Core.Bool.{Bool, true, false}
-use mathlib.Core.Option.{Option, none, some}
-use mathlib.Core.List.{List}
-use lib.Dec.{leb}
-use lib.ListN.{length, drop, length-drop}
-use borrow.Author.Tests.{leb-true}
-use Rattle.reader.specs.Result.{ok, err, need, _>>=_}
+use mathlib.Core.Path.{_≡_, refl, sym, ap, ap₂, _∙_, subst}
+use mathlib.Core.Bool.{Bool, true, false, false≢true}
+use mathlib.Core.Option.{some}
+use mathlib.Core.List.{List, [], _∷_}
+use lib.ListN.{length, take, drop, length-drop}
+use lib.Dec.{leb, eqb}
+use borrow.Author.Tests.{le-leb, lt-leb}
+use Rattle.reader.specs.Result.{ok, err, need, _>>=_, pick}
 use Rattle.reader.specs.Script.{Place}
+use Rattle.rules.specs.declared.roots.Roots.{Roots}
+use Rattle.rules.specs.declared.follow.Ends.{Ends}
+use Rattle.rules.specs.declared.follow.Ends.the-variants as ends
+use Rattle.rules.specs.declared.table.VariableState.{VariableState}
+use Rattle.rules.specs.declared.table.Entry.{Entry}
+use Rattle.rules.specs.declared.table.Entry.the-variants as entry
 use Rattle.rules.specs.declared.rules.Located.{Located}
 use Rattle.rules.specs.declared.rules.Located.the-variants as located
-use Rattle.rules.specs.Links.{Link}
-use Rattle.rules.specs.Environment.{Slot, free, used, live, Environment}
-use Rattle.rules.specs.Chains.{chainOf}
-use Rattle.rules.specs.Follow.{follow}
+use Rattle.rules.specs.declared.verdicts.Verdict.{Verdict}
+use Rattle.rules.specs.Links.{Link, shared, exclusive, maxLinks, leadingBoxes, noShared, isNumber, copies}
+use Rattle.rules.specs.Places.{every}
+use Rattle.rules.specs.Environment.{Borrow, sharedOf, exclusiveOf, borrowEnd, Variable, Slot, free, used, live, Environment, Ty, update, movedAway, borrowsAt}
+use Rattle.rules.specs.Follow.{ownLink, valueWhole}
+use Rattle.rules.specs.Bars.{readBarred, writeBarred}
 use Rattle.rules.specs.Rules as rules
-use Rattle.rules.specs.Rules.{Judged, inScope, reached, judgePlace}
-use Rattle.rules.specs.Table.{environmentOf, TableFor}
-use Rattle.rules.specs.Verdicts.{foundOf, asLocated}
-use Rattle.rules.proofs.NotedLaws.{live-inside}
+use Rattle.rules.specs.Rules.{Judged, numberTy, inScope, judgePlace, judgeReadable, judgeCopy, judgeMove, judgeShared, judgeExclusive}
+use Rattle.rules.specs.Neat.{place, SameSet}
+use Rattle.rules.specs.Roots.{linksOf, lengths, placesOf, MetFrom, endsOf}
+use Rattle.rules.specs.Masks.{has}
+use Rattle.rules.specs.Chains.{chainOf}
+use Rattle.rules.specs.Steps.{passesSlot, passes, Searched, BorrowedAt}
+use Rattle.rules.specs.Table.{linksAt, longAt, variableAt, stateAt, entryAt, endIn, environmentOf}
+use Rattle.rules.specs.Verdicts.{NeatTable, PlaceFound, LocatedIs, typeOf, answered, Answers, atMost8}
+use Rattle.rules.proofs.NeatPaths.{Lies, led}
+use Rattle.rules.proofs.NeatTerms.{readable-place}
+use Rattle.rules.proofs.RootLaws.{same-roots}
+use Rattle.rules.proofs.RootSets.{one-place}
+use Rattle.rules.proofs.FollowRoots as paths
+use Rattle.rules.proofs.EntryLaws.{live-status, live-inside, slot-live}
+use Rattle.rules.proofs.ValueLaws.{number-type, copied-borrow, borrows-there}
 
-pub record Found (judged : Judged rules.Located) (f links rest x k : ℕ) : Type 0 where
-  pub at : rules.Located
-  pub is : judged ≡ ok at
-  pub chain : at .root .chain ≡ chainOf links
-  pub after : drop f (chainOf links) ≡ chainOf rest
-  pub to : at .to ≡ record { root = x; follows = k }
+-- ---- the answer, by its case
 
-module _ {r : Located} {judged : Judged rules.Located} (f : ℕ) (answered : asLocated r ≡ foundOf f judged) where
-  pub found-at : {links rest x k : ℕ} → r ≡ located.At links rest x k → Found judged f links rest x k
-  unfolding asLocated foundOf _>>=_
-  found-at {links} {rest} {x} {k} e = go judged refl (ap asLocated (sym e) ∙ answered)
-    where
-      go : (j : Judged rules.Located) → judged ≡ j → asLocated (located.At links rest x k) ≡ foundOf f j → Found judged f links rest x k
-      go (ok l) q h =
-          let w : _≡_ {A = List Link × List Link × Place} (chainOf links, chainOf rest, record { root = x; follows = k }) (l .root .chain, drop f (l .root .chain), l .to) = cc in
-          let chain = ap (λ (t : List Link × List Link × Place). t .0) w in
-          record {
-            at = l;
-            is = q;
-            chain = sym chain;
-            after = ap (drop f) chain ∙ sym (ap (λ (t : List Link × List Link × Place). t .1) w);
-            to = sym (ap (λ (t : List Link × List Link × Place). t .2) w);
-          }
-      go (err n) q h = let z : _≡_ {A = ℕ} 0 1 = cc in absurd (omega arith)
-
-  -- The same, for a goal that is then rewritten.
-  pub found-in : {G : Type 0} {links rest x k : ℕ} → r ≡ located.At links rest x k
-      → ((l : rules.Located) → judged ≡ ok l → l .root .chain ≡ chainOf links → drop f (chainOf links) ≡ chainOf rest → l .to ≡ record { root = x; follows = k } → G) → G
-  found-in e go = let found = found-at e in go (found .at) (found .is) (found .chain) (found .after) (found .to)
+module _ (nv : ℕ) (Γ : Environment) (p : Place) (judged : Judged rules.Located) {r : Located} (answer : LocatedIs nv Γ p judged r) where
+  pub found-at : {links rest : ℕ} {s : Roots} → r ≡ located.At links rest s → PlaceFound nv Γ p links rest s judged
+  found-at e = subst (λ (k : Located). LocatedIs nv Γ p judged k) e answer
 
   pub found-refused : {n at : ℕ} → r ≡ located.Refused n at → judged ≡ err (n, at)
-  unfolding asLocated foundOf _>>=_
-  found-refused {n} {at} e = go judged refl (ap asLocated (sym e) ∙ answered)
-    where
-      go : (j : Judged rules.Located) → judged ≡ j → asLocated (located.Refused n at) ≡ foundOf f j → judged ≡ err (n, at)
-      go (ok l) q h = let z : _≡_ {A = ℕ} 0 1 = cc in absurd (omega arith)
-      go (err m) q h = cc
+  found-refused e = subst (λ (k : Located). LocatedIs nv Γ p judged k) e answer
 
--- A judged place's root is in scope, its chain is long enough, and the place leads where the judge says.
-module _ (n : ℕ) (Γ : Environment) (i : ℕ) (p : Place) (l : rules.Located) where
-  place-steps : (s : Slot) (o : Option Place)
-      → (inScope s (31, i) >>= λ v. need (leb (p .follows) (length (v .chain))) (32, i) >>= λ _. reached o (33, i) >>= λ q. ok (record { root = v; to = q })) ≡ ok l
-      → (s ≡ live (l .root)) × (o ≡ some (l .to)) × (p .follows ≤ length (l .root .chain))
-  unfolding inScope need reached _>>=_
-  place-steps free o e = let z : _≡_ {A = ℕ} 0 1 = cc in absurd (omega arith)
-  place-steps used o e = let z : _≡_ {A = ℕ} 0 1 = cc in absurd (omega arith)
-  place-steps (live v) o e = go (leb (p .follows) (length (v .chain))) refl o e
-    where
-      go : (b : Bool) → leb (p .follows) (length (v .chain)) ≡ b → (o : Option Place)
-          → (need b (32, i) >>= λ _. reached o (33, i) >>= λ q. ok (record { root = v; to = q })) ≡ ok l
-          → (live v ≡ live (l .root)) × (o ≡ some (l .to)) × (p .follows ≤ length (l .root .chain))
-      go true t none e = let z : _≡_ {A = ℕ} 0 1 = cc in absurd (omega arith)
-      go true t (some q) e = let w : v ≡ l .root = cc in (cc, cc, rw (← w) (leb-true _ _ t))
-      go false t o e = let z : _≡_ {A = ℕ} 0 1 = cc in absurd (omega arith)
+-- A refusal of the place is one of reading it.
+pub readable-refused : (nv : ℕ) (Γ : Environment) (i : ℕ) (p : Place) {r : Located} → LocatedIs nv Γ p (judgePlace nv Γ i p) r → {n at : ℕ} → r ≡ located.Refused n at → LocatedIs nv Γ p (judgeReadable nv Γ i p) r
+unfolding judgeReadable _>>=_
+readable-refused nv Γ i p answer {n} {at} e =
+    let h : judgeReadable nv Γ i p ≡ err (n, at) = rw (found-refused nv Γ p (judgePlace nv Γ i p) answer e) in
+    subst (λ (k : Located). LocatedIs nv Γ p (judgeReadable nv Γ i p) k) (sym e) h
 
-  pub place-found : judgePlace n Γ i p ≡ ok l → (Γ (p .root) ≡ live (l .root)) × (follow n Γ (p .root) (p .follows) ≡ some (l .to)) × (p .follows ≤ length (l .root .chain))
-  unfolding judgePlace
-  place-found e = place-steps (Γ (p .root)) (follow n Γ (p .root) (p .follows)) e
+-- ---- judging a place
 
--- Where a judged place leads, and how many links its root has.
-pub place-leads : (n : ℕ) (Γ : Environment) (i : ℕ) (p : Place) {links rest x k : ℕ} → Found (judgePlace n Γ i p) (p .follows) links rest x k
-    → (follow n Γ (p .root) (p .follows) ≡ some (record { root = x; follows = k })) × (length (chainOf links) ≡ p .follows + length (chainOf rest))
-place-leads n Γ i p {links} {rest} {x} {k} found =
-    let there = place-found n Γ i p (found .at) (found .is) in
-    (there .1 ∙ ap some (found .to), rw (← found .after, length-drop (p .follows) (chainOf links)) (omega (arith, there .2, ap (λ (ks : List Link). length ks) (found .chain))))
+-- What the code loaded at x is the state of the place's root.
+pub loaded : (env : List ℕ) (x y : ℕ) → x ≡ y → (e : Entry) → e ≡ entryAt env x → (v : VariableState) → e ≡ entry.Live v → (environmentOf env y ≡ live (variableAt env y)) × (v .links ≡ linksAt env y)
+unfolding stateAt
+loaded env x y q e h v k =
+    let s = slot-live env x e h v k in
+    (subst (λ (z : ℕ). environmentOf env z ≡ live (variableAt env z)) q (s .0), ap (λ (w : VariableState). w .links) (s .1) ∙ ap (linksAt env) q)
 
--- The root is a number of the table.
-pub root-inside : (t : List ℕ) (n : ℕ) → TableFor t n → (i : ℕ) (p : Place) (l : rules.Located) → judgePlace n (environmentOf t) i p ≡ ok l → p .root < n
-root-inside t n T i p l e = live-inside t n T (p .root) (l .root) (place-found n (environmentOf t) i p l e .0)
+pub rest-fits : (f : ℕ) (ks js : List Link) (rest m : ℕ) → ks ≡ js → drop f ks ≡ chainOf rest → m ≡ length (chainOf rest) → m ≤ length js
+rest-fits f ks js rest m q h e =
+    let a = length-drop f ks in
+    let b = ap (λ (l : List Link). length l) h in
+    let d = ap (λ (l : List Link). length l) q in
+    omega arith
+
+pub place-short : (nv : ℕ) (Γ : Environment) (i : ℕ) (p : Place) (v : Variable) → Γ (p .root) ≡ live v → length (v .chain) < p .follows → judgePlace nv Γ i p ≡ err (32, i)
+unfolding judgePlace inScope need _>>=_
+place-short nv Γ i p v e l = rw (e, lt-leb (p .follows) (length (v .chain)) l)
+
+-- An end is in scope.
+low-end : (env : List ℕ) (nv : ℕ) → NeatTable env nv → (f : ℕ → Bool) (m y : ℕ) → endsOf (environmentOf env) m f y ≡ true → y < nv
+unfolding ownLink
+low-end env nv T f m y h = go (f y) (environmentOf env y) refl h
+  where
+    go : (b : Bool) (sl : Slot) → environmentOf env y ≡ sl → pick b (ownLink sl (linksOf sl - m)) false ≡ true → y < nv
+    go true free e h = absurd (false≢true h)
+    go true used e h = absurd (false≢true h)
+    go true (live v) e h = T .1 .1 .low y v e
+    go false sl e h = absurd (false≢true h)
+
+-- The place passes 31 and 32; the search from its root with the links left after it says the rest.
+module _ (env : List ℕ) (nv : ℕ) (T : NeatTable env nv) (i : ℕ) (p : Place) (x : ℕ) (at : x ≡ p .root) (links : ℕ) (rest : ℕ)
+    (is : environmentOf env (p .root) ≡ live (variableAt env (p .root))) (same : links ≡ linksAt env (p .root))
+    (long : p .follows ≤ length (chainOf (linksAt env (p .root)))) (after : drop (p .follows) (chainOf (linksAt env (p .root))) ≡ chainOf rest)
+    (m : ℕ) (left : m ≡ length (chainOf rest)) (r : Ends) (S : Searched nv (environmentOf env) x m false r) where
+  abbrev Told : ℕ → Type 0
+  Told k =
+      (ends : List Place) × (SameSet ends (placesOf nv (endsOf (environmentOf env) k (S .met)) (lengths (environmentOf env)) k))
+      × (judgePlace nv (environmentOf env) i p
+      ≡ pick (every (passes false (environmentOf env)) (placesOf nv (S .met) (lengths (environmentOf env)) k)) (ok (paths.located (variableAt env (p .root)) ends)) (err (33, i)))
+
+  remaining : length (chainOf (linksAt env (p .root))) - p .follows ≡ m
+  remaining = sym (length-drop (p .follows) (chainOf (linksAt env (p .root)))) ∙ ap (λ (ks : List Link). length ks) after ∙ sym left
+
+  from-root : MetFrom (environmentOf env) m (p .root) (S .met)
+  from-root = subst (λ (y : ℕ). MetFrom (environmentOf env) m y (S .met)) at (S .is)
+
+  told : Told m
+  unfolding passesSlot
+  told =
+      subst Told remaining
+      (paths.place-by-roots (T .1 .1) p (variableAt env (p .root)) is long (S .met) (subst (λ (k : ℕ). MetFrom (environmentOf env) k (p .root) (S .met)) (sym remaining) from-root) i)
+
+  pub place-moved : r ≡ ends.MovedAway → judgePlace nv (environmentOf env) i p ≡ err (33, i)
+  place-moved e = told .2 ∙ ap (λ (b : Bool). pick b (ok (paths.located (variableAt env (p .root)) (told .0))) (err (33, i))) (S .moved e)
+
+  pub place-there : (s : Roots) → r ≡ ends.At s → PlaceFound nv (environmentOf env) p links rest s (judgePlace nv (environmentOf env) i p)
+  place-there s e = record {
+    located = paths.located (variableAt env (p .root)) (told .0);
+    is = told .2 ∙ ap (λ (b : Bool). pick b (ok (paths.located (variableAt env (p .root)) (told .0))) (err (33, i))) (S .passed s e);
+    root = is;
+    chain = ap chainOf (sym same);
+    after = after;
+    low = λ y h. low-end env nv T (S .met) m y (sym (S .to s e y) ∙ h);
+    to = subst (λ (k : ℕ). SameSet (told .0) (placesOf nv (has s) (lengths (environmentOf env)) k)) left
+        (subst (λ (ps : List Place). SameSet (told .0) ps)
+        (same-roots nv (endsOf (environmentOf env) m (S .met)) (has s) (lengths (environmentOf env)) (lengths (environmentOf env)) m (λ y. sym (S .to s e y)) (λ y h. refl)) (told .1));
+  }
+
+-- ---- a place found
+
+module _ (env : List ℕ) (nv : ℕ) (T : NeatTable env nv) (i : ℕ) (p : Place) {links rest : ℕ} {s : Roots} where
+  module _ (F : PlaceFound nv (environmentOf env) p links rest s (judgePlace nv (environmentOf env) i p)) where
+    root-at : F .located .root ≡ variableAt env (p .root)
+    root-at = live-status env (p .root) (F .located .root) (F .root) .1
+
+    -- The root, which the code has as x.
+    pub root-live : (x : ℕ) → x ≡ p .root → environmentOf env x ≡ live (variableAt env x)
+    root-live x e = subst (λ (y : ℕ). environmentOf env y ≡ live (variableAt env y)) (sym e) (F .root ∙ ap live root-at)
+
+    pub root-inside : (x : ℕ) → x ≡ p .root → x < nv
+    root-inside x e = let z = live-inside env nv (T .0) (p .root) (F .located .root) (F .root) in omega arith
+
+    whole-is : (x : ℕ) → x ≡ p .root → (w b : Bool) → w ≡ valueWhole nv (environmentOf env) x (variableAt env x) → w ≡ b → valueWhole nv (environmentOf env) (p .root) (F .located .root) ≡ b
+    whole-is x e w b h k =
+        ap (valueWhole nv (environmentOf env) (p .root)) root-at ∙ ap (λ (y : ℕ). valueWhole nv (environmentOf env) y (variableAt env y)) (sym e) ∙ sym h ∙ k
+
+    -- The roots of a borrow of the place.
+    borrowed : (x : ℕ) → x ≡ p .root → (r : Roots) → ((y : ℕ) → has r y ≡ eqb x y) → placesOf 128 (has r) (longAt env) (length (chainOf rest)) ≡ p ∷ []
+    borrowed x e r h =
+        let L = led (T .1 .1) i p (F .located) (F .is) .long in
+        let a : length (F .located .root .chain) ≡ longAt env (p .root) = ap (λ (v : Variable). length (v .chain)) root-at in
+        let b = length-drop (p .follows) (F .located .root .chain) in
+        let d = ap (λ (ks : List Link). length ks) (F .after) in
+        let f : p .follows ≡ longAt env (p .root) - length (chainOf rest) = omega arith in
+        let g = root-inside (p .root) refl in
+        let j = T .0 .1 in
+        same-roots 128 (has r) (eqb (p .root)) (longAt env) (longAt env) (length (chainOf rest)) (λ y. h y ∙ ap (λ (z : ℕ). eqb z y) e) (λ y q. refl)
+        ∙ sym (one-place 128 p (longAt env) (length (chainOf rest)) (omega arith) (ap (place (p .root)) f))
+
+    -- ---- readable (LANGUAGE 3.19)
+
+    module _ (x : ℕ) (at : x ≡ p .root) (w : Bool) (whole : w ≡ valueWhole nv (environmentOf env) x (variableAt env x)) where
+      pub readable-moved : w ≡ false → judgeReadable nv (environmentOf env) i p ≡ err (33, i)
+      unfolding judgeReadable need _>>=_
+      readable-moved h = rw (F .is, whole-is x at w false whole h)
+
+      module _ (yes-whole : w ≡ true) (b : Bool) (barred : b ≡ readBarred nv (environmentOf env) x) where
+        barred-is : (d : Bool) → b ≡ d → readBarred nv (environmentOf env) (p .root) ≡ d
+        barred-is d h = ap (readBarred nv (environmentOf env)) (sym at) ∙ sym barred ∙ h
+
+        pub readable-barred : b ≡ true → judgeReadable nv (environmentOf env) i p ≡ err (34, i)
+        unfolding judgeReadable need _>>=_
+        readable-barred h = rw (F .is, whole-is x at w true whole yes-whole, barred-is true h)
+
+        pub readable-there : b ≡ false → PlaceFound nv (environmentOf env) p links rest s (judgeReadable nv (environmentOf env) i p)
+        unfolding judgeReadable need _>>=_
+        readable-there h = record {
+          located = F .located;
+          is = rw (F .is, whole-is x at w true whole yes-whole, barred-is false h);
+          root = F .root;
+          chain = F .chain;
+          after = F .after;
+          low = F .low;
+          to = F .to;
+        }
+
+      -- ---- exclusive borrow (LANGUAGE 3.22)
+
+      pub exclusive-moved : w ≡ false → judgeExclusive nv (environmentOf env) i p ≡ err (33, i)
+      unfolding judgeExclusive need _>>=_
+      exclusive-moved h = rw (F .is, whole-is x at w false whole h)
+
+      module _ (yes-whole : w ≡ true) (f : ℕ) (follows : f ≡ p .follows) (u : Bool) (unshared : u ≡ noShared (take f (chainOf links))) where
+        unshared-is : (d : Bool) → u ≡ d → noShared (take (p .follows) (F .located .root .chain)) ≡ d
+        unshared-is d h = ap₂ (λ (k : ℕ) (ks : List Link). noShared (take k ks)) (sym follows) (F .chain) ∙ sym unshared ∙ h
+
+        pub exclusive-shared : u ≡ false → judgeExclusive nv (environmentOf env) i p ≡ err (36, i)
+        unfolding judgeExclusive need _>>=_
+        exclusive-shared h = rw (F .is, whole-is x at w true whole yes-whole, unshared-is false h)
+
+        module _ (yes-unshared : u ≡ true) (b : Bool) (barred : b ≡ writeBarred nv (environmentOf env) x) where
+          write-is : (d : Bool) → b ≡ d → writeBarred nv (environmentOf env) (p .root) ≡ d
+          write-is d h = ap (writeBarred nv (environmentOf env)) (sym at) ∙ sym barred ∙ h
+
+          pub exclusive-barred : b ≡ true → judgeExclusive nv (environmentOf env) i p ≡ err (35, i)
+          unfolding judgeExclusive need _>>=_
+          exclusive-barred h = rw (F .is, whole-is x at w true whole yes-whole, unshared-is true yes-unshared, write-is true h)
+
+          pub exclusive-there : b ≡ false → (r : Roots) → ((y : ℕ) → has r y ≡ eqb x y) → (v : Verdict)
+              → Answers v (atMost8 i (λ e. typeOf (exclusive ∷ chainOf rest) (endIn e (exclusive ∷ chainOf rest) r))) → answered env v ≡ judgeExclusive nv (environmentOf env) i p
+          unfolding judgeExclusive need _>>=_ borrowEnd leadingBoxes
+          exclusive-there h r o v a =
+              let end : exclusiveOf (placesOf 128 (has r) (longAt env) (length (chainOf rest))) ≡ exclusiveOf (p ∷ []) = ap exclusiveOf (borrowed x at r o) in
+              rw (F .is, whole-is x at w true whole yes-whole, unshared-is true yes-unshared, write-is false h, F .after)
+              (a env ∙ ap (λ (k : Borrow). need (leb (suc (length (chainOf rest))) maxLinks) (42, i) >>= λ _. ok (environmentOf env, some (typeOf (exclusive ∷ chainOf rest) k))) end)
+
+  -- ---- a readable place
+
+  module _ (R : PlaceFound nv (environmentOf env) p links rest s (judgeReadable nv (environmentOf env) i p)) where
+    pub as-place : PlaceFound nv (environmentOf env) p links rest s (judgePlace nv (environmentOf env) i p)
+    as-place = record {
+      located = R .located;
+      is = readable-place nv (environmentOf env) i p (R .located) (R .is);
+      root = R .root;
+      chain = R .chain;
+      after = R .after;
+      low = R .low;
+      to = R .to;
+    }
+
+    -- Shared borrow (LANGUAGE 3.21).
+    pub shared-there : (x : ℕ) → x ≡ p .root → (r : Roots) → ((y : ℕ) → has r y ≡ eqb x y) → (v : Verdict)
+        → Answers v (atMost8 i (λ e. typeOf (shared ∷ chainOf rest) (endIn e (shared ∷ chainOf rest) r))) → answered env v ≡ judgeShared nv (environmentOf env) i p
+    unfolding judgeShared need _>>=_ borrowEnd leadingBoxes
+    shared-there x at r o v a =
+        let end : sharedOf (placesOf 128 (has r) (longAt env) (length (chainOf rest))) ≡ sharedOf (p ∷ []) = ap sharedOf (borrowed as-place x at r o) in
+        rw (R .is, R .after)
+        (a env ∙ ap (λ (k : Borrow). need (leb (suc (length (chainOf rest))) maxLinks) (42, i) >>= λ _. ok (environmentOf env, some (typeOf (shared ∷ chainOf rest) k))) end)
+
+    -- Copy (LANGUAGE 3.19).
+    pub copy-refused : copies (chainOf rest) ≡ false → judgeCopy nv (environmentOf env) i p ≡ err (37, i)
+    unfolding judgeCopy need _>>=_
+    copy-refused h = rw (R .is, R .after, h)
+
+    module _ (copied : copies (chainOf rest) ≡ true) where
+      copy-is : judgeCopy nv (environmentOf env) i p ≡ ok (environmentOf env, some (typeOf (chainOf rest) (borrowEnd (chainOf rest) (borrowsAt (environmentOf env) (R .located .to)))))
+      unfolding judgeCopy need _>>=_
+      copy-is = rw (R .is, R .after, copied)
+
+      pub copy-number : isNumber (chainOf rest) ≡ true → judgeCopy nv (environmentOf env) i p ≡ ok (environmentOf env, some numberTy)
+      copy-number h = copy-is ∙ ap (λ (t : Ty). ok (environmentOf env, some t)) (number-type (chainOf rest) (borrowsAt (environmentOf env) (R .located .to)) h)
+
+      pub copy-borrow : isNumber (chainOf rest) ≡ false → (r : Roots) → BorrowedAt env s r
+          → judgeCopy nv (environmentOf env) i p ≡ ok (environmentOf env, some (typeOf (chainOf rest) (endIn env (chainOf rest) r)))
+      copy-borrow h r B =
+          let L = led (T .1 .1) i p (R .located) (readable-place nv (environmentOf env) i p (R .located) (R .is)) in
+          let all = borrows-there env nv (chainOf rest) (R .located .to) s r (λ q k. let z = L .ends q k in (subst (λ (ks : List Link). Lies (environmentOf env) ks q) (R .after) (z .0), z .1)) (R .to) (R .low) B (copied-borrow (chainOf rest) copied h) in
+          copy-is ∙ ap (λ (ps : List Place). ok (environmentOf env, some (typeOf (chainOf rest) (borrowEnd (chainOf rest) ps)))) all
+
+-- ---- move (LANGUAGE 3.20), test by test
+
+module _ (env : List ℕ) (nv i : ℕ) (p : Place) (is : environmentOf env (p .root) ≡ live (variableAt env (p .root))) where
+  abbrev chain : List Link
+  chain = chainOf (linksAt env (p .root))
+
+  pub move-short : length chain < p .follows → judgeMove nv (environmentOf env) i p ≡ err (32, i)
+  unfolding judgeMove inScope need _>>=_
+  move-short l = rw (is, lt-leb (p .follows) (length chain) l)
+
+  module _ (long : p .follows ≤ length chain) (links f boxes : ℕ) (same : links ≡ linksAt env (p .root)) (follows : f ≡ p .follows) (count : boxes ≡ leadingBoxes (chainOf links)) where
+    boxes-is : boxes ≡ leadingBoxes chain
+    boxes-is = count ∙ ap (λ (l : ℕ). leadingBoxes (chainOf l)) same
+
+    pub move-passed : boxes < f → judgeMove nv (environmentOf env) i p ≡ err (38, i)
+    unfolding judgeMove inScope need _>>=_
+    move-passed l = rw (is, le-leb (p .follows) (length chain) long, lt-leb (p .follows) (leadingBoxes chain) (omega (arith, boxes-is)))
+
+    pub own-follows : f ≤ boxes → p .follows ≤ leadingBoxes chain
+    own-follows l = omega (arith, boxes-is)
+
+    module _ (own : f ≤ boxes) (x : ℕ) (at : x ≡ p .root) (w : Bool) (whole : w ≡ valueWhole nv (environmentOf env) x (variableAt env x)) where
+      inside : p .follows ≤ leadingBoxes chain
+      inside = own-follows own
+
+      whole-here : (d : Bool) → w ≡ d → valueWhole nv (environmentOf env) (p .root) (variableAt env (p .root)) ≡ d
+      whole-here d h = ap (λ (y : ℕ). valueWhole nv (environmentOf env) y (variableAt env y)) (sym at) ∙ sym whole ∙ h
+
+      pub move-moved : w ≡ false → judgeMove nv (environmentOf env) i p ≡ err (33, i)
+      unfolding judgeMove inScope need _>>=_
+      move-moved h = rw (is, le-leb (p .follows) (length chain) long, le-leb (p .follows) (leadingBoxes chain) inside, whole-here false h)
+
+      module _ (all : w ≡ true) (b : Bool) (barred : b ≡ writeBarred nv (environmentOf env) x) where
+        barred-here : (d : Bool) → b ≡ d → writeBarred nv (environmentOf env) (p .root) ≡ d
+        barred-here d h = ap (writeBarred nv (environmentOf env)) (sym at) ∙ sym barred ∙ h
+
+        pub move-barred : b ≡ true → judgeMove nv (environmentOf env) i p ≡ err (35, i)
+        unfolding judgeMove inScope need _>>=_
+        move-barred h = rw (is, le-leb (p .follows) (length chain) long, le-leb (p .follows) (leadingBoxes chain) inside, whole-here true all, barred-here true h)
+
+        pub move-there : b ≡ false
+            → judgeMove nv (environmentOf env) i p ≡ ok (update (environmentOf env) (p .root) (live (movedAway (variableAt env (p .root)) (p .follows))), some (typeOf (drop (p .follows) chain) (variableAt env (p .root) .borrow)))
+        unfolding judgeMove inScope need _>>=_
+        move-there h = rw (is, le-leb (p .follows) (length chain) long, le-leb (p .follows) (leadingBoxes chain) inside, whole-here true all, barred-here false h)

@@ -1,147 +1,160 @@
--- The table and the environment: an entry is its words, and words that are put are updates.
-use Prim.Native.Nat.{ℕ, zero, suc, _+_, _*_, _<_, _≤_}
+-- The table by its words: a word that is put, numbers by their status, and words that no rule looks at. Assumes nothing.
+use Prim.Native.Nat.{ℕ, _+_, _*_, _%_, _<_, _≤_}
 use native.Mathlib.Omega.{arith}
-use native.Mathlib.Nat.{add-zero}
 use native.Mathlib.Decide.{ℕ-discrete, decLt}
-use mathlib.Core.Path.{_≡_, refl, sym, _∙_, fun-ext}
-use mathlib.Core.Logic.{_⊎_, inl, inr, ⊎-elim}
-use mathlib.Core.List.{List, [], _∷_}
-use lib.ListN.{length, getD, set, length-set}
-use lib.Seq.{sets, getD-set-same, getD-set-other}
+use mathlib.Core.Path.{_≡_, refl, sym, ap, ap₂, _∙_, fun-ext}
+use mathlib.Core.Logic.{⊎-elim, _⊎_, inl, inr}
+use mathlib.Core.Bool.{Bool, true, false, _&&_}
+use mathlib.Core.List.{List}
+use lib.Dec.{eqb}
+use lib.ListN.{length, set}
+use lib.Seq.{getD-set-same, getD-set-other}
 use borrow.Author.Tests.{eq-eqb, ne-eqb}
-use Rattle.rules.specs.declared.table.BorrowEnd.{BorrowEnd}
-use Rattle.rules.specs.declared.table.BorrowEnd.the-variants as end
-use Rattle.rules.specs.declared.table.VariableState.{VariableState}
+use Rattle.reader.specs.Result.{pick}
+use Rattle.rules.specs.declared.roots.Roots.{Roots}
 use Rattle.rules.specs.declared.table.Entry.the-variants as entry
-use Rattle.rules.specs.Environment.{Slot, free, used, live, Environment, update, movedAwayAt, refilled}
-use Rattle.rules.specs.Links.{leadingBoxes}
+use Rattle.rules.specs.Links.{Link}
+use Rattle.rules.specs.Environment.{free, used, borrowEnd, levelOf, isFree}
 use Rattle.rules.specs.Chains.{chainOf}
-use Rattle.rules.specs.Table.{entryWord, borrowEndAt, stateAt, entryAs, entryAt, asBorrow, asVariable, asSlot, environmentOf, borrowNumber, borrowedRoot, borrowedFollows, noteAt}
+use Rattle.rules.specs.Masks.{has}
+use Rattle.rules.specs.Table.{entryWord, linksAt, longAt, rootsAt, endIn, variableOf, slotAs, environmentOf, stateAt, entryAt, TableFor, SameLinks, putAt}
+use Rattle.rules.proofs.RootLaws.{same-roots}
+use Rattle.rules.proofs.EntryLaws.{status-live}
 
--- A run of stores.
-sets-out : (vs l : List ℕ) (i j : ℕ) → (j < i) ⊎ (i + length vs ≤ j) → getD (sets l i vs) j 0 ≡ getD l j 0
-sets-out [] l i j h = refl
-sets-out (v ∷ vs) l i j h =
-    sets-out vs (set l i v) (suc i) j (⊎-elim (λ a. inl (omega arith)) (λ a. inr (omega arith)) h)
-    ∙ getD-set-other l i j v 0 (λ e. ⊎-elim (λ a. absurd (omega arith)) (λ a. absurd (omega arith)) h)
+-- ---- a word that is put
 
-sets-in : (vs l : List ℕ) (i k j : ℕ) → j ≡ i + k → i + length vs ≤ length l → k < length vs → getD (sets l i vs) j 0 ≡ getD vs k 0
-sets-in [] l i k j e h b = absurd (omega arith)
-sets-in (v ∷ vs) l i zero j e h b = sets-out vs (set l i v) (suc i) j (inl (omega arith)) ∙ rw e (rw add-zero (getD-set-same l i v 0 (omega arith)))
-sets-in (v ∷ vs) l i (suc k) j e h b = sets-in vs (set l i v) (suc i) k j (omega arith) (simp length-set (omega arith)) (omega arith)
+module _ (words : ℕ → ℕ → ℕ) (x k word : ℕ) where
+  pub put-there : putAt words x k word x k ≡ word
+  unfolding putAt
+  put-there = rw (eq-eqb x x refl, eq-eqb k k refl) refl
 
-pub same-words : (l m : List ℕ) (x : ℕ) → ((k : ℕ) → k < 7 → entryWord l x k ≡ entryWord m x k) → entryAt l x ≡ entryAt m x
-unfolding entryAt stateAt
-same-words l m x h =
-    rw (h 0 (omega arith), h 1 (omega arith), h 2 (omega arith), h 3 (omega arith), h 4 (omega arith), h 5 (omega arith), h 6 (omega arith))
+  pub put-row : (y j : ℕ) → (x ≡ y → ⊥) → putAt words x k word y j ≡ words y j
+  unfolding putAt
+  put-row y j n = rw (ne-eqb x y n) refl
 
-end-back : (e : BorrowEnd) → borrowEndAt (borrowNumber e) (borrowedRoot e) (borrowedFollows e) ≡ e
-unfolding borrowEndAt borrowNumber borrowedRoot borrowedFollows
-end-back end.None = refl
-end-back (end.Shared p) = refl
-end-back (end.Exclusive p) = refl
+  pub put-word : (y j : ℕ) → (k ≡ j → ⊥) → putAt words x k word y j ≡ words y j
+  unfolding putAt
+  put-word y j n = go (eqb x y)
+    where
+      go : (b : Bool) → pick (b && eqb k j) word (words y j) ≡ words y j
+      go true = rw (ne-eqb k j n) refl
+      go false = refl
 
--- The words of a state.
-abbrev wordsOf : VariableState → List ℕ
-wordsOf v =
-    2 ∷ v .links ∷ v .«moved_from» ∷ borrowNumber (v .«borrow_end») ∷ borrowedRoot (v .«borrow_end») ∷ borrowedFollows (v .«borrow_end») ∷ v .level ∷ []
+-- Equal words before are equal words after.
+pub put-same : (words words′ : ℕ → ℕ → ℕ) (x k word y j : ℕ) → words y j ≡ words′ y j → putAt words x k word y j ≡ putAt words′ x k word y j
+unfolding putAt
+put-same words words′ x k word y j e = ap (λ (w : ℕ). pick (eqb x y && eqb k j) word w) e
 
--- Those that say that nothing is moved away, and the borrow end.
-abbrev wholeOf : ℕ → BorrowEnd → List ℕ
-wholeOf links e = suc (leadingBoxes (chainOf links)) ∷ borrowNumber e ∷ borrowedRoot e ∷ borrowedFollows e ∷ []
+-- The store is where the words are put.
+pub word-put : (l : List ℕ) (x k word : ℕ) → x * 8 + 8 ≤ length l → k < 8 → (y j : ℕ) → j < 8
+    → entryWord (set l (x * 8 + k) word) y j ≡ putAt (entryWord l) x k word y j
+word-put l x k word room b y j h = go (ℕ-discrete x y) (ℕ-discrete k j)
+  where
+    go : Dec (x ≡ y) → Dec (k ≡ j) → entryWord (set l (x * 8 + k) word) y j ≡ putAt (entryWord l) x k word y j
+    go (yes e) (yes q) =
+        rw (← e, ← q) (getD-set-same l (x * 8 + k) word 0 (omega arith) ∙ sym (put-there (entryWord l) x k word))
+    go (yes e) (no q) = getD-set-other l (x * 8 + k) (y * 8 + j) word 0 (λ z. q (omega arith)) ∙ sym (put-word (entryWord l) x k word y j q)
+    go (no e) q = getD-set-other l (x * 8 + k) (y * 8 + j) word 0 (λ z. e (omega arith)) ∙ sym (put-row (entryWord l) x k word y j e)
 
-pub update-same : (Γ : Environment) (x y : ℕ) (s : Slot) → x ≡ y → update Γ x s y ≡ s
-unfolding update
-update-same Γ x y s e = rw (eq-eqb x y e)
+-- ---- a number by its status
 
-pub update-other : (Γ : Environment) (x y : ℕ) (s : Slot) → (x ≡ y → ⊥) → update Γ x s y ≡ Γ y
-unfolding update
-update-other Γ x y s e = rw (ne-eqb x y e)
+module _ (env : List ℕ) (x : ℕ) where
+  pub slot-free : entryWord env x 0 ≡ 0 → environmentOf env x ≡ free
+  unfolding environmentOf slotAs
+  slot-free e = rw e refl
 
--- What the words of x say now is s, and no note has changed.
-abbrev Puts : List ℕ → ℕ → Slot → List ℕ → Type 0
-Puts l x s m = (environmentOf m ≡ update (environmentOf l) x s) × ((y : ℕ) → noteAt m y ≡ noteAt l y)
+  pub slot-used : entryWord env x 0 ≡ 1 → environmentOf env x ≡ used
+  unfolding environmentOf slotAs
+  slot-used e = rw e refl
 
--- A change of the variables in scope only, made in the words whatever the status.
-in-scope : (f : Slot → Slot) → f free ≡ free → f used ≡ used → (status : ℕ) (v w : VariableState) → live (asVariable w) ≡ f (live (asVariable v)) → asSlot (entryAs status w) ≡ f (asSlot (entryAs status v))
-unfolding asSlot entryAs
-in-scope f a b zero v w e = sym a
-in-scope f a b (suc zero) v w e = sym b
-in-scope f a b (suc (suc n)) v w e = rw (ne-eqb (suc (suc n)) 0 (omega arith), ne-eqb (suc (suc n)) 1 (omega arith)) e
+  pub entry-free : entryWord env x 0 ≡ 0 → entryAt env x ≡ entry.Free
+  unfolding entryAt
+  entry-free e = rw e refl
 
-module _ (l : List ℕ) (x : ℕ) (room : x * 8 + 8 ≤ length l) where
-  -- Words are put from word k of x on. The note is not among them.
-  module _ (k : ℕ) (vs : List ℕ) (few : k + length vs ≤ 7) where
-    put-in : (j : ℕ) → j < length vs → entryWord (sets l (x * 8 + k) vs) x (k + j) ≡ getD vs j 0
-    put-in j h = sets-in vs l (x * 8 + k) j (x * 8 + (k + j)) (omega arith) (omega arith) h
+  pub entry-used : entryWord env x 0 ≡ 1 → entryAt env x ≡ entry.Used
+  unfolding entryAt
+  entry-used e = rw e refl
 
-    put-out : (j : ℕ) → (j < k) ⊎ (k + length vs ≤ j) → entryWord (sets l (x * 8 + k) vs) x j ≡ entryWord l x j
-    put-out j h = sets-out vs l (x * 8 + k) (x * 8 + j) (⊎-elim (λ a. inl (omega arith)) (λ a. inr (omega arith)) h)
+  pub entry-live : 2 ≤ entryWord env x 0 → entryAt env x ≡ entry.Live (stateAt env x)
+  unfolding entryAt
+  entry-live h = rw (ne-eqb (entryWord env x 0) 0 (omega arith), ne-eqb (entryWord env x 0) 1 (omega arith)) refl
 
-    put-other : (y j : ℕ) → (x ≡ y → ⊥) → j < 8 → entryWord (sets l (x * 8 + k) vs) y j ≡ entryWord l y j
-    put-other y j n b = sets-out vs l (x * 8 + k) (y * 8 + j) (side (decLt y x))
-      where
-        side : Dec (y < x) → (y * 8 + j < x * 8 + k) ⊎ (x * 8 + k + length vs ≤ y * 8 + j)
-        side (yes h) = inl (omega arith)
-        side (no h) = inr (omega arith)
+  pub not-live : entryWord env x 0 < 2 → (environmentOf env x ≡ free) ⊎ (environmentOf env x ≡ used)
+  not-live h = go (ℕ-discrete (entryWord env x 0) 0)
+    where
+      go : Dec (entryWord env x 0 ≡ 0) → (environmentOf env x ≡ free) ⊎ (environmentOf env x ≡ used)
+      go (yes e) = inl (slot-free e)
+      go (no e) = inr (slot-used (omega arith))
 
-    puts : (s : Slot) → asSlot (entryAt (sets l (x * 8 + k) vs) x) ≡ s → Puts l x s (sets l (x * 8 + k) vs)
-    unfolding environmentOf
-    puts s is = (fun-ext λ y. entry y (ℕ-discrete x y), λ y. note y (ℕ-discrete x y))
-      where
-        entry : (y : ℕ) → Dec (x ≡ y) → asSlot (entryAt (sets l (x * 8 + k) vs) y) ≡ update (λ z. asSlot (entryAt l z)) x s y
-        entry y (yes e) = rw (update-same (λ z. asSlot (entryAt l z)) x y s e, ← e, is)
-        entry y (no e) =
-            rw (update-other (λ z. asSlot (entryAt l z)) x y s e, same-words (sets l (x * 8 + k) vs) l y (λ j b. put-other y j e (omega arith)))
+  pub free-test : eqb (entryWord env x 0) 0 ≡ isFree (environmentOf env x)
+  unfolding isFree
+  free-test = go (ℕ-discrete (entryWord env x 0) 0) (decLt (entryWord env x 0) 2)
+    where
+      go : Dec (entryWord env x 0 ≡ 0) → Dec (entryWord env x 0 < 2) → eqb (entryWord env x 0) 0 ≡ isFree (environmentOf env x)
+      go (yes e) d = eq-eqb (entryWord env x 0) 0 e ∙ ap isFree (sym (slot-free e))
+      go (no e) (yes d) = ne-eqb (entryWord env x 0) 0 e ∙ ap isFree (sym (slot-used (omega arith)))
+      go (no e) (no d) = ne-eqb (entryWord env x 0) 0 e ∙ ap isFree (sym (status-live env x (omega arith)))
 
-        note : (y : ℕ) → Dec (x ≡ y) → noteAt (sets l (x * 8 + k) vs) y ≡ noteAt l y
-        note y (yes e) = rw (← e) (put-out 7 (inr few))
-        note y (no e) = put-other y 7 e (omega arith)
+  pub level-live : 2 ≤ entryWord env x 0 → levelOf (environmentOf env x) ≡ entryWord env x 5
+  unfolding levelOf
+  level-live h = ap levelOf (status-live env x h)
 
-  pub stored : (v : VariableState) → Puts l x (live (asVariable v)) (sets l (x * 8 + 0) (wordsOf v))
-  unfolding entryAt stateAt entryAs asSlot
-  stored v =
-      let word = put-in 0 (wordsOf v) (omega arith) in
-      puts 0 (wordsOf v) (omega arith) (live (asVariable v))
-      (rw (word 0 (omega arith), word 1 (omega arith), word 2 (omega arith), word 3 (omega arith), word 4 (omega arith), word 5 (omega arith), word 6 (omega arith), end-back (v .«borrow_end»)))
+  pub level-not-live : entryWord env x 0 < 2 → levelOf (environmentOf env x) ≡ 0
+  unfolding levelOf
+  level-not-live h = ⊎-elim (λ e. ap levelOf e) (λ e. ap levelOf e) (not-live h)
 
-  pub taken : Puts l x used (set l (x * 8 + 0) 1)
-  unfolding entryAt entryAs asSlot
-  taken = puts 0 (1 ∷ []) (omega arith) used (rw (put-in 0 (1 ∷ []) (omega arith) 0 (omega arith)))
+-- A number that the table does not have is free.
+pub past-status : (env : List ℕ) (n : ℕ) → TableFor env n → (x : ℕ) → n ≤ x → entryWord env x 0 ≡ 0
+past-status env n T x h = T .2 .untaken x (omega (arith, T .2 .most))
 
-  pub moved : (d : ℕ) → Puts l x (movedAwayAt (environmentOf l x) d) (set l (x * 8 + 2) d)
-  unfolding environmentOf entryAt stateAt
-  moved d =
-      let word = put-in 2 (d ∷ []) (omega arith) in
-      let other = put-out 2 (d ∷ []) (omega arith) in
-      puts 2 (d ∷ []) (omega arith) (movedAwayAt (asSlot (entryAt l x)) d)
-      (rw (other 0 (inl (omega arith)), other 1 (inl (omega arith)), word 0 (omega arith), other 3 (inr (omega arith)), other 4 (inr (omega arith)), other 5 (inr (omega arith)), other 6 (inr (omega arith))) (in-scope (λ s. movedAwayAt s d) refl refl (entryWord l x 0) (stateAt l x) _ refl))
+-- ---- words that no rule looks at
 
-  pub filled : (e : BorrowEnd) → Puts l x (refilled (environmentOf l x) (asBorrow e)) (sets l (x * 8 + 2) (wholeOf (entryWord l x 1) e))
-  unfolding environmentOf entryAt stateAt
-  filled e =
-      let vs = wholeOf (entryWord l x 1) e in
-      let word = put-in 2 vs (omega arith) in
-      let other = put-out 2 vs (omega arith) in
-      puts 2 vs (omega arith) (refilled (asSlot (entryAt l x)) (asBorrow e))
-      (rw (other 0 (inl (omega arith)), other 1 (inl (omega arith)), word 0 (omega arith), word 1 (omega arith), word 2 (omega arith), word 3 (omega arith), other 6 (inr (omega arith)), end-back e) (in-scope (λ s. refilled s (asBorrow e)) refl refl (entryWord l x 0) (stateAt l x) _ refl))
+-- The borrow end depends on its links, its roots, and how long the variables are; these stay.
+pub kept-end : (env env′ : List ℕ) → SameLinks env env′ → (ks : List Link) (s : Roots) → endIn env′ ks s ≡ endIn env ks s
+kept-end env env′ L ks s =
+    ap (borrowEnd ks) (same-roots 128 (has s) (has s) (longAt env′) (longAt env) _ (λ y. refl) (λ y h. ap (λ (l : ℕ). length (chainOf l)) (L y)))
 
--- The status.
-pub entry-free : (l : List ℕ) (x : ℕ) → entryWord l x 0 ≡ 0 → entryAt l x ≡ entry.Free
-unfolding entryAt entryAs
-entry-free l x e = rw e
+-- What a number is stands in six of its words, and in the lengths of chains.
+pub same-slot : (env env′ : List ℕ) → SameLinks env env′ → (x y : ℕ)
+    → entryWord env′ y 0 ≡ entryWord env x 0 → linksAt env′ y ≡ linksAt env x → entryWord env′ y 4 ≡ entryWord env x 4
+    → rootsAt env′ y ≡ rootsAt env x → entryWord env′ y 5 ≡ entryWord env x 5 → environmentOf env′ y ≡ environmentOf env x
+unfolding environmentOf
+same-slot env env′ L x y a b c d e =
+    ap₂ slotAs a
+    (ap (λ (l : ℕ). variableOf env′ l (entryWord env′ y 4) (rootsAt env′ y) (entryWord env′ y 5)) b
+    ∙ ap (λ (m : ℕ). variableOf env′ (linksAt env x) m (rootsAt env′ y) (entryWord env′ y 5)) c
+    ∙ ap (λ (s : Roots). variableOf env′ (linksAt env x) (entryWord env x 4) s (entryWord env′ y 5)) d
+    ∙ ap (λ (l : ℕ). variableOf env′ (linksAt env x) (entryWord env x 4) (rootsAt env x) l) e
+    ∙ ap (λ b. record { chain = chainOf (linksAt env x); movedFrom = entryWord env x 4; borrow = b; level = entryWord env x 5 }) (kept-end env env′ L (chainOf (linksAt env x)) (rootsAt env x)))
 
-pub entry-used : (l : List ℕ) (x : ℕ) → entryWord l x 0 ≡ 1 → entryAt l x ≡ entry.Used
-unfolding entryAt entryAs
-entry-used l x e = rw e
+-- The words of a number's entry, all but those of the note.
+abbrev pub SameEntry : List ℕ → List ℕ → ℕ → Type 0
+SameEntry env env′ y = (k : ℕ) → k < 8 → (k ≡ 3 → ⊥) → (k ≡ 7 → ⊥) → entryWord env′ y k ≡ entryWord env y k
 
-pub entry-live : (l : List ℕ) (x : ℕ) → 2 ≤ entryWord l x 0 → entryAt l x ≡ entry.Live (stateAt l x)
-unfolding entryAt entryAs
-entry-live l x h = rw (ne-eqb (entryWord l x 0) 0 (omega arith), ne-eqb (entryWord l x 0) 1 (omega arith))
+pub entry-links : (env env′ : List ℕ) (y : ℕ) → SameEntry env env′ y → linksAt env′ y ≡ linksAt env y
+entry-links env env′ y h = ap (λ (w : ℕ). w % 4294967296) (h 1 (omega arith) (λ e. omega arith) (λ e. omega arith))
 
--- A number out of scope.
-pub not-live : (s : ℕ) (v : VariableState) → s < 2 → (entryAs s v ≡ entry.Free) ⊎ (entryAs s v ≡ entry.Used)
-unfolding entryAs
-not-live zero v h = inl refl
-not-live (suc zero) v h = inr refl
-not-live (suc (suc s)) v h = absurd (omega arith)
+pub entry-roots : (env env′ : List ℕ) (y : ℕ) → SameEntry env env′ y → rootsAt env′ y ≡ rootsAt env y
+entry-roots env env′ y h =
+    ap₂ (λ (l g : ℕ). record { low = l; high = g }) (h 2 (omega arith) (λ e. omega arith) (λ e. omega arith)) (h 6 (omega arith) (λ e. omega arith) (λ e. omega arith))
+
+pub entry-slot : (env env′ : List ℕ) → SameLinks env env′ → (y : ℕ) → SameEntry env env′ y → environmentOf env′ y ≡ environmentOf env y
+entry-slot env env′ L y h =
+    same-slot env env′ L y y (h 0 (omega arith) (λ e. omega arith) (λ e. omega arith)) (L y)
+    (h 4 (omega arith) (λ e. omega arith) (λ e. omega arith)) (entry-roots env env′ y h) (h 5 (omega arith) (λ e. omega arith) (λ e. omega arith))
+
+-- Notes are no part of the environment.
+pub same-environment : (env env′ : List ℕ) → ((y : ℕ) → SameEntry env env′ y) → (environmentOf env′ ≡ environmentOf env) × SameLinks env env′
+same-environment env env′ h =
+    let L : SameLinks env env′ = λ y. entry-links env env′ y (h y) in
+    (fun-ext λ y. entry-slot env env′ L y (h y), L)
+
+-- ---- two tests
+
+pub pick-false : (a : Bool) → pick a false false ≡ false
+pick-false true = refl
+pick-false false = refl
+
+pub pick-true : (a : Bool) → pick a true false ≡ a
+pick-true true = refl
+pick-true false = refl

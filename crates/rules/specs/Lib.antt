@@ -12,7 +12,9 @@ pub mod Neat
 pub mod Met
 pub mod Closure
 pub mod Roots
+pub mod Masks
 pub mod Chains
 pub mod Table
 pub mod Steps
 pub mod Verdicts
+pub mod Kept

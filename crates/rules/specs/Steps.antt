@@ -1,37 +1,46 @@
--- Where a place leads (LANGUAGE 3.13), one variable at a time, as the code goes. No rule of the language is stated here.
-use Prim.Native.Nat.{ℕ, suc, _-_}
-use mathlib.Core.Option.{Option, none, some}
-use lib.Dec.{leb, ltb}
-use Rattle.reader.specs.Result.{pick}
+-- Where a place leads (LANGUAGE 3.13), as the code searches: from variable to variable, each met once. No rule of the language is stated here.
+use Prim.Native.Nat.{ℕ, _≤_, _<_}
+use mathlib.Core.Path.{_≡_}
+use mathlib.Core.Bool.{Bool, true, false}
+use mathlib.Core.List.{List}
 use Rattle.reader.specs.Script.{Place}
-use Rattle.rules.specs.declared.table.BorrowEnd.{BorrowEnd}
-use Rattle.rules.specs.declared.table.BorrowEnd.the-variants as end
-use Rattle.rules.specs.declared.table.VariableState.{VariableState}
-use Rattle.rules.specs.declared.table.Entry.{Entry}
-use Rattle.rules.specs.declared.table.Entry.the-variants as entry
+use Rattle.rules.specs.declared.roots.Roots.{Roots}
+use Rattle.rules.specs.declared.follow.Ends.{Ends}
+use Rattle.rules.specs.declared.follow.Ends.the-variants as ends
 use Rattle.rules.specs.declared.follow.Step.{Step}
 use Rattle.rules.specs.declared.follow.Step.the-variants as step
-use Rattle.rules.specs.declared.follow.Followed.{Followed}
-use Rattle.rules.specs.declared.follow.Followed.the-variants as followed
 use Rattle.rules.specs.Links.{leadingBoxes}
-use Rattle.rules.specs.Chains.{chainOf}
+use Rattle.rules.specs.Places.{every}
+use Rattle.rules.specs.Environment.{Variable, Slot, live, Environment}
+use Rattle.rules.specs.Follow.{ownPath, wholeSlot}
+use Rattle.rules.specs.Roots.{lengths, placesOf, MetFrom, endsOf}
+use Rattle.rules.specs.Masks.{has}
+use Rattle.rules.specs.Table.{rootsAt}
 
-unfoldable pub stepThrough : BorrowEnd → ℕ → Step
-stepThrough end.None r = step.Nowhere
-stepThrough (end.Shared p) r = step.Through p r
-stepThrough (end.Exclusive p) r = step.Through p r
+-- What is asked of each variable met: nothing of it is moved away (LANGUAGE 3.15), or nothing on its own path (3.14).
+unfoldable pub passesSlot : Bool → Slot → ℕ → Bool
+passesSlot true s r = wholeSlot s
+passesSlot false s r = ownPath s r
 
-unfoldable pub stepOf : VariableState → ℕ → Step
-stepOf v r =
-    pick (leb r (leadingBoxes (chainOf (v .links))))
-    (pick (leb r (v .«moved_from»)) step.Here step.Nowhere)
-    (pick (ltb (leadingBoxes (chainOf (v .links))) (v .«moved_from»)) (stepThrough (v .«borrow_end») (r - suc (leadingBoxes (chainOf (v .links))))) step.Nowhere)
+abbrev pub passes : Bool → Environment → Place → Bool
+passes deep Γ q = passesSlot deep (Γ (q .root)) (q .follows)
 
-unfoldable pub stepAt : Entry → ℕ → Step
-stepAt entry.Free r = step.Nowhere
-stepAt entry.Used r = step.Nowhere
-stepAt (entry.Live v) r = stepOf v r
+-- What a step says of a variable in scope, with so many follows from it.
+pub record Passed (deep : Bool) (v : Variable) (follows : ℕ) (r : Step) : Type 0 where
+  pub moved : r ≡ step.MovedAway → passesSlot deep (live v) follows ≡ false
+  pub here : r ≡ step.Here → (passesSlot deep (live v) follows ≡ true) × (follows ≤ leadingBoxes (v .chain))
+  pub through : r ≡ step.Through → (passesSlot deep (live v) follows ≡ true) × (leadingBoxes (v .chain) < follows)
 
-unfoldable pub asFollowed : Followed → Option Place
-asFollowed (followed.At x r) = some (record { root = x; follows = r })
-asFollowed followed.Nowhere = none
+-- The variables met from x on with m links left are those of `met`. The search says that one of them does not pass, or that all pass, and
+-- then in which of them it ends.
+pub record Searched (nv : ℕ) (Γ : Environment) (x m : ℕ) (deep : Bool) (r : Ends) : Type 0 where
+  pub met : ℕ → Bool
+  pub is : MetFrom Γ m x met
+  pub moved : r ≡ ends.MovedAway → every (passes deep Γ) (placesOf nv met (lengths Γ) m) ≡ false
+  pub passed : (s : Roots) → r ≡ ends.At s → every (passes deep Γ) (placesOf nv met (lengths Γ) m) ≡ true
+  pub to : (s : Roots) → r ≡ ends.At s → (y : ℕ) → has s y ≡ endsOf Γ m met y
+
+-- The roots that the variables of a set record, all of them.
+pub record BorrowedAt (env : List ℕ) (s r : Roots) : Type 0 where
+  pub within : (y x : ℕ) → has s y ≡ true → has (rootsAt env y) x ≡ true → has r x ≡ true
+  pub from : (x : ℕ) → has r x ≡ true → (y : ℕ) × (has s y ≡ true) × (has (rootsAt env y) x ≡ true)

@@ -1,120 +1,156 @@
--- The table of the variables, 8 words to each, and what it says in the rules' terms. Seven words are a variable's entry: every seven
--- words say something. The eighth is a note, which must be right. No rule of the language is stated here.
-use Prim.Native.Nat.{ℕ, zero, suc, _+_, _*_, _<_, _≤_}
+-- The table of the variables, 8 words to each, and what it says in the rules' terms. Six of them are a variable's entry: every six words say
+-- something. Two are a note, which must be right. No rule of the language is stated here.
+use Prim.Native.Nat.{ℕ, suc, _+_, _*_, _%_, _<_, _≤_}
 use mathlib.Core.Path.{_≡_}
-use mathlib.Core.Bool.{Bool, true, false}
-use mathlib.Core.List.{List}
+use mathlib.Core.Bool.{Bool, true, false, _&&_}
+use mathlib.Core.List.{List, [], _∷_}
 use lib.Dec.{leb, ltb, eqb}
 use lib.ListN.{length, getD}
 use Rattle.reader.specs.Result.{pick}
 use Rattle.reader.specs.Script as script
 use Rattle.rules.specs.declared.table.Place.{Place}
+use Rattle.rules.specs.declared.roots.Roots.{Roots}
 use Rattle.rules.specs.declared.table.BorrowEnd.{BorrowEnd}
 use Rattle.rules.specs.declared.table.BorrowEnd.the-variants as end
 use Rattle.rules.specs.declared.table.VariableState.{VariableState}
 use Rattle.rules.specs.declared.table.Entry.{Entry}
 use Rattle.rules.specs.declared.table.Entry.the-variants as entry
-use Rattle.rules.specs.Environment.{Borrow, noBorrow, sharedOf, exclusiveOf, Variable, Slot, free, used, live, Environment, levelOf}
-use Rattle.rules.specs.Bars.{borrowsAny, borrowsExclusive, heldBy}
+use Rattle.rules.specs.Links.{Link, boxed, shared, exclusive}
+use Rattle.rules.specs.Environment.{Borrow, places, borrowEnd, Variable, Slot, free, used, live, Environment, levelOf, borrowOf, widened, write}
+use Rattle.rules.specs.Places.{rooted}
+use Rattle.rules.specs.Bars.{borrowsAny, borrowsExclusive}
+use Rattle.rules.specs.Roots.{lengths, placesOf, left}
 use Rattle.rules.specs.Chains.{chainOf}
+use Rattle.rules.specs.Masks.{has}
 
 abbrev pub entryWord : List ℕ → ℕ → ℕ → ℕ
 entryWord env x k = getD env (x * 8 + k) 0
 
-unfoldable pub borrowEndAt : ℕ → ℕ → ℕ → BorrowEnd
-borrowEndAt k r f = pick (eqb k 1) (end.Shared (record { root = r; follows = f })) (pick (eqb k 2) (end.Exclusive (record { root = r; follows = f })) end.None)
+-- The links of x, a number of 32 bits.
+abbrev pub linksAt : List ℕ → ℕ → ℕ
+linksAt env x = entryWord env x 1 % 4294967296
+
+-- How many links x has, or had when it was in scope.
+abbrev pub longAt : List ℕ → ℕ → ℕ
+longAt env x = length (chainOf (linksAt env x))
+
+-- The roots of the places that x records.
+abbrev pub rootsAt : List ℕ → ℕ → Roots
+rootsAt env x = record { low = entryWord env x 2; high = entryWord env x 6 }
+
+-- The note of a root: the variables that may hold a borrow of it.
+abbrev pub holdersAt : List ℕ → ℕ → Roots
+holdersAt env x = record { low = entryWord env x 3; high = entryWord env x 7 }
+
+-- ---- the entries
+
+-- The places with these roots, of something with these links (LANGUAGE 3.3): each has as many links after it as come after the borrow link.
+abbrev pub placesIn : List ℕ → List Link → Roots → List script.Place
+placesIn env ks s = placesOf 128 (has s) (longAt env) (left ks)
+
+-- The borrow end of something with these links.
+abbrev pub endIn : List ℕ → List Link → Roots → Borrow
+endIn env ks s = borrowEnd ks (placesIn env ks s)
+
+abbrev pub variableOf : List ℕ → ℕ → ℕ → Roots → ℕ → Variable
+variableOf env links d s level = record { chain = chainOf links; movedFrom = d; borrow = endIn env (chainOf links) s; level = level }
+
+abbrev pub variableAt : List ℕ → ℕ → Variable
+variableAt env x = variableOf env (linksAt env x) (entryWord env x 4) (rootsAt env x) (entryWord env x 5)
+
+unfoldable pub slotAs : ℕ → Variable → Slot
+slotAs status v = pick (eqb status 0) free (pick (eqb status 1) used (live v))
+
+-- What the table says of each number.
+unfoldable pub environmentOf : List ℕ → Environment
+environmentOf env = λ x. slotAs (entryWord env x 0) (variableAt env x)
+
+-- ---- an entry as the code loads it
+
+-- The kind of the borrow end is that of the first borrow link (LANGUAGE 3.3).
+unfoldable pub borrowEndOf : List Link → Roots → BorrowEnd
+borrowEndOf [] s = end.None
+borrowEndOf (boxed ∷ ks) s = borrowEndOf ks s
+borrowEndOf (shared ∷ ks) s = end.Shared s
+borrowEndOf (exclusive ∷ ks) s = end.Exclusive s
 
 unfoldable pub stateAt : List ℕ → ℕ → VariableState
 stateAt env x =
     record {
-      links = entryWord env x 1;
-      «moved_from» = entryWord env x 2;
-      «borrow_end» = borrowEndAt (entryWord env x 3) (entryWord env x 4) (entryWord env x 5);
-      level = entryWord env x 6;
+      links = linksAt env x;
+      «moved_from» = entryWord env x 4;
+      «borrow_end» = borrowEndOf (chainOf (linksAt env x)) (rootsAt env x);
+      level = entryWord env x 5;
     }
 
-unfoldable pub entryAs : ℕ → VariableState → Entry
-entryAs status v = pick (eqb status 0) entry.Free (pick (eqb status 1) entry.Used (entry.Live v))
-
 unfoldable pub entryAt : List ℕ → ℕ → Entry
-entryAt env x = entryAs (entryWord env x 0) (stateAt env x)
+entryAt env x = pick (eqb (entryWord env x 0) 0) entry.Free (pick (eqb (entryWord env x 0) 1) entry.Used (entry.Live (stateAt env x)))
 
--- The code's values in the rules' terms.
-abbrev pub asPlace : Place → script.Place
-asPlace p = record { root = p .root; follows = p .follows }
+-- ---- the notes
 
-unfoldable pub asBorrow : BorrowEnd → Borrow
-asBorrow end.None = noBorrow
-asBorrow (end.Shared p) = sharedOf (asPlace p)
-asBorrow (end.Exclusive p) = exclusiveOf (asPlace p)
+abbrev pub noteAt : List ℕ → ℕ → ℕ
+noteAt env y = entryWord env y 7
 
-abbrev pub asVariable : VariableState → Variable
-asVariable v = record { chain = chainOf (v .links); movedFrom = v .«moved_from»; borrow = asBorrow (v .«borrow_end»); level = v .level }
+-- The notes are right: who records a root is among those that may hold it. Two rows follow those of the n variables: the note of the first
+-- is no less than any variable's level, that of the second is above any number taken.
+pub record Noted (env : List ℕ) (n : ℕ) : Type 0 where
+  pub held : (y r : ℕ) → y < n → r < n → 2 ≤ entryWord env y 0 → has (rootsAt env y) r ≡ true → has (holdersAt env r) y ≡ true
+  pub levels : (x : ℕ) → levelOf (environmentOf env x) ≤ noteAt env n
+  pub most : noteAt env (suc n) ≤ n
+  pub untaken : (x : ℕ) → noteAt env (suc n) ≤ x → entryWord env x 0 ≡ 0
 
-unfoldable pub asSlot : Entry → Slot
-asSlot entry.Free = free
-asSlot entry.Used = used
-asSlot (entry.Live v) = live (asVariable v)
+-- No set has more than 128 variables (LANGUAGE 2.8).
+abbrev pub TableFor : List ℕ → ℕ → Type 0
+TableFor env n = (length env ≡ n * 8 + 16) × (n ≤ 128) × Noted env n
 
--- What the table says of each number.
-unfoldable pub environmentOf : List ℕ → Environment
-environmentOf env = λ x. asSlot (entryAt env x)
+-- After noting that x may hold a borrow of each root: the entries and the other notes are as before, no holder is lost, and x is one.
+pub record HolderNoted (n : ℕ) (env : List ℕ) (x : ℕ) (s : Roots) (env′ : List ℕ) : Type 0 where
+  pub entries : (y k : ℕ) → k < 8 → (k ≡ 3 → ⊥) → (k ≡ 7 → ⊥) → entryWord env′ y k ≡ entryWord env y k
+  pub notes : (y : ℕ) → n ≤ y → noteAt env′ y ≡ noteAt env y
+  pub kept : (r y : ℕ) → r < n → has (holdersAt env r) y ≡ true → has (holdersAt env′ r) y ≡ true
+  pub new : (r : ℕ) → r < n → has s r ≡ true → has (holdersAt env′ r) x ≡ true
 
--- The words that a borrow end is stored in.
-unfoldable pub borrowNumber : BorrowEnd → ℕ
-borrowNumber end.None = 0
-borrowNumber (end.Shared p) = 1
-borrowNumber (end.Exclusive p) = 2
+-- No place that is recorded has the root x, in the table or in a borrow end.
+abbrev pub Unrecorded : List ℕ → ℕ → Borrow → Type 0
+Unrecorded env x b = ((y : ℕ) → rooted (places (borrowOf (environmentOf env y))) x ≡ false) × (rooted (places b) x ≡ false)
 
-unfoldable pub borrowedRoot : BorrowEnd → ℕ
-borrowedRoot end.None = 0
-borrowedRoot (end.Shared p) = p .root
-borrowedRoot (end.Exclusive p) = p .root
+-- The links of no variable have changed.
+abbrev pub SameLinks : List ℕ → List ℕ → Type 0
+SameLinks env env′ = (y : ℕ) → linksAt env′ y ≡ linksAt env y
 
-unfoldable pub borrowedFollows : BorrowEnd → ℕ
-borrowedFollows end.None = 0
-borrowedFollows (end.Shared p) = p .follows
-borrowedFollows (end.Exclusive p) = p .follows
+-- A value with these roots may have been written to each variable of a set (LANGUAGE 3.25).
+pub record WidenedAll (env : List ℕ) (to s : Roots) (env′ : List ℕ) : Type 0 where
+  pub in-set : (x : ℕ) → has to x ≡ true → environmentOf env′ x ≡ widened (environmentOf env x) (endIn env (chainOf (linksAt env x)) s)
+  pub out-of-set : (x : ℕ) → has to x ≡ false → environmentOf env′ x ≡ environmentOf env x
+  pub links : SameLinks env env′
+
+-- A value with the borrow end b, whose roots are these, has been written to one variable of the set (LANGUAGE 3.25).
+pub record Written (env : List ℕ) (n : ℕ) (to s : Roots) (env′ : List ℕ) : Type 0 where
+  pub is : (b : Borrow) (m : ℕ) → ((x : ℕ) → has to x ≡ true → endIn env (chainOf (linksAt env x)) s ≡ b) → environmentOf env′ ≡ write (environmentOf env) (placesOf n (has to) (lengths (environmentOf env)) m) b
+  pub links : SameLinks env env′
+
+-- ---- words put
+
+-- Word k of row x put, and a set put there whose second word stands 4 words on.
+unfoldable pub putAt : (ℕ → ℕ → ℕ) → ℕ → ℕ → ℕ → ℕ → ℕ → ℕ
+putAt words x k word y j = pick (eqb x y && eqb k j) word (words y j)
+
+abbrev pub putSet : (ℕ → ℕ → ℕ) → ℕ → ℕ → Roots → ℕ → ℕ → ℕ
+putSet words x k s = putAt (putAt words x k (s .low)) x (k + 4) (s .high)
+
+-- The note of row x raised where it is less.
+unfoldable pub raised : (ℕ → ℕ → ℕ) → ℕ → ℕ → ℕ → ℕ → ℕ
+raised words x least = pick (ltb (words x 7) least) (putAt words x 7 least) words
+
+-- In scope, in a block inside that of the level.
+abbrev pub isDeeper : List ℕ → ℕ → ℕ → Bool
+isDeeper env x level = pick (leb 2 (entryWord env x 0)) (ltb level (entryWord env x 5)) false
 
 -- Any borrow, or an exclusive one.
 unfoldable pub borrowsBy : Bool → Borrow → ℕ → Bool
 borrowsBy true = borrowsAny
 borrowsBy false = borrowsExclusive
 
--- In scope, in a block inside that of the level.
-abbrev pub isDeeper : List ℕ → ℕ → ℕ → Bool
-isDeeper env x level = pick (leb 2 (entryWord env x 0)) (ltb level (entryWord env x 6)) false
-
--- The note of a row.
-abbrev pub noteAt : List ℕ → ℕ → ℕ
-noteAt env y = entryWord env y 7
-
--- What a variable adds to the note of a root: 1 for a shared borrow that it holds, 65536 for an exclusive one.
-unfoldable pub weightOf : Slot → ℕ → ℕ
-weightOf s r = pick (heldBy borrowsExclusive s r) 65536 (pick (heldBy borrowsAny s r) 1 0)
-
--- The rows from n on are no roots.
-unfoldable pub weightBelow : ℕ → Slot → ℕ → ℕ
-weightBelow n s r = pick (ltb r n) (weightOf s r) 0
-
--- What the variables below n add.
-unfoldable pub holders : ℕ → Environment → ℕ → ℕ
-holders zero Γ r = 0
-holders (suc n) Γ r = weightOf (Γ n) r + holders n Γ r
-
--- The notes f, with that of row y raised where it is less.
-unfoldable pub raisedAt : ℕ → ℕ → (ℕ → ℕ) → ℕ → ℕ
-raisedAt y least f r = pick (eqb y r) (pick (ltb (f r) least) least (f r)) (f r)
-
--- The notes are right. Two rows follow those of the n variables: the note of the first is no less than any variable's level, that of
--- the second is above any number taken.
-pub record Noted (env : List ℕ) (n : ℕ) : Type 0 where
-  pub held : (r : ℕ) → r < n → noteAt env r ≡ holders n (environmentOf env) r
-  pub levels : (x : ℕ) → levelOf (environmentOf env x) ≤ noteAt env n
-  pub most : noteAt env (suc n) ≤ n
-  pub untaken : (x : ℕ) → noteAt env (suc n) ≤ x → entryAt env x ≡ entry.Free
-
--- No set has more than 128 variables (LANGUAGE 2.8): with so many no sum of follows along a path wraps, and the holders of shared borrows
--- stay below 65536.
-abbrev pub TableFor : List ℕ → ℕ → Type 0
-TableFor env n = (length env ≡ n * 8 + 16) × (n ≤ 128) × Noted env n
+-- The code's places in the rules' terms.
+abbrev pub asPlace : Place → script.Place
+asPlace p = record { root = p .root; follows = p .follows }

@@ -1,12 +1,14 @@
 -- What the rules' functions answer, in the rules' terms: the refusal or the values of each case (LANGUAGE 3.17).
-use Prim.Native.Nat.{ℕ}
+use Prim.Native.Nat.{ℕ, _<_}
 use mathlib.Core.Path.{_≡_}
+use mathlib.Core.Bool.{true}
 use mathlib.Core.Option.{Option, none, some}
 use mathlib.Core.List.{List}
 use lib.ListN.{length, drop}
 use lib.Dec.{leb}
-use Rattle.reader.specs.Result.{ok, err, need, _>>=_}
-use Rattle.reader.specs.Script.{Place}
+use Rattle.reader.specs.Result.{Result, ok, err, need, _>>=_}
+use Rattle.reader.specs.Script as script
+use Rattle.rules.specs.declared.roots.Roots.{Roots}
 use Rattle.rules.specs.declared.rules.Located.{Located}
 use Rattle.rules.specs.declared.rules.Located.the-variants as located
 use Rattle.rules.specs.declared.rules.Requirement.{Requirement}
@@ -16,24 +18,60 @@ use Rattle.rules.specs.declared.verdicts.Value.the-variants as value
 use Rattle.rules.specs.declared.verdicts.Verdict.{Verdict}
 use Rattle.rules.specs.declared.verdicts.Verdict.the-variants as verdict
 use Rattle.rules.specs.Links.{Link, maxLinks}
-use Rattle.rules.specs.Environment.{Borrow, used, Environment, Ty, update, isFree}
+use Rattle.rules.specs.Environment.{Borrow, places, used, live, Environment, Ty, update, isFree}
 use Rattle.rules.specs.Rules as rules
 use Rattle.rules.specs.Rules.{Judged, Out, judgeBox}
 use Rattle.rules.specs.Judge.{isAnswer}
+use Rattle.rules.specs.Choice.{agreeing, either}
+use Rattle.rules.specs.Neat.{SameSet, Neat}
+use Rattle.rules.specs.Roots.{lengths, placesOf}
 use Rattle.rules.specs.Chains.{chainOf}
-use Rattle.rules.specs.Table.{asBorrow}
+use Rattle.rules.specs.Masks.{has}
+use Rattle.rules.specs.Table.{TableFor, environmentOf, longAt, endIn}
 
--- Of a place's root the code keeps the links, and those after its k follows.
-unfoldable pub foundOf : ℕ → Judged rules.Located → Judged (List Link × List Link × Place)
-foundOf k judged = judged >>= λ l. ok (l .root .chain, drop k (l .root .chain), l .to)
+abbrev pub typeOf : List Link → Borrow → Ty
+typeOf ks b = record { links = ks; borrow = b }
 
-unfoldable pub asLocated : Located → Judged (List Link × List Link × Place)
-asLocated (located.At links rest x r) = ok (chainOf links, chainOf rest, record { root = x; follows = r })
-asLocated (located.Refused n at) = err (n, at)
+-- The value, by the table in which its roots are.
+unfoldable pub asValue : List ℕ → Value → Option Ty
+asValue env value.None = none
+asValue env (value.Of t) = some (typeOf (chainOf (t .links)) (endIn env (chainOf (t .links)) (t .roots)))
+
+-- A term's verdict, with the table afterwards.
+unfoldable pub answered : List ℕ → Verdict → Judged Out
+answered env (verdict.Fine v) = ok (environmentOf env, asValue env v)
+answered env (verdict.Refused n at) = err (n, at)
+
+-- The roots of the places that the value borrows, if there are any (LANGUAGE 3.3).
+abbrev pub RootsIn : Value → Roots → Type 0
+RootsIn v r = (env : List ℕ) (nv : ℕ) → (m : ℕ) × (places (rules.borrowIn nv (asValue env v)) ≡ placesOf 128 (has r) (longAt env) m)
+
+-- The table of a neat state, at some level.
+abbrev pub NeatTable : List ℕ → ℕ → Type 0
+NeatTable env n = TableFor env n × ((level : ℕ) × Neat n (environmentOf env) level)
+
+-- ---- places
+
+-- What judging a place gave: the refusal; or the links of the root, those after the follows, and the roots of the own links it may lead to.
+-- `judged` is the rule's answer.
+pub record PlaceFound (nv : ℕ) (Γ : Environment) (p : script.Place) (links rest : ℕ) (s : Roots) (judged : Judged rules.Located) : Type 0 where
+  pub located : rules.Located
+  pub is : judged ≡ ok located
+  pub root : Γ (p .root) ≡ live (located .root)
+  pub chain : located .root .chain ≡ chainOf links
+  pub after : drop (p .follows) (located .root .chain) ≡ chainOf rest
+  pub low : (y : ℕ) → has s y ≡ true → y < nv
+  pub to : SameSet (located .to) (placesOf nv (has s) (lengths Γ) (length (chainOf rest)))
+
+abbrev pub LocatedIs : (nv : ℕ) → Environment → script.Place → Judged rules.Located → Located → Type 0
+LocatedIs nv Γ p judged (located.At links rest s) = PlaceFound nv Γ p links rest s judged
+LocatedIs nv Γ p judged (located.Refused n at) = judged ≡ err (n, at)
 
 unfoldable pub asRequirement : Requirement → Judged (Unit {0})
 asRequirement requirement.Met = ok tt
 asRequirement (requirement.Refused n at) = err (n, at)
+
+-- ---- lets
 
 -- The beginning of a let (LANGUAGE 3.24): the number is free (30), and taken in the environment in which the inner term is judged.
 abbrev pub beginLet : Environment → ℕ → ℕ → Judged Environment
@@ -44,33 +82,27 @@ unfoldable pub begun : Environment → Requirement → Judged Environment
 begun Γ requirement.Met = ok Γ
 begun Γ (requirement.Refused n at) = err (n, at)
 
+-- ---- values
+
 -- The answer is a number (43 at 0; LANGUAGE 3.29).
 abbrev pub judgeAnswer : ℕ → Option Ty → Judged (Unit {0})
 judgeAnswer nv o = need (isAnswer nv o) (43, 0)
 
-abbrev pub typeOf : List Link → Borrow → Ty
-typeOf ks b = record { links = ks; borrow = b }
+-- The verdict of a term that leaves every table as it is.
+abbrev pub Answers : Verdict → (List ℕ → Judged Out) → Type 0
+Answers r judged = (env : List ℕ) → answered env r ≡ judged env
 
-unfoldable pub asValue : Value → Option Ty
-asValue value.None = none
-asValue (value.Of t) = some (typeOf (chainOf (t .links)) (asBorrow (t .«borrow_end»)))
-
--- A term's verdict, with the environment afterwards.
-unfoldable pub answered : Environment → Verdict → Judged Out
-answered Γ (verdict.Fine v) = ok (Γ, asValue v)
-answered Γ (verdict.Refused n at) = err (n, at)
-
--- The verdict of a term that leaves every environment as it is.
-abbrev pub Answers : Verdict → (Environment → Judged Out) → Type 0
-Answers r judged = (Γ : Environment) → answered Γ r ≡ judged Γ
-
-abbrev pub valueOf : Ty → Environment → Judged Out
-valueOf t Γ = ok (Γ, some t)
+abbrev pub valueOf : (List ℕ → Ty) → List ℕ → Judged Out
+valueOf t env = ok (environmentOf env, some (t env))
 
 -- A value of at most 8 links (42; LANGUAGE 3.21 to 3.23).
-abbrev pub atMost8 : ℕ → Ty → Environment → Judged Out
-atMost8 i t Γ = need (leb (length (t .links)) maxLinks) (42, i) >>= λ _. valueOf t Γ
+abbrev pub atMost8 : ℕ → (List ℕ → Ty) → List ℕ → Judged Out
+atMost8 i t env = need (leb (length (t env .links)) maxLinks) (42, i) >>= λ _. valueOf t env
 
 -- The verdict of a box (LANGUAGE 3.23).
 abbrev pub Boxes : ℕ → Value → Verdict → Type 0
-Boxes i inner r = (nv : ℕ) → Answers r (λ Γ. judgeBox nv Γ i (asValue inner))
+Boxes i inner r = (nv : ℕ) → Answers r (λ env. judgeBox nv (environmentOf env) i (asValue env inner))
+
+-- The value of a choice (LANGUAGE 3.31): the values of its blocks agree (39), and it has the places of both.
+abbrev pub Joins : ℕ → Value → Value → Verdict → Type 0
+Joins i first second r = Answers r (λ env. need (agreeing (asValue env first) (asValue env second)) (39, i) >>= λ _. ok (environmentOf env, either (asValue env first) (asValue env second)))

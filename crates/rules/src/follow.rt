@@ -1,140 +1,124 @@
-// Where a place leads (LANGUAGE 3.13): to one of a variable's own links, through its boxes, and beyond its borrow link
-// through the borrowed place. Own link k stands for own position k (3.9).
+// Where a place leads (LANGUAGE 3.13): to own links of variables, through boxes, and beyond borrow links through the
+// borrowed places. With so many links left after it, a place is told by its root, so that what is met is a set of roots.
 ghost use mathlib.Core.Path.{_≡_};
-ghost use mathlib.Core.Option.{some};
-ghost use Prim.Native.Nat.{_≤_, _+_};
+ghost use mathlib.Core.Bool.{true};
+ghost use Prim.Native.Nat.{ℕ, _≤_, _<_, _+_, _*_, _-_};
 ghost use lib.ListN.{length};
+ghost use Rattle.rules.specs.Environment.{live};
 ghost use Rattle.rules.specs.Chains.{chainOf};
-ghost use Rattle.rules.specs.Follow.{follow, wholeAt, wholeTo};
-ghost use Rattle.rules.specs.Table.{TableFor, entryAt, environmentOf};
-ghost use Rattle.rules.specs.Steps.{stepOf, stepAt, asFollowed};
+ghost use Rattle.rules.specs.Table.{linksAt, environmentOf, variableAt};
+ghost use Rattle.rules.specs.Follow.{valueWhole};
+ghost use Rattle.rules.specs.Masks.{has};
+ghost use Rattle.rules.specs.Steps.{Passed, Searched, BorrowedAt};
+ghost use Rattle.rules.specs.Verdicts.{NeatTable};
 use crate::chains::chain_length;
 use crate::chains::leading_boxes;
-use crate::table::BorrowEnd;
-use crate::table::Entry;
-use crate::table::Place;
-use crate::table::VariableState;
-use crate::table::load;
-use reader::fields::index_of;
+use crate::roots::Roots;
+use crate::roots::is_empty;
+use crate::roots::less;
+use crate::roots::lowest;
+use crate::roots::no_roots;
+use crate::roots::only;
+use crate::roots::unite;
+use crate::roots::without;
+use crate::table::MOVED_FROM;
+use crate::table::links_at;
+use crate::table::roots_at;
+use crate::table::word_at;
 
-// One variable of the path: the follows end at its own link, there is nothing to follow, or they go on from the
-// borrowed place, with so many follows after that place's own.
+// The variables to whose own links a place may lead, or something on the way is moved away (33).
+pub enum Ends {
+    At(Roots),
+    MovedAway,
+}
+
+// One variable on the way: it does not pass (33), following ends at its own link, or goes on from the places it records.
 pub enum Step {
     Here,
-    Nowhere,
-    Through(Place, usize),
+    Through,
+    MovedAway,
 }
 
-// Where a place leads (LANGUAGE 3.13): a variable and one of its own links.
-pub enum Followed {
-    At(usize, usize),
-    Nowhere,
-}
-
-// A variable in scope on the path (LANGUAGE 3.13): no mark before its own link, or none at all to go beyond (3.14).
-fn step_of(state: VariableState, follows: usize) -> Step
-    ensures { λ r. ⌜ r ≡ stepOf state follows ⌝ }
+// The variable x on the way, with so many links left after the place (LANGUAGE 3.13, 3.14); all of it must be whole if
+// the end of the value is looked for (3.15).
+fn step_at(env: &[u64], x: usize, remaining: usize, deep: bool) -> Step
+    requires { ⌜ (x * 8 + 8 ≤ length (now env)) × (remaining ≤ length (chainOf (linksAt (now env) x))) ⌝ }
+    ensures { λ r. ⌜ Passed deep (variableAt (now (env .entry)) x) (length (chainOf (linksAt (now (env .entry)) x)) - remaining) r ⌝ }
 {
-    let boxes = leading_boxes(state.links);
-    let moved_from = index_of(state.moved_from);
+    let links = links_at(env, x);
+    let boxes = leading_boxes(links) as u64;
+    let moved_from = word_at(env, x, MOVED_FROM);
+    if moved_from <= boxes {
+        if deep {
+            return Step::MovedAway;
+        }
+    }
+    let follows = (chain_length(links) - remaining) as u64;
     if follows <= boxes {
         if follows <= moved_from {
             return Step::Here;
         }
-        return Step::Nowhere;
+        return Step::MovedAway;
     }
     if moved_from <= boxes {
-        return Step::Nowhere;
+        return Step::MovedAway;
     }
-    let end = state.borrow_end;
-    match end {
-        BorrowEnd::None => Step::Nowhere,
-        BorrowEnd::Shared(place) => Step::Through(place, follows - boxes - 1),
-        BorrowEnd::Exclusive(place) => Step::Through(place, follows - boxes - 1),
-    }
+    Step::Through
 }
 
-// One variable of the path (LANGUAGE 3.13); from one that is not in scope there is nothing to follow.
-fn step_at(env: &[u32], variables: usize, x: usize, follows: usize) -> Step
-    requires { ⌜ TableFor (now env) variables ⌝ }
-    ensures { λ r. ⌜ r ≡ stepAt (entryAt (now (env .entry)) x) follows ⌝ }
+// All that is met from the variable root on, which is in scope, with so many links left: each variable once, until one
+// does not pass.
+pub fn search(env: &[u64], variables: usize, root: usize, remaining: usize, deep: bool) -> Ends
+    requires { ⌜ NeatTable (now env) variables × (environmentOf (now env) root ≡ live (variableAt (now env) root)) × (remaining ≤ length (chainOf (linksAt (now env) root))) ⌝ }
+    ensures { λ r. ⌜ Searched variables (environmentOf (now (env .entry))) root remaining deep r ⌝ }
 {
-    let entry = load(env, variables, x);
-    match entry {
-        Entry::Free => Step::Nowhere,
-        Entry::Used => Step::Nowhere,
-        Entry::Live(state) => step_of(state, follows),
-    }
-}
-
-// Where the follows lead from variable root (LANGUAGE 3.13). No path passes more variables than there are (7.5).
-pub fn follow_place(env: &[u32], variables: usize, root: usize, follows: usize) -> Followed
-    requires { ⌜ TableFor (now env) variables × (follows ≤ 4294967296) ⌝ }
-    ensures { λ r. ⌜ asFollowed r ≡ follow variables (environmentOf (now (env .entry))) root follows ⌝ }
-{
-    let mut x = root;
-    let mut more = follows;
-    let mut left = variables;
-    while 0 < left {
-        let step = step_at(env, variables, x, more);
+    let mut met = only(root);
+    let mut todo = met;
+    let mut ends = no_roots();
+    while !is_empty(todo) {
+        let x = lowest(todo);
+        todo = without(todo, x);
+        let step = step_at(env, x, remaining, deep);
         match step {
+            Step::MovedAway => {
+                return Ends::MovedAway;
+            }
             Step::Here => {
-                return Followed::At(x, more);
+                ends = unite(ends, only(x));
             }
-            Step::Nowhere => {
-                return Followed::Nowhere;
-            }
-            Step::Through(place, beyond) => {
-                x = index_of(place.root);
-                more = index_of(place.follows) + beyond;
+            Step::Through => {
+                let more = less(roots_at(env, x), met);
+                met = unite(met, more);
+                todo = unite(todo, more);
             }
         }
-        left -= 1;
     }
-    Followed::Nowhere
+    Ends::At(ends)
 }
 
-// Whole (LANGUAGE 3.15): nothing of the value of x is moved away, to the end of its links.
-pub fn value_whole(env: &[u32], variables: usize, x: usize, links: u32) -> bool
-    requires { ⌜ TableFor (now env) variables ⌝ }
-    ensures { λ r. ⌜ r ≡ wholeTo variables (environmentOf (now (env .entry))) x (chainOf links) ⌝ }
+// Whole (LANGUAGE 3.15): nothing of the value of x, which is in scope, is moved away, to the end of its links.
+pub fn value_whole(env: &[u64], variables: usize, x: usize) -> bool
+    requires { ⌜ NeatTable (now env) variables × (environmentOf (now env) x ≡ live (variableAt (now env) x)) ⌝ }
+    ensures { λ r. ⌜ r ≡ valueWhole variables (environmentOf (now (env .entry))) x (variableAt (now (env .entry)) x) ⌝ }
 {
-    let length = chain_length(links);
-    let followed = follow_place(env, variables, x, length);
-    let Followed::At(y, link) = followed else {
-        return false;
-    };
-    link_whole(env, variables, y, link)
-}
-
-// The own link of y is not moved away (LANGUAGE 3.9, 3.15).
-fn link_whole(env: &[u32], variables: usize, y: usize, link: usize) -> bool
-    requires { ⌜ TableFor (now env) variables ⌝ }
-    ensures { λ r. ⌜ r ≡ wholeAt (environmentOf (now (env .entry)) y) link ⌝ }
-{
-    let entry = load(env, variables, y);
-    let Entry::Live(end) = entry else {
-        return false;
-    };
-    link < index_of(end.moved_from)
-}
-
-// Whole (LANGUAGE 3.15), as `value_whole` of the place's root, where the place is known to lead to that link of y, and
-// `rest` are the links after its follows. Most places name the end of the chain: there is nothing more to follow.
-pub fn whole_at(
-    env: &[u32],
-    variables: usize,
-    place: Place,
-    links: u32,
-    rest: u32,
-    y: usize,
-    link: usize,
-) -> bool
-    requires { ⌜ TableFor (now env) variables × (follow variables (environmentOf (now env)) (place .root) (place .follows) ≡ some (record { root = y; follows = link })) × (length (chainOf links) ≡ place .follows + length (chainOf rest)) ⌝ }
-    ensures { λ r. ⌜ r ≡ wholeTo variables (environmentOf (now (env .entry))) (place .root) (chainOf links) ⌝ }
-{
-    if rest == 0 {
-        return link_whole(env, variables, y, link);
+    let ends = search(env, variables, x, 0, true);
+    match ends {
+        Ends::At(_) => true,
+        Ends::MovedAway => false,
     }
-    value_whole(env, variables, index_of(place.root), links)
+}
+
+// The roots that any of these variables records (LANGUAGE 3.19).
+pub fn borrows_at(env: &[u64], variables: usize, to: Roots) -> Roots
+    requires { ⌜ (variables * 8 ≤ length (now env)) × ((y : ℕ) → has to y ≡ true → y < variables) ⌝ }
+    ensures { λ r. ⌜ BorrowedAt (now (env .entry)) to r ⌝ }
+{
+    let mut roots = no_roots();
+    let mut left = to;
+    while !is_empty(left) {
+        let x = lowest(left);
+        roots = unite(roots, roots_at(env, x));
+        left = without(left, x);
+    }
+    roots
 }

@@ -1,52 +1,55 @@
 // The ownership rules (LANGUAGE 3.16 to 3.29), one function each: its answer is the rule's definition, and the table
 // afterwards is that definition's environment. A rule about a term with an inner term is given the inner term's value.
 ghost use mathlib.Core.Path.{_≡_};
+ghost use mathlib.Core.List.{List};
 ghost use Prim.Native.Nat.{ℕ, _<_};
-ghost use Rattle.rules.specs.Rules.{judgePlace, judgeReadable, judgeCopy, judgeMove, judgeShared, judgeExclusive, judgeLet, judgeAssign, judgeNumber, judgeBelow, judgeBlockEnd};
+ghost use Rattle.rules.specs.Environment.{used};
+ghost use Rattle.rules.specs.Rules.{judgePlace, judgeReadable, judgeCopy, judgeMove, judgeShared, judgeExclusive, judgeLet, judgeNumber, judgeBelow, judgeBlockEnd};
+ghost use Rattle.rules.specs.Neat.{NeatValue};
 ghost use Rattle.rules.specs.Table.{TableFor, environmentOf, asPlace};
-ghost use Rattle.rules.specs.Verdicts.{asLocated, foundOf, asRequirement, begun, beginLet, asValue, answered, Boxes, judgeAnswer};
+ghost use Rattle.rules.specs.Verdicts.{NeatTable, LocatedIs, RootsIn, asRequirement, begun, beginLet, asValue, answered, Boxes, judgeAnswer};
 use crate::bars::read_barred;
 use crate::bars::write_barred;
 use crate::chains::BOX;
 use crate::chains::EXCLUSIVE;
 use crate::chains::Rest;
 use crate::chains::SHARED;
+use crate::chains::chain_length;
 use crate::chains::is_copied;
 use crate::chains::is_number;
 use crate::chains::leading_boxes;
 use crate::chains::links_from;
 use crate::chains::no_shared;
-use crate::environment::borrow_end_at;
-use crate::environment::fresh_state;
 use crate::environment::is_free;
 use crate::environment::leave_blocks;
-use crate::environment::level_at;
 use crate::environment::lives_at;
-use crate::follow::Followed;
-use crate::follow::follow_place;
+use crate::environment::recorded_roots;
+use crate::follow::Ends;
+use crate::follow::borrows_at;
+use crate::follow::search;
 use crate::follow::value_whole;
-use crate::follow::whole_at;
 use crate::notes::move_away;
-use crate::notes::refill;
 use crate::notes::store;
 use crate::notes::take_number;
 use crate::refusals;
-use crate::table::BorrowEnd;
+use crate::roots::Roots;
+use crate::roots::no_roots;
+use crate::roots::only;
 use crate::table::Entry;
 use crate::table::Place;
 use crate::table::load;
+use crate::table::roots_at;
 use crate::verdicts::Value;
 use crate::verdicts::Verdict;
-use crate::verdicts::borrow_in;
 use crate::verdicts::longer_value;
 use crate::verdicts::number_value;
 use crate::verdicts::value_of;
 use reader::fields::index_of;
 
-// The links of the place's root, those of them after the follows, and the variable and its own link that the place
-// leads to (LANGUAGE 3.13); or the refusal.
+// The links of the place's root, those of them after the follows, and the variables to whose own links the place may
+// lead (LANGUAGE 3.13); or the refusal.
 pub enum Located {
-    At(u32, u32, usize, usize),
+    At(u32, u32, Roots),
     Refused(u32, usize),
 }
 
@@ -55,10 +58,11 @@ pub enum Requirement {
     Refused(u32, usize),
 }
 
-// Judging a place (LANGUAGE 3.16): the root is in scope (31), the chain long enough (32), the path not moved away (33).
-pub fn judge_place(env: &[u32], variables: usize, term: usize, place: Place) -> Located
-    requires { ⌜ TableFor (now env) variables ⌝ }
-    ensures { λ r. ⌜ asLocated r ≡ foundOf (place .follows) (judgePlace variables (environmentOf (now (env .entry))) term (asPlace place)) ⌝ }
+// Judging a place (LANGUAGE 3.16): the root is in scope (31), the chain long enough (32), and of each place met while
+// following it the own path is not moved away (33).
+pub fn judge_place(env: &[u64], variables: usize, term: usize, place: Place) -> Located
+    requires { ⌜ NeatTable (now env) variables ⌝ }
+    ensures { λ r. ⌜ LocatedIs variables (environmentOf (now (env .entry))) (asPlace place) (judgePlace variables (environmentOf (now (env .entry))) term (asPlace place)) r ⌝ }
 {
     let root = index_of(place.root);
     let follows = index_of(place.follows);
@@ -70,58 +74,59 @@ pub fn judge_place(env: &[u32], variables: usize, term: usize, place: Place) -> 
     let Rest::Links(rest) = after else {
         return Located::Refused(refusals::CHAIN_TOO_SHORT, term);
     };
-    let followed = follow_place(env, variables, root, follows);
-    let Followed::At(variable, link) = followed else {
+    let ends = search(env, variables, root, chain_length(rest), false);
+    let Ends::At(to) = ends else {
         return Located::Refused(refusals::MOVED_AWAY, term);
     };
-    Located::At(state.links, rest, variable, link)
+    Located::At(state.links, rest, to)
 }
 
-// The place of a copy, a shared borrow, a below and a sum (LANGUAGE 3.19, 3.21, 3.27): judged, its value whole (33), reading
-// not barred (34).
-pub fn judge_readable(env: &[u32], variables: usize, term: usize, place: Place) -> Located
-    requires { ⌜ TableFor (now env) variables ⌝ }
-    ensures { λ r. ⌜ asLocated r ≡ foundOf (place .follows) (judgeReadable variables (environmentOf (now (env .entry))) term (asPlace place)) ⌝ }
+// The place of a copy, a shared borrow, a below, a sum and a choice (LANGUAGE 3.19, 3.21, 3.27, 3.31): judged, its value
+// whole (33), reading not barred (34).
+pub fn judge_readable(env: &[u64], variables: usize, term: usize, place: Place) -> Located
+    requires { ⌜ NeatTable (now env) variables ⌝ }
+    ensures { λ r. ⌜ LocatedIs variables (environmentOf (now (env .entry))) (asPlace place) (judgeReadable variables (environmentOf (now (env .entry))) term (asPlace place)) r ⌝ }
 {
     let located = judge_place(env, variables, term, place);
-    let Located::At(links, rest, variable, link) = located else {
+    let Located::At(_, _, _) = located else {
         return located;
     };
-    if !whole_at(env, variables, place, links, rest, variable, link) {
+    let root = index_of(place.root);
+    if !value_whole(env, variables, root) {
         return Located::Refused(refusals::MOVED_AWAY, term);
     }
-    if read_barred(env, variables, place.root) {
+    if read_barred(env, variables, root) {
         return Located::Refused(refusals::READING_BARRED, term);
     }
     located
 }
 
-// Copy (LANGUAGE 3.19): the place is readable, then a number or a shared link (37).
-pub fn judge_copy(env: &[u32], variables: usize, term: usize, place: Place) -> Verdict
-    requires { ⌜ TableFor (now env) variables ⌝ }
-    ensures { λ r. ⌜ answered (environmentOf (now (env .entry))) r ≡ judgeCopy variables (environmentOf (now (env .entry))) term (asPlace place) ⌝ }
+// Copy (LANGUAGE 3.19): the place is readable, then a number or a shared link (37). The copy borrows what is borrowed
+// where the place may lead.
+pub fn judge_copy(env: &[u64], variables: usize, term: usize, place: Place) -> Verdict
+    requires { ⌜ NeatTable (now env) variables ⌝ }
+    ensures { λ r. ⌜ answered (now (env .entry)) r ≡ judgeCopy variables (environmentOf (now (env .entry))) term (asPlace place) ⌝ }
 {
     let located = judge_readable(env, variables, term, place);
     match located {
         Located::Refused(number, at) => Verdict::Refused(number, at),
-        Located::At(_, rest, variable, _) => {
+        Located::At(_, rest, to) => {
             if !is_copied(rest) {
                 return Verdict::Refused(refusals::NOT_COPIED, term);
             }
             if is_number(rest) {
-                return value_of(rest, BorrowEnd::None);
+                return number_value();
             }
-            let end = borrow_end_at(env, variables, variable);
-            value_of(rest, end)
+            value_of(rest, borrows_at(env, variables, to))
         }
     }
 }
 
 // Move (LANGUAGE 3.20): 31 and 32 of the place, no borrow link passed (38), the value whole (33), writing not barred
 // (35). Then the links from the place on are moved away.
-pub fn judge_move(env: &mut [u32], variables: usize, term: usize, place: Place) -> Verdict
-    requires { ⌜ TableFor (now env) variables ⌝ }
-    ensures { λ r. ⌜ (answered (environmentOf (now (env .exit))) r ≡ judgeMove variables (environmentOf (now (env .entry))) term (asPlace place)) × TableFor (now (env .exit)) variables ⌝ }
+pub fn judge_move(env: &mut [u64], variables: usize, term: usize, place: Place) -> Verdict
+    requires { ⌜ NeatTable (now env) variables ⌝ }
+    ensures { λ r. ⌜ (answered (now (env .exit)) r ≡ judgeMove variables (environmentOf (now (env .entry))) term (asPlace place)) × TableFor (now (env .exit)) variables ⌝ }
 {
     let root = index_of(place.root);
     let follows = index_of(place.follows);
@@ -136,66 +141,67 @@ pub fn judge_move(env: &mut [u32], variables: usize, term: usize, place: Place) 
     if leading_boxes(state.links) < follows {
         return Verdict::Refused(refusals::BORROW_PASSED, term);
     }
-    if !value_whole(env, variables, root, state.links) {
+    if !value_whole(env, variables, root) {
         return Verdict::Refused(refusals::MOVED_AWAY, term);
     }
-    if write_barred(env, variables, place.root) {
+    if write_barred(env, variables, root) {
         return Verdict::Refused(refusals::WRITING_BARRED, term);
     }
-    move_away(env, variables, root, place.follows);
-    let end = state.borrow_end;
-    value_of(rest, end)
+    let roots = roots_at(env, root);
+    move_away(env, variables, root, place.follows as u64);
+    value_of(rest, roots)
 }
 
-// Shared borrow (LANGUAGE 3.21): the place is readable, then one link more makes at most 8 (42).
-pub fn judge_shared(env: &[u32], variables: usize, term: usize, place: Place) -> Verdict
-    requires { ⌜ TableFor (now env) variables ⌝ }
-    ensures { λ r. ⌜ answered (environmentOf (now (env .entry))) r ≡ judgeShared variables (environmentOf (now (env .entry))) term (asPlace place) ⌝ }
+// Shared borrow (LANGUAGE 3.21): the place is readable, then a shared link more makes at most 8 (42).
+pub fn judge_shared(env: &[u64], variables: usize, term: usize, place: Place) -> Verdict
+    requires { ⌜ NeatTable (now env) variables ⌝ }
+    ensures { λ r. ⌜ answered (now (env .entry)) r ≡ judgeShared variables (environmentOf (now (env .entry))) term (asPlace place) ⌝ }
 {
     let located = judge_readable(env, variables, term, place);
     match located {
         Located::Refused(number, at) => Verdict::Refused(number, at),
-        Located::At(_, rest, _, _) => longer_value(term, SHARED, rest, BorrowEnd::Shared(place)),
+        Located::At(_, rest, _) => longer_value(term, SHARED, rest, only(index_of(place.root))),
     }
 }
 
 // Exclusive borrow (LANGUAGE 3.22): the place, its value whole (33), no shared link passed (36), writing not barred
-// (35), one link more makes at most 8 (42).
-pub fn judge_exclusive(env: &[u32], variables: usize, term: usize, place: Place) -> Verdict
-    requires { ⌜ TableFor (now env) variables ⌝ }
-    ensures { λ r. ⌜ answered (environmentOf (now (env .entry))) r ≡ judgeExclusive variables (environmentOf (now (env .entry))) term (asPlace place) ⌝ }
+// (35), at most 8 links (42).
+pub fn judge_exclusive(env: &[u64], variables: usize, term: usize, place: Place) -> Verdict
+    requires { ⌜ NeatTable (now env) variables ⌝ }
+    ensures { λ r. ⌜ answered (now (env .entry)) r ≡ judgeExclusive variables (environmentOf (now (env .entry))) term (asPlace place) ⌝ }
 {
+    let root = index_of(place.root);
     let located = judge_place(env, variables, term, place);
     match located {
         Located::Refused(number, at) => Verdict::Refused(number, at),
-        Located::At(links, rest, variable, link) => {
-            if !whole_at(env, variables, place, links, rest, variable, link) {
+        Located::At(links, rest, _) => {
+            if !value_whole(env, variables, root) {
                 return Verdict::Refused(refusals::MOVED_AWAY, term);
             }
             if !no_shared(links, index_of(place.follows)) {
                 return Verdict::Refused(refusals::SHARED_PASSED, term);
             }
-            if write_barred(env, variables, place.root) {
+            if write_barred(env, variables, root) {
                 return Verdict::Refused(refusals::WRITING_BARRED, term);
             }
-            longer_value(term, EXCLUSIVE, rest, BorrowEnd::Exclusive(place))
+            longer_value(term, EXCLUSIVE, rest, only(root))
         }
     }
 }
 
-// Box (LANGUAGE 3.23), after the inner term: it has a value (41), and one link more makes at most 8 (42).
+// Box (LANGUAGE 3.23), after the inner term: it has a value (41), and a box link more makes at most 8 (42).
 pub fn judge_box(term: usize, inner: Value) -> Verdict
     ensures { λ r. ⌜ Boxes term inner r ⌝ }
 {
     let Value::Of(of) = inner else {
         return Verdict::Refused(refusals::NO_VALUE, term);
     };
-    let end = of.borrow_end;
-    longer_value(term, BOX, of.links, end)
+    let roots = of.roots;
+    longer_value(term, BOX, of.links, roots)
 }
 
 // The beginning of a let (LANGUAGE 3.24): its number is free (30), and taken from here on, not yet in scope.
-pub fn begin_let(env: &mut [u32], variables: usize, term: usize, x: usize) -> Requirement
+pub fn begin_let(env: &mut [u64], variables: usize, term: usize, x: usize) -> Requirement
     requires { ⌜ TableFor (now env) variables × (x < variables) ⌝ }
     ensures { λ r. ⌜ (begun (environmentOf (now (env .exit))) r ≡ beginLet (environmentOf (now (env .entry))) term x) × TableFor (now (env .exit)) variables ⌝ }
 {
@@ -208,74 +214,40 @@ pub fn begin_let(env: &mut [u32], variables: usize, term: usize, x: usize) -> Re
 
 // Let (LANGUAGE 3.24), after the inner term: it has a value (41), and x, which `begin_let` took, is in scope.
 pub fn judge_let(
-    env: &mut [u32],
+    env: &mut [u64],
     variables: usize,
-    level: u32,
+    level: u64,
     term: usize,
     x: usize,
     inner: Value,
 ) -> Verdict
-    requires { ⌜ TableFor (now env) variables × (x < variables) ⌝ }
-    ensures { λ r. ⌜ (answered (environmentOf (now (env .exit))) r ≡ judgeLet variables level (environmentOf (now (env .entry))) term x (asValue inner)) × TableFor (now (env .exit)) variables ⌝ }
+    requires { ⌜ NeatTable (now env) variables × (x < variables) × (environmentOf (now env) x ≡ used) × NeatValue (environmentOf (now env)) level (asValue (now env) inner) ⌝ }
+    ensures { λ r. ⌜ (answered (now (env .exit)) r ≡ judgeLet variables level (environmentOf (now (env .entry))) term x (asValue (now (env .entry)) inner)) × TableFor (now (env .exit)) variables ⌝ }
 {
     let Value::Of(of) = inner else {
         return Verdict::Refused(refusals::NO_VALUE, term);
     };
-    let end = of.borrow_end;
-    let state = fresh_state(of.links, end, level);
-    store(env, variables, x, state);
+    let roots = of.roots;
+    store(
+        env,
+        variables,
+        x,
+        of.links,
+        recorded_roots(of.links, roots),
+        level,
+    );
     Verdict::Fine(Value::None)
 }
 
-// Assign (LANGUAGE 3.25), after the right side: it has a value (41), the path of the place (31, 32, 33), no shared link
-// passed (36), the same links (39), the borrowed root lives long enough for the variable finally written (40). With the
-// new value in place, writing the named root is not barred (35).
-pub fn judge_assign(
-    env: &mut [u32],
-    variables: usize,
-    term: usize,
-    place: Place,
-    inner: Value,
-) -> Verdict
-    requires { ⌜ TableFor (now env) variables ⌝ }
-    ensures { λ r. ⌜ (answered (environmentOf (now (env .exit))) r ≡ judgeAssign variables (environmentOf (now (env .entry))) term (asPlace place) (asValue inner)) × TableFor (now (env .exit)) variables ⌝ }
-{
-    let Value::Of(of) = inner else {
-        return Verdict::Refused(refusals::NO_VALUE, term);
-    };
-    let located = judge_place(env, variables, term, place);
-    match located {
-        Located::Refused(number, at) => Verdict::Refused(number, at),
-        Located::At(links, rest, written, _) => {
-            if !no_shared(links, index_of(place.follows)) {
-                return Verdict::Refused(refusals::SHARED_PASSED, term);
-            }
-            if rest != of.links {
-                return Verdict::Refused(refusals::OTHER_LINKS, term);
-            }
-            let end = of.borrow_end;
-            let level = level_at(env, variables, written);
-            if !lives_at(env, variables, end, level) {
-                return Verdict::Refused(refusals::LIVES_TOO_SHORT, term);
-            }
-            refill(env, variables, written, end);
-            if write_barred(env, variables, place.root) {
-                return Verdict::Refused(refusals::WRITING_BARRED, term);
-            }
-            Verdict::Fine(Value::None)
-        }
-    }
-}
-
-// A place of a below or a sum (LANGUAGE 3.27): readable, then a number (39).
-pub fn judge_number(env: &[u32], variables: usize, term: usize, place: Place) -> Requirement
-    requires { ⌜ TableFor (now env) variables ⌝ }
+// A place of a below, a sum or a choice (LANGUAGE 3.27, 3.31): readable, then a number (39).
+pub fn judge_number(env: &[u64], variables: usize, term: usize, place: Place) -> Requirement
+    requires { ⌜ NeatTable (now env) variables ⌝ }
     ensures { λ r. ⌜ asRequirement r ≡ judgeNumber variables (environmentOf (now (env .entry))) term (asPlace place) ⌝ }
 {
     let located = judge_readable(env, variables, term, place);
     match located {
         Located::Refused(number, at) => Requirement::Refused(number, at),
-        Located::At(_, rest, _, _) => {
+        Located::At(_, rest, _) => {
             if is_number(rest) {
                 Requirement::Met
             } else {
@@ -287,14 +259,14 @@ pub fn judge_number(env: &[u32], variables: usize, term: usize, place: Place) ->
 
 // Below and sum (LANGUAGE 3.27): the first place, then the second.
 pub fn judge_below(
-    env: &[u32],
+    env: &[u64],
     variables: usize,
     term: usize,
     first: Place,
     second: Place,
 ) -> Verdict
-    requires { ⌜ TableFor (now env) variables ⌝ }
-    ensures { λ r. ⌜ answered (environmentOf (now (env .entry))) r ≡ judgeBelow variables (environmentOf (now (env .entry))) term (asPlace first) (asPlace second) ⌝ }
+    requires { ⌜ NeatTable (now env) variables ⌝ }
+    ensures { λ r. ⌜ answered (now (env .entry)) r ≡ judgeBelow variables (environmentOf (now (env .entry))) term (asPlace first) (asPlace second) ⌝ }
 {
     let left = judge_number(env, variables, term, first);
     if let Requirement::Refused(number, at) = left {
@@ -307,19 +279,32 @@ pub fn judge_below(
     number_value()
 }
 
+// The roots that the value records (LANGUAGE 3.3), if there is a value.
+pub fn roots_in(value: Value) -> Roots
+    ensures { λ r. ⌜ RootsIn value r ⌝ }
+{
+    match value {
+        Value::None => no_roots(),
+        Value::Of(of) => {
+            let roots = of.roots;
+            recorded_roots(of.links, roots)
+        }
+    }
+}
+
 // The end of a block (LANGUAGE 3.28): its value borrows no root that lives in it (40), then its variables leave scope.
 // level is that of the block around.
 pub fn judge_block_end(
-    env: &mut [u32],
+    env: &mut [u64],
     variables: usize,
-    level: u32,
+    level: u64,
     term: usize,
     last: Value,
 ) -> Verdict
     requires { ⌜ TableFor (now env) variables ⌝ }
-    ensures { λ r. ⌜ (answered (environmentOf (now (env .exit))) r ≡ judgeBlockEnd variables level (environmentOf (now (env .entry))) term (asValue last)) × TableFor (now (env .exit)) variables ⌝ }
+    ensures { λ r. ⌜ (answered (now (env .exit)) r ≡ judgeBlockEnd variables level (environmentOf (now (env .entry))) term (asValue (now (env .entry)) last)) × TableFor (now (env .exit)) variables ⌝ }
 {
-    if !lives_at(env, variables, borrow_in(last), level) {
+    if !lives_at(env, variables, roots_in(last), level) {
         return Verdict::Refused(refusals::LIVES_TOO_SHORT, term);
     }
     leave_blocks(env, variables, level);
@@ -328,7 +313,7 @@ pub fn judge_block_end(
 
 // The script (LANGUAGE 3.29): the answer is a number (43 at 0).
 pub fn judge_answer(answer: Value) -> Requirement
-    ensures { λ r. ⌜ ((nv : ℕ) → asRequirement r ≡ judgeAnswer nv (asValue answer)) ⌝ }
+    ensures { λ r. ⌜ ((nv : ℕ) (env : List ℕ) → asRequirement r ≡ judgeAnswer nv (asValue env answer)) ⌝ }
 {
     let Value::Of(of) = answer else {
         return Requirement::Refused(refusals::ANSWER_NO_NUMBER, 0);

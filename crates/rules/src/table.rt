@@ -1,10 +1,13 @@
-// The table of the variables, 8 words to each: seven hold the state (LANGUAGE 3.8), the eighth is a note (notes.rt).
+// The table of the variables, 8 words to each: six hold the state (LANGUAGE 3.8), two are a note (notes.rt). The two words
+// of a set stand apart, so that loading one does not wait for a store to the other.
 ghost use mathlib.Core.Path.{_≡_};
 ghost use Prim.Native.Nat.{ℕ, _<_, _≤_, _+_, _*_};
 ghost use lib.ListN.{length};
-ghost use Rattle.rules.specs.Environment.{used, live, update, movedAwayAt, refilled};
-ghost use Rattle.rules.specs.Table.{TableFor, entryWord, borrowEndAt, entryAt, environmentOf, asBorrow, asVariable, borrowNumber, borrowedRoot, borrowedFollows, noteAt};
-use crate::chains::leading_boxes;
+ghost use Rattle.rules.specs.Chains.{chainOf};
+ghost use Rattle.rules.specs.Table.{TableFor, entryWord, linksAt, rootsAt, holdersAt, borrowEndOf, entryAt, putAt, putSet};
+use crate::chains::BOX;
+use crate::chains::SHARED;
+use crate::roots::Roots;
 
 // A place (LANGUAGE 2.5).
 pub struct Place {
@@ -12,20 +15,21 @@ pub struct Place {
     pub follows: u32,
 }
 
-// The borrow end: which place the first borrow link borrows (LANGUAGE 3.3).
+// The borrow end: the roots of the places that the first borrow link stands for (LANGUAGE 3.3). There is at most one
+// place for each root, and its follows come from the lengths of the chains.
 pub enum BorrowEnd {
     None,
-    Shared(Place),
-    Exclusive(Place),
+    Shared(Roots),
+    Exclusive(Roots),
 }
 
 // The state of a variable (LANGUAGE 3.8). The links from moved_from on are moved away; where nothing is, moved_from is
 // one past the boxes and the borrow link.
 pub struct VariableState {
     pub links: u32,
-    pub moved_from: u32,
+    pub moved_from: u64,
     pub borrow_end: BorrowEnd,
-    pub level: u32,
+    pub level: u64,
 }
 
 // A number (LANGUAGE 3.6): free; taken, and not in scope; or in scope.
@@ -40,32 +44,32 @@ pub const STATUS: usize = 0;
 
 pub const LINKS: usize = 1;
 
-pub const MOVED_FROM: usize = 2;
+pub const ROOTS: usize = 2;
 
-pub const BORROW: usize = 3;
+pub const HOLDERS: usize = 3;
 
-pub const BORROWED_ROOT: usize = 4;
+pub const MOVED_FROM: usize = 4;
 
-pub const BORROWED_FOLLOWS: usize = 5;
+pub const LEVEL: usize = 5;
 
-pub const LEVEL: usize = 6;
+// The second word of a set stands so many words after the first.
+const APART: usize = 4;
 
+// The note of a row after those of the variables.
 pub const NOTE: usize = 7;
 
+// Links are a number of 32 bits.
+const LINKS_BELOW: u64 = 4294967296;
+
 // What STATUS holds; from LIVE on the variable is in scope.
-const FREE: u32 = 0;
+pub const FREE: u64 = 0;
 
-const USED: u32 = 1;
+pub const USED: u64 = 1;
 
-pub const LIVE: u32 = 2;
-
-// What BORROW holds; any other number is no borrow.
-pub const SHARED: u32 = 1;
-
-pub const EXCLUSIVE: u32 = 2;
+pub const LIVE: u64 = 2;
 
 // Word k of x: the state of a variable (LANGUAGE 3.8) is kept in such words.
-pub fn word_at(env: &[u32], x: usize, k: usize) -> u32
+pub fn word_at(env: &[u64], x: usize, k: usize) -> u64
     requires { ⌜ (x * 8 + 8 ≤ length (now env)) × (k < 8) ⌝ }
     ensures { λ r. ⌜ r ≡ entryWord (now (env .entry)) x k ⌝ }
 {
@@ -73,25 +77,79 @@ pub fn word_at(env: &[u32], x: usize, k: usize) -> u32
     env[at]
 }
 
-// The borrow end (LANGUAGE 3.3) that three words stand for.
-fn borrow_end_of(kind: u32, root: u32, follows: u32) -> BorrowEnd
-    ensures { λ r. ⌜ r ≡ borrowEndAt kind root follows ⌝ }
+pub fn put_word(env: &mut [u64], x: usize, k: usize, word: u64)
+    requires { ⌜ (x * 8 + 8 ≤ length (now env)) × (k < 8) ⌝ }
+    ensures { λ _. ⌜ ((y j : ℕ) → j < 8 → entryWord (now (env .exit)) y j ≡ putAt (entryWord (now (env .entry))) x k word y j) ⌝ }
 {
-    let place = Place {
-        root: root,
-        follows: follows,
-    };
-    if kind == SHARED {
-        return BorrowEnd::Shared(place);
+    let at = x * 8 + k;
+    env[at] = word;
+}
+
+// The links of x (LANGUAGE 3.8).
+pub fn links_at(env: &[u64], x: usize) -> u32
+    requires { ⌜ x * 8 + 8 ≤ length (now env) ⌝ }
+    ensures { λ r. ⌜ r ≡ linksAt (now (env .entry)) x ⌝ }
+{
+    (word_at(env, x, LINKS) % LINKS_BELOW) as u32
+}
+
+// The roots that x records (LANGUAGE 3.8).
+pub fn roots_at(env: &[u64], x: usize) -> Roots
+    requires { ⌜ x * 8 + 8 ≤ length (now env) ⌝ }
+    ensures { λ r. ⌜ r ≡ rootsAt (now (env .entry)) x ⌝ }
+{
+    Roots {
+        low: word_at(env, x, ROOTS),
+        high: word_at(env, x, ROOTS + APART),
     }
-    if kind == EXCLUSIVE {
-        return BorrowEnd::Exclusive(place);
+}
+
+// The variables that may hold a borrow of a place with root x.
+pub fn holders_at(env: &[u64], x: usize) -> Roots
+    requires { ⌜ x * 8 + 8 ≤ length (now env) ⌝ }
+    ensures { λ r. ⌜ r ≡ holdersAt (now (env .entry)) x ⌝ }
+{
+    Roots {
+        low: word_at(env, x, HOLDERS),
+        high: word_at(env, x, HOLDERS + APART),
     }
-    BorrowEnd::None
+}
+
+pub fn put_roots(env: &mut [u64], x: usize, roots: Roots)
+    requires { ⌜ x * 8 + 8 ≤ length (now env) ⌝ }
+    ensures { λ _. ⌜ ((y j : ℕ) → j < 8 → entryWord (now (env .exit)) y j ≡ putSet (entryWord (now (env .entry))) x 2 roots y j) ⌝ }
+{
+    put_word(env, x, ROOTS, roots.low);
+    put_word(env, x, ROOTS + APART, roots.high);
+}
+
+pub fn put_holders(env: &mut [u64], x: usize, holders: Roots)
+    requires { ⌜ x * 8 + 8 ≤ length (now env) ⌝ }
+    ensures { λ _. ⌜ ((y j : ℕ) → j < 8 → entryWord (now (env .exit)) y j ≡ putSet (entryWord (now (env .entry))) x 3 holders y j) ⌝ }
+{
+    put_word(env, x, HOLDERS, holders.low);
+    put_word(env, x, HOLDERS + APART, holders.high);
+}
+
+// The borrow end (LANGUAGE 3.3) of something with these links that records these roots.
+pub fn borrow_end_of(links: u32, roots: Roots) -> BorrowEnd
+    ensures { λ r. ⌜ r ≡ borrowEndOf (chainOf links) roots ⌝ }
+{
+    let mut rest = links;
+    while rest % 3 == BOX {
+        rest = rest / 3;
+    }
+    if rest == 0 {
+        return BorrowEnd::None;
+    }
+    if rest % 3 == SHARED {
+        return BorrowEnd::Shared(roots);
+    }
+    BorrowEnd::Exclusive(roots)
 }
 
 // What is known of number x (LANGUAGE 3.6, 3.8). A number that the table does not have is free.
-pub fn load(env: &[u32], variables: usize, x: usize) -> Entry
+pub fn load(env: &[u64], variables: usize, x: usize) -> Entry
     requires { ⌜ TableFor (now env) variables ⌝ }
     ensures { λ r. ⌜ r ≡ entryAt (now (env .entry)) x ⌝ }
 {
@@ -103,103 +161,15 @@ pub fn load(env: &[u32], variables: usize, x: usize) -> Entry
         if status == USED {
             return Entry::Used;
         }
-        let end = borrow_end_of(
-            word_at(env, x, BORROW),
-            word_at(env, x, BORROWED_ROOT),
-            word_at(env, x, BORROWED_FOLLOWS),
-        );
+        let links = links_at(env, x);
         let state = VariableState {
-            links: word_at(env, x, LINKS),
+            links: links,
             moved_from: word_at(env, x, MOVED_FROM),
-            borrow_end: end,
+            borrow_end: borrow_end_of(links, roots_at(env, x)),
             level: word_at(env, x, LEVEL),
         };
         Entry::Live(state)
     } else {
         Entry::Free
     }
-}
-
-// The kind of a borrow end (LANGUAGE 3.2), as the word BORROW holds it.
-fn borrow_number(end: BorrowEnd) -> u32
-    ensures { λ r. ⌜ r ≡ borrowNumber end ⌝ }
-{
-    match end {
-        BorrowEnd::None => 0,
-        BorrowEnd::Shared(_) => SHARED,
-        BorrowEnd::Exclusive(_) => EXCLUSIVE,
-    }
-}
-
-// The root of the borrowed place (LANGUAGE 3.3), if there is one.
-fn borrowed_root(end: BorrowEnd) -> u32
-    ensures { λ r. ⌜ r ≡ borrowedRoot end ⌝ }
-{
-    match end {
-        BorrowEnd::None => 0,
-        BorrowEnd::Shared(place) => place.root,
-        BorrowEnd::Exclusive(place) => place.root,
-    }
-}
-
-// The follows of the borrowed place (LANGUAGE 3.3), if there is one.
-fn borrowed_follows(end: BorrowEnd) -> u32
-    ensures { λ r. ⌜ r ≡ borrowedFollows end ⌝ }
-{
-    match end {
-        BorrowEnd::None => 0,
-        BorrowEnd::Shared(place) => place.follows,
-        BorrowEnd::Exclusive(place) => place.follows,
-    }
-}
-
-// The words of x say that it is in scope, with the state (LANGUAGE 3.24).
-pub fn put_live(env: &mut [u32], x: usize, state: VariableState)
-    requires { ⌜ x * 8 + 8 ≤ length (now env) ⌝ }
-    ensures { λ _. ⌜ (environmentOf (now (env .exit)) ≡ update (environmentOf (now (env .entry))) x (live (asVariable state))) × ((y : ℕ) → noteAt (now (env .exit)) y ≡ noteAt (now (env .entry)) y) ⌝ }
-{
-    let end = state.borrow_end;
-    let number = borrow_number(end);
-    let root = borrowed_root(end);
-    let follows = borrowed_follows(end);
-    let row = x * 8;
-    env[row + STATUS] = LIVE;
-    env[row + LINKS] = state.links;
-    env[row + MOVED_FROM] = state.moved_from;
-    env[row + BORROW] = number;
-    env[row + BORROWED_ROOT] = root;
-    env[row + BORROWED_FOLLOWS] = follows;
-    env[row + LEVEL] = state.level;
-}
-
-// The words of x say that it is taken, and not in scope (LANGUAGE 3.6).
-pub fn put_used(env: &mut [u32], x: usize)
-    requires { ⌜ x * 8 + 8 ≤ length (now env) ⌝ }
-    ensures { λ _. ⌜ (environmentOf (now (env .exit)) ≡ update (environmentOf (now (env .entry))) x used) × ((y : ℕ) → noteAt (now (env .exit)) y ≡ noteAt (now (env .entry)) y) ⌝ }
-{
-    env[x * 8 + STATUS] = USED;
-}
-
-// The words of x say that its links from k on are moved away (LANGUAGE 3.20).
-pub fn put_moved(env: &mut [u32], x: usize, k: u32)
-    requires { ⌜ x * 8 + 8 ≤ length (now env) ⌝ }
-    ensures { λ _. ⌜ (environmentOf (now (env .exit)) ≡ update (environmentOf (now (env .entry))) x (movedAwayAt (environmentOf (now (env .entry)) x) k)) × ((y : ℕ) → noteAt (now (env .exit)) y ≡ noteAt (now (env .entry)) y) ⌝ }
-{
-    env[x * 8 + MOVED_FROM] = k;
-}
-
-// The words of x say that it is whole, with the borrow end (LANGUAGE 3.25).
-pub fn put_whole(env: &mut [u32], x: usize, end: BorrowEnd)
-    requires { ⌜ x * 8 + 8 ≤ length (now env) ⌝ }
-    ensures { λ _. ⌜ (environmentOf (now (env .exit)) ≡ update (environmentOf (now (env .entry))) x (refilled (environmentOf (now (env .entry)) x) (asBorrow end))) × ((y : ℕ) → noteAt (now (env .exit)) y ≡ noteAt (now (env .entry)) y) ⌝ }
-{
-    let boxes = leading_boxes(word_at(env, x, LINKS));
-    let number = borrow_number(end);
-    let root = borrowed_root(end);
-    let follows = borrowed_follows(end);
-    let row = x * 8;
-    env[row + MOVED_FROM] = (boxes + 1) as u32;
-    env[row + BORROW] = number;
-    env[row + BORROWED_ROOT] = root;
-    env[row + BORROWED_FOLLOWS] = follows;
 }

@@ -1,19 +1,21 @@
 // What judging a term answers: the type of its value, if it has one (LANGUAGE 3.3, 3.4), or the refusal (3.17).
 ghost use mathlib.Core.Path.{_≡_};
-ghost use mathlib.Core.List.{_∷_};
+ghost use mathlib.Core.List.{List, _∷_};
 ghost use Prim.Native.Nat.{ℕ, _<_, _≤_, _-_};
-ghost use Rattle.rules.specs.Rules.{numberTy, borrowIn};
+ghost use Rattle.rules.specs.Rules.{numberTy};
 ghost use Rattle.rules.specs.Chains.{linkOf, chainOf};
-ghost use Rattle.rules.specs.Table.{asBorrow};
-ghost use Rattle.rules.specs.Verdicts.{typeOf, asValue, Answers, valueOf, atMost8};
+ghost use Rattle.rules.specs.Table.{endIn};
+ghost use Rattle.rules.specs.Verdicts.{typeOf, Answers, valueOf, atMost8};
 use crate::chains::one_more_fits;
 use crate::chains::with_first;
 use crate::refusals;
-use crate::table::BorrowEnd;
+use crate::roots::Roots;
+use crate::roots::no_roots;
 
+// The roots are those of the places that the first borrow link stands for; without one they say nothing.
 pub struct ValueType {
     pub links: u32,
-    pub borrow_end: BorrowEnd,
+    pub roots: Roots,
 }
 
 // A let and an assign have no value (LANGUAGE 3.4).
@@ -27,23 +29,13 @@ pub enum Verdict {
     Refused(u32, usize),
 }
 
-// The borrowed place of the value, if there is one (LANGUAGE 3.3).
-pub fn borrow_in(value: Value) -> BorrowEnd
-    ensures { λ r. ⌜ ((nv : ℕ) → asBorrow r ≡ borrowIn nv (asValue value)) ⌝ }
-{
-    match value {
-        Value::None => BorrowEnd::None,
-        Value::Of(of) => of.borrow_end,
-    }
-}
-
 // The verdict of a term with a value of this type (LANGUAGE 3.3).
-pub fn value_of(links: u32, end: BorrowEnd) -> Verdict
-    ensures { λ r. ⌜ Answers r (valueOf (typeOf (chainOf links) (asBorrow end))) ⌝ }
+pub fn value_of(links: u32, roots: Roots) -> Verdict
+    ensures { λ r. ⌜ Answers r (valueOf (λ env. typeOf (chainOf links) (endIn env (chainOf links) roots))) ⌝ }
 {
     let of = ValueType {
         links: links,
-        borrow_end: end,
+        roots: roots,
     };
     let value = Value::Of(of);
     Verdict::Fine(value)
@@ -51,18 +43,18 @@ pub fn value_of(links: u32, end: BorrowEnd) -> Verdict
 
 // The value of a number, a reading (LANGUAGE 3.18), a below and a sum (3.27).
 pub fn number_value() -> Verdict
-    ensures { λ r. ⌜ Answers r (valueOf numberTy) ⌝ }
+    ensures { λ r. ⌜ Answers r (valueOf (λ env. numberTy)) ⌝ }
 {
-    value_of(0, BorrowEnd::None)
+    value_of(0, no_roots())
 }
 
 // A value with one more link in front, if that makes at most 8 (42; LANGUAGE 3.21 to 3.23).
-pub fn longer_value(term: usize, link: u32, links: u32, end: BorrowEnd) -> Verdict
+pub fn longer_value(term: usize, link: u32, links: u32, roots: Roots) -> Verdict
     requires { ⌜ (0 < link) × (link ≤ 3) ⌝ }
-    ensures { λ r. ⌜ Answers r (atMost8 term (typeOf (linkOf (link - 1) ∷ chainOf links) (asBorrow end))) ⌝ }
+    ensures { λ r. ⌜ Answers r (atMost8 term (λ env. typeOf (linkOf (link - 1) ∷ chainOf links) (endIn env (linkOf (link - 1) ∷ chainOf links) roots))) ⌝ }
 {
     if !one_more_fits(links) {
         return Verdict::Refused(refusals::TOO_MANY_LINKS, term);
     }
-    value_of(with_first(link, links), end)
+    value_of(with_first(link, links), roots)
 }

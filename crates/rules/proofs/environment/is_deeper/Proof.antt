@@ -1,11 +1,11 @@
 -- `rules::environment::is_deeper` meets its contract. Assumes nothing.
 use native.Mathlib.Omega.{arith}
-use mathlib.Core.Path.{sym}
+use mathlib.Core.Path.{refl, sym}
 use lib.Dec.{leb}
 use borrow.Author.Needs.{needs}
 use borrow.Author.Tests.{lt-ltb, le-ltb}
 use Rattle.rules.specs.Table.{entryWord}
-use Rattle.rules.proofs.HoldingLaws.{pick-false, pick-true}
+use Rattle.rules.proofs.TableLaws.{pick-false, pick-true}
 use Rattle.rules.proofs.environment.is_deeper.Statement.{statement}
 use Rattle.rules.proofs.environment.is_deeper.Tie as tie
 
@@ -15,7 +15,7 @@ word-at-requires c κs = search needs
 returns : tie.Need-returns
 returns c =
     let start = c .before .before .before in
-    rw (← c .before .word-at .ensures, le-ltb (start .args .level) (c .before .word-at .result) (omega (arith, c .if1 .taken)), pick-false (leb 2 (entryWord (start .args .env .now) (start .args .x) 0)))
+    rw (← c .before .word-at .ensures, le-ltb (start .args .level) (c .before .word-at .result) (omega (arith, c .if1 .taken)), pick-false (leb 2 (entryWord (start .args .env .now) (start .args .x) 0))) refl
 
 word-at-requires-2 : tie.Need-word-at-requires-2
 word-at-requires-2 c κs = search needs

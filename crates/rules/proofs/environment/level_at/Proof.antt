@@ -1,35 +1,34 @@
 -- `rules::environment::level_at` meets its contract. Assumes nothing.
+use native.Mathlib.Omega.{arith}
+use mathlib.Core.Path.{sym, _∙_}
 use borrow.Author.Needs.{needs}
-use Rattle.rules.specs.Environment.{levelOf}
-use Rattle.rules.specs.Table.{asSlot, environmentOf}
+use Rattle.rules.proofs.TableLaws.{level-live, level-not-live, past-status}
 use Rattle.rules.proofs.environment.level_at.Statement.{statement}
 use Rattle.rules.proofs.environment.level_at.Tie as tie
 
-load-requires : tie.Need-load-requires
-load-requires c κs = search needs
+word-at-requires : tie.Need-word-at-requires
+word-at-requires c κs = search needs
 
-enum-told : tie.Need-enum-told
-enum-told c = search needs
-
-enum-told-2 : tie.Need-enum-told-2
-enum-told-2 c = search needs
-
-enum-known-entry : tie.Need-enum-known-entry
-enum-known-entry c = search needs
+word-at-requires-2 : tie.Need-word-at-requires-2
+word-at-requires-2 c κs = search needs
 
 returns : tie.Need-returns
-unfolding environmentOf asSlot levelOf
-returns c = rw (← c .before .before .load .ensures, c .enum-told .given .1)
+returns c =
+    let at-status = c .before .before in
+    let start = at-status .before .before .before in
+    c .word-at2 .ensures ∙ sym (level-live (start .args .env .now) (start .args .x) (omega (arith, at-status .word-at .ensures, c .before .if2 .taken)))
 
 returns-2 : tie.Need-returns-2
-unfolding environmentOf asSlot levelOf
-returns-2 c = rw (← c .before .before .load .ensures, c .enum-told2 .given .1)
+returns-2 c =
+    let at-status = c .before in
+    let start = at-status .before .before .before in
+    sym (level-not-live (start .args .env .now) (start .args .x) (omega (arith, at-status .word-at .ensures, c .if2 .left)))
 
 returns-3 : tie.Need-returns-3
-unfolding environmentOf asSlot levelOf
-returns-3 c = rw (← c .before .before .before .load .ensures, c .before .entry .given .1)
+returns-3 c =
+    let start = c .before .before in
+    sym (level-not-live (start .args .env .now) (start .args .x) (omega (arith, past-status (start .args .env .now) (start .args .variables) (start .pre) (start .args .x) (c .if1 .left))))
 
 pub level-at-spec : {M : Type 1} → statement M
 level-at-spec =
-    tie.close
-    (tie.spec load-requires enum-told enum-told-2 enum-known-entry returns returns-2 returns-3)
+    tie.close (tie.spec word-at-requires word-at-requires-2 returns returns-2 returns-3)

@@ -1,54 +1,82 @@
--- `rules::environment::lives_at` meets its contract. Assumes nothing.
+-- `rules::environment::lives_at` meets its contract. The roots left pass the test if and only if all do. Assumes nothing.
+use Prim.Native.Nat.{ℕ}
+use native.Mathlib.Omega.{arith}
+use mathlib.Core.Path.{_≡_, refl, sym, _∙_}
+use mathlib.Core.Bool.{Bool, true, false}
+use lib.Dec.{leb}
 use borrow.Author.Needs.{needs}
-use Rattle.rules.specs.Environment.{livesAt}
-use Rattle.rules.specs.Table.{asBorrow}
+use borrow.Author.Tests.{not-true, not-false, le-leb, lt-leb}
+use mathlib.Core.List.{List}
+use Rattle.reader.specs.Script.{Place}
+use Rattle.rules.specs.Places.{every}
+use Rattle.rules.specs.Environment.{levelOf}
+use Rattle.rules.specs.Roots.{placesOf}
+use Rattle.rules.specs.Masks.{has}
+use Rattle.rules.specs.Table.{environmentOf, longAt}
+use Rattle.rules.proofs.ClosureLoop.{count}
+use Rattle.rules.proofs.MaskLaws.{one-out}
+use Rattle.rules.proofs.EveryRoot.{every-over, every-fails, every-on}
 use Rattle.rules.proofs.environment.lives_at.Statement.{statement}
 use Rattle.rules.proofs.environment.lives_at.Tie as tie
 
-enum-told : tie.Need-enum-told
-enum-told c = search needs
+abbrev around : List ℕ → ℕ → Place → Bool
+around env level p = leb (levelOf (environmentOf env (p .root))) level
 
-enum-known-end : tie.Need-enum-known-end
-enum-known-end c = search needs
+abbrev Inv-loop : tie.InvT-loop
+Inv-loop env variables level left₀ left = (m : ℕ) → every (around env level) (placesOf 128 (has left) (longAt env) m) ≡ every (around env level) (placesOf 128 (has left₀) (longAt env) m)
 
-index-of-requires : tie.Need-index-of-requires
-index-of-requires c κs = search needs
+abbrev μ-loop : tie.MeasureT-loop
+μ-loop env variables level left₀ left = count (has left) 128
 
-level-at-requires : tie.Need-level-at-requires
-level-at-requires c κs = search needs
+loop-holds : tie.Need-loop-holds Inv-loop μ-loop
+loop-holds c = λ m. refl
 
-enum-known-end-2 : tie.Need-enum-known-end-2
-enum-known-end-2 c = search needs
+is-empty-requires : tie.Need-is-empty-requires Inv-loop μ-loop
+is-empty-requires c κs = search needs
 
-index-of-requires-2 : tie.Need-index-of-requires-2
-index-of-requires-2 c κs = search needs
+lowest-requires : tie.Need-lowest-requires Inv-loop μ-loop
+lowest-requires c κs = sym (c .before .is-empty .ensures) ∙ not-true _ (c .if1 .taken)
 
-level-at-requires-2 : tie.Need-level-at-requires-2
-level-at-requires-2 c κs = search needs
+level-at-requires : tie.Need-level-at-requires Inv-loop μ-loop
+level-at-requires c κs = c .before .before .before .before .before .pre
 
-returns : tie.Need-returns
-unfolding livesAt asBorrow
-returns c = rw (c .enum-told .given .1)
+returns : tie.Need-returns Inv-loop μ-loop
+returns c =
+    let start = c .before .before .before .before .before .before .before in
+    λ m.
+    let deep : leb (levelOf (environmentOf (start .args .env .now) (c .before .before .lowest .result))) (start .args .level) ≡ false = lt-leb (levelOf (environmentOf (start .args .env .now) (c .before .before .lowest .result))) (start .args .level) (omega (arith, c .if2 .taken, c .before .level-at .ensures)) in
+    sym (every-fails 128 (around (start .args .env .now) (start .args .level)) (longAt (start .args .env .now)) m (c .before .before .before .before .before .loop .left) (c .before .before .lowest .result) (c .before .before .lowest .ensures .1) (c .before .before .lowest .ensures .0) deep) ∙ c .before .before .before .before .before .loop .inv m
 
-returns-2 : tie.Need-returns-2
-unfolding livesAt asBorrow
-returns-2 c = rw (c .before .before .before .end .given .1, c .level-at .ensures, c .before .index-of .ensures)
+without-requires : tie.Need-without-requires Inv-loop μ-loop
+without-requires c κs = c .before .before .lowest .ensures .1
 
-returns-3 : tie.Need-returns-3
-unfolding livesAt asBorrow
-returns-3 c = rw (c .before .before .before .end2 .given .1, c .level-at2 .ensures, c .before .index-of2 .ensures)
+loop-less : tie.Need-loop-less Inv-loop μ-loop
+loop-less c = omega (arith, one-out _ _ _ (c .before .before .before .lowest .ensures .0) (c .without .ensures))
+
+loop-again : tie.Need-loop-again Inv-loop μ-loop
+loop-again c =
+    let start = c .before .before .before .before .before .before .before .before in
+    λ m.
+    let near : leb (levelOf (environmentOf (start .args .env .now) (c .before .before .before .lowest .result))) (start .args .level) ≡ true = le-leb (levelOf (environmentOf (start .args .env .now) (c .before .before .before .lowest .result))) (start .args .level) (omega (arith, c .before .if2 .left, c .before .before .level-at .ensures)) in
+    every-on 128 (around (start .args .env .now) (start .args .level)) (longAt (start .args .env .now)) m (c .before .before .before .before .before .before .loop .left) _ (c .before .before .before .lowest .result) near (c .without .ensures) ∙ c .before .before .before .before .before .before .loop .inv m
+
+returns-2 : tie.Need-returns-2 Inv-loop μ-loop
+returns-2 c =
+    let start = c .before .before .before .before in
+    λ m. sym (every-over 128 (around (start .args .env .now) (start .args .level)) (longAt (start .args .env .now)) m (c .before .before .loop .left) (sym (c .before .is-empty .ensures) ∙ not-false _ (c .if1 .left))) ∙ c .before .before .loop .inv m
 
 pub lives-at-spec : {M : Type 1} → statement M
 lives-at-spec =
     tie.close
     (tie.spec
-    enum-told
-    enum-known-end
-    index-of-requires
+    Inv-loop
+    μ-loop
+    loop-holds
+    is-empty-requires
+    lowest-requires
     level-at-requires
-    enum-known-end-2
-    index-of-requires-2
-    level-at-requires-2
     returns
-    returns-2
-    returns-3)
+    without-requires
+    loop-less
+    loop-again
+    returns-2)

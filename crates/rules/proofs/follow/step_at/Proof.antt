@@ -1,45 +1,66 @@
 -- `rules::follow::step_at` meets its contract. Assumes nothing.
+use Prim.Native.Nat.{ℕ}
+use native.Mathlib.Omega.{arith}
+use mathlib.Core.Path.{ap, _∙_}
+use mathlib.Core.Logic.{⊎-elim, inl, inr}
+use lib.ListN.{length}
 use borrow.Author.Needs.{needs}
-use Rattle.rules.specs.Steps.{stepAt}
+use Rattle.rules.specs.Links.{leadingBoxes}
+use Rattle.rules.specs.Chains.{chainOf}
+use Rattle.rules.proofs.StepLaws.{end-is, stops-deep, passes-here, stops-here, stops-through, passes-through, step-moved, step-here, step-through}
 use Rattle.rules.proofs.follow.step_at.Statement.{statement}
 use Rattle.rules.proofs.follow.step_at.Tie as tie
 
-load-requires : tie.Need-load-requires
-load-requires c κs = search needs
+links-at-requires : tie.Need-links-at-requires
+links-at-requires c κs = c .before .pre .0
 
-enum-told : tie.Need-enum-told
-enum-told c = search needs
+leading-boxes-requires : tie.Need-leading-boxes-requires
+leading-boxes-requires c κs = search needs
 
-enum-told-2 : tie.Need-enum-told-2
-enum-told-2 c = search needs
-
-enum-known-entry : tie.Need-enum-known-entry
-enum-known-entry c = search needs
-
-step-of-requires : tie.Need-step-of-requires
-step-of-requires c κs = search needs
+word-at-requires : tie.Need-word-at-requires
+word-at-requires c κs = (c .before .before .before .pre .0, omega arith)
 
 returns : tie.Need-returns
-unfolding stepAt
-returns c = rw (← c .before .before .load .ensures, c .enum-told .given .1)
+returns c =
+    let boxes = c .before .before .before .leading-boxes .ensures .0 ∙ ap (λ (k : ℕ). leadingBoxes (chainOf k)) (c .before .before .before .before .links-at .ensures) in
+    let moved = c .before .before .word-at .ensures in
+    step-moved _ _ _ (stops-deep _ _ _ (c .if2 .taken) (omega (arith, boxes, moved, c .before .if1 .taken)))
+
+chain-length-requires : tie.Need-chain-length-requires
+chain-length-requires c κs = search needs
+
+sub-follows : tie.Need-sub-follows
+sub-follows c =
+    let long = c .chain-length .ensures .0 ∙ ap (λ (k : ℕ). length (chainOf k)) (c .before .before .before .before .links-at .ensures) in
+    omega (arith, long, c .before .before .before .before .before .before .pre .1)
 
 returns-2 : tie.Need-returns-2
-unfolding stepAt
-returns-2 c = rw (← c .before .before .load .ensures, c .enum-told2 .given .1)
+returns-2 c =
+    let boxes = c .before .before .before .before .before .leading-boxes .ensures .0 ∙ ap (λ (k : ℕ). leadingBoxes (chainOf k)) (c .before .before .before .before .before .before .links-at .ensures) in
+    let moved = c .before .before .before .before .word-at .ensures in
+    let long = c .before .before .chain-length .ensures .0 ∙ ap (λ (k : ℕ). length (chainOf k)) (c .before .before .before .before .before .before .links-at .ensures) in
+    step-here _ _ _ (passes-here _ _ _ (⊎-elim (λ w. inl (w .1 .left)) (λ w. inr (omega (arith, boxes, moved, w .left))) (c .before .before .before .if1 .came)) (omega (arith, boxes, long, c .before .if3 .taken)) (omega (arith, moved, long, c .if4 .taken))) (omega (arith, boxes, long, c .before .if3 .taken))
 
 returns-3 : tie.Need-returns-3
-unfolding stepAt
-returns-3 c = rw (← c .before .before .before .before .load .ensures, c .before .before .entry .given .1) (c .step-of .ensures)
+returns-3 c =
+    let boxes = c .before .before .before .before .before .leading-boxes .ensures .0 ∙ ap (λ (k : ℕ). leadingBoxes (chainOf k)) (c .before .before .before .before .before .before .links-at .ensures) in
+    let moved = c .before .before .before .before .word-at .ensures in
+    let long = c .before .before .chain-length .ensures .0 ∙ ap (λ (k : ℕ). length (chainOf k)) (c .before .before .before .before .before .before .links-at .ensures) in
+    step-moved _ _ _ (stops-here _ _ _ (omega (arith, boxes, long, c .before .if3 .taken)) (omega (arith, moved, long, c .if4 .left)))
+
+returns-4 : tie.Need-returns-4
+returns-4 c =
+    let boxes = c .before .before .before .before .before .leading-boxes .ensures .0 ∙ ap (λ (k : ℕ). leadingBoxes (chainOf k)) (c .before .before .before .before .before .before .links-at .ensures) in
+    let moved = c .before .before .before .before .word-at .ensures in
+    let long = c .before .before .chain-length .ensures .0 ∙ ap (λ (k : ℕ). length (chainOf k)) (c .before .before .before .before .before .before .links-at .ensures) in
+    step-moved _ _ _ (stops-through _ _ _ (omega (arith, boxes, long, c .before .if3 .left)) (omega (arith, boxes, moved, c .if5 .taken)))
+
+returns-5 : tie.Need-returns-5
+returns-5 c =
+    let boxes = c .before .before .before .before .before .leading-boxes .ensures .0 ∙ ap (λ (k : ℕ). leadingBoxes (chainOf k)) (c .before .before .before .before .before .before .links-at .ensures) in
+    let moved = c .before .before .before .before .word-at .ensures in
+    let long = c .before .before .chain-length .ensures .0 ∙ ap (λ (k : ℕ). length (chainOf k)) (c .before .before .before .before .before .before .links-at .ensures) in
+    step-through _ _ _ (passes-through _ _ _ (omega (arith, boxes, long, c .before .if3 .left)) (omega (arith, boxes, moved, c .if5 .left)) (end-is _ _ (omega (arith, boxes, long, c .before .if3 .left)) .0)) (omega (arith, boxes, long, c .before .if3 .left))
 
 pub step-at-spec : {M : Type 1} → statement M
-step-at-spec =
-    tie.close
-    (tie.spec
-    load-requires
-    enum-told
-    enum-told-2
-    enum-known-entry
-    step-of-requires
-    returns
-    returns-2
-    returns-3)
+step-at-spec = tie.close (tie.spec links-at-requires leading-boxes-requires word-at-requires returns chain-length-requires sub-follows returns-2 returns-3 returns-4 returns-5)

@@ -1,97 +1,100 @@
--- `rules::notes::note_holder` meets its contract. Assumes nothing.
+-- `rules::notes::note_holder` meets its contract. The invariant: the holders of the roots that are taken out of `left` are noted, and the table
+-- is as before otherwise. Assumes nothing.
 use native.Mathlib.Omega.{arith}
-use mathlib.Core.Path.{refl, sym, _∙_, ap}
-use Rattle.rules.specs.Table.{environmentOf, weightOf}
-use Rattle.rules.proofs.HolderLaws.{weight-most}
-use Rattle.rules.proofs.NoteLaws.{noted, below-past, below-none, counted, not-counted}
+use mathlib.Core.Path.{_≡_, refl, sym, _∙_}
+use lib.ListN.{length}
 use borrow.Author.Needs.{needs}
+use borrow.Author.Tests.{not-true, not-false}
+use Rattle.rules.specs.Masks.{has}
+use Rattle.rules.proofs.ClosureLoop.{count}
+use Rattle.rules.proofs.MaskLaws.{none-in, one-out}
+use Rattle.rules.proofs.NoteLaws.{Noting, noting-starts, noting-ends, noting-skips, noting-adds}
 use Rattle.rules.proofs.notes.note_holder.Statement.{statement}
 use Rattle.rules.proofs.notes.note_holder.Tie as tie
 
-word-at-requires : tie.Need-word-at-requires
-word-at-requires c κs = search needs
+abbrev Inv-loop : tie.InvT-loop
+Inv-loop env₀ variables x left₀ env left = (length env ≡ length env₀) × Noting variables env₀ x left₀ left env
 
-weight-requires : tie.Need-weight-requires
-weight-requires c κs = search needs
+abbrev μ-loop : tie.MeasureT-loop
+μ-loop env₀ variables x left₀ env left = count (has left) 128
 
-index-of-requires : tie.Need-index-of-requires
-index-of-requires c κs = search needs
+loop-holds : tie.Need-loop-holds Inv-loop μ-loop
+loop-holds c = (refl, noting-starts _ _ _ _)
 
-word-at-requires-2 : tie.Need-word-at-requires-2
-word-at-requires-2 c κs = search needs
+is-empty-requires : tie.Need-is-empty-requires Inv-loop μ-loop
+is-empty-requires c κs = search needs
 
-add-env : tie.Need-add-env
-add-env c =
-    let at-if2 = c .before .before in
-    let at-index-of = at-if2 .before in
-    let at-weight = at-index-of .before .before in
-    let at-root = at-weight .before .before in
-    let start = at-root .before .before .before in
-    let is = at-weight .weight .ensures ∙ ap (λ r. weightOf (environmentOf (start .args .env .now) (start .args .x)) r) (sym (at-index-of .index-of .ensures)) in
-    let most = weight-most (environmentOf (start .args .env .now) (start .args .x)) (at-index-of .index-of .result) in
-    omega (arith, c .word-at2 .ensures, is, most, start .pre .2 (at-index-of .index-of .result) (at-if2 .if2 .taken))
+lowest-requires : tie.Need-lowest-requires Inv-loop μ-loop
+lowest-requires c κs = sym (c .before .is-empty .ensures) ∙ not-true _ (c .if1 .taken)
 
-mul-env : tie.Need-mul-env
-mul-env c = search needs
+without-requires : tie.Need-without-requires Inv-loop μ-loop
+without-requires c κs = c .lowest .ensures .1
 
-add-env-2 : tie.Need-add-env-2
-add-env-2 c = search needs
+holders-at-requires : tie.Need-holders-at-requires Inv-loop μ-loop
+holders-at-requires c κs =
+    let at-loop = c .before .before .before .before .before .before in
+    omega (arith, at-loop .loop .inv .0, at-loop .before .before .pre .0, c .before .if2 .taken)
 
-mul-env-2 : tie.Need-mul-env-2
-mul-env-2 c = search needs
+only-requires : tie.Need-only-requires Inv-loop μ-loop
+only-requires c κs = search needs
 
-slice-write-env : tie.Need-slice-write-env
-slice-write-env c = search needs
+unite-requires : tie.Need-unite-requires Inv-loop μ-loop
+unite-requires c κs = search needs
 
-same-length : tie.Need-same-length
-same-length c = search needs
+put-holders-requires : tie.Need-put-holders-requires Inv-loop μ-loop
+put-holders-requires c κs =
+    let at-if2 = c .before .before .before .before .before in
+    let at-loop = at-if2 .before .before .before .before .before in
+    omega (arith, at-loop .loop .inv .0, at-loop .before .before .pre .0, at-if2 .if2 .taken)
 
-returns : tie.Need-returns
-returns c =
-    let at-if2 = c .before .before in
-    let at-index-of = at-if2 .before in
-    let at-weight = at-index-of .before .before in
-    let at-root = at-weight .before .before in
-    let start = at-root .before .before .before in
-    let is = at-weight .weight .ensures ∙ ap (λ r. weightOf (environmentOf (start .args .env .now) (start .args .x)) r) (sym (at-index-of .index-of .ensures)) in
-    rw (c .word-at2 .ensures) (noted _ _ _, counted (start .args .env .now) (start .args .variables) (start .args .x) (at-index-of .index-of .result) (at-index-of .index-of .ensures ∙ at-root .word-at .ensures) _ is (start .pre .0) (at-if2 .if2 .taken))
+loop-less : tie.Need-loop-less Inv-loop μ-loop
+loop-less c =
+    let at-without = c .before .before .before .before .before .before .before .before .before in
+    let at-lowest = at-without .before in
+    omega (arith, one-out _ _ _ (at-lowest .lowest .ensures .0) (at-without .without .ensures))
 
-same-length-2 : tie.Need-same-length-2
-same-length-2 c = search needs
+loop-again : tie.Need-loop-again Inv-loop μ-loop
+loop-again c =
+    let at-put = c .before .before in
+    let at-unite = at-put .before .before in
+    let at-only = at-unite .before in
+    let at-holders = at-only .before in
+    let at-if2 = at-holders .before .before in
+    let at-without = at-if2 .before in
+    let at-loop = at-without .before .before .before .before in
+    (at-put .put-holders .kept .0 ∙ at-loop .loop .inv .0, noting-adds _ _ _ _ _ _ _ _ (at-loop .loop .inv .1) (at-without .without .ensures) _ _ _ _ (at-if2 .if2 .taken) (at-holders .holders-at .ensures) (at-only .only .ensures) (at-unite .unite .ensures) (at-put .put-holders .ensures))
 
-returns-2 : tie.Need-returns-2
-returns-2 c =
-    let at-index-of = c .before in
-    let at-root = at-index-of .before .before .before .before in
-    let start = at-root .before .before .before in
-    (refl, not-counted (start .args .env .now) (start .args .variables) (start .args .x) (below-past (start .args .env .now) (start .args .variables) (start .args .x) _ (at-index-of .index-of .ensures ∙ at-root .word-at .ensures) (c .if2 .left)))
+loop-less-2 : tie.Need-loop-less-2 Inv-loop μ-loop
+loop-less-2 c = omega (arith, one-out _ _ _ (c .before .before .lowest .ensures .0) (c .before .without .ensures))
 
-same-length-3 : tie.Need-same-length-3
-same-length-3 c = search needs
+loop-again-2 : tie.Need-loop-again-2 Inv-loop μ-loop
+loop-again-2 c =
+    let at-loop = c .before .before .before .before .before in
+    (at-loop .loop .inv .0, noting-skips _ _ _ _ _ _ _ _ (at-loop .loop .inv .1) (c .before .without .ensures) (c .if2 .left))
 
-returns-3 : tie.Need-returns-3
-returns-3 c =
-    let at-weight = c .before in
-    let at-root = at-weight .before .before in
-    let start = at-root .before .before .before in
-    (refl, not-counted (start .args .env .now) (start .args .variables) (start .args .x) (below-none (start .args .env .now) (start .args .variables) (start .args .x) _ (at-root .word-at .ensures) (omega (arith, at-weight .weight .ensures, c .if1 .left))))
+same-length : tie.Need-same-length Inv-loop μ-loop
+same-length c = c .before .before .loop .inv .0
+
+returns : tie.Need-returns Inv-loop μ-loop
+returns c = noting-ends _ _ _ _ _ _ (c .before .before .loop .inv .1) (none-in _ (sym (c .before .is-empty .ensures) ∙ not-false _ (c .if1 .left)))
 
 pub note-holder-spec : {M : Type 1} → statement M
 note-holder-spec =
     tie.close
     (tie.spec
-    word-at-requires
-    weight-requires
-    index-of-requires
-    word-at-requires-2
-    add-env
-    mul-env
-    add-env-2
-    mul-env-2
-    slice-write-env
+    Inv-loop
+    μ-loop
+    loop-holds
+    is-empty-requires
+    lowest-requires
+    without-requires
+    holders-at-requires
+    only-requires
+    unite-requires
+    put-holders-requires
+    loop-less
+    loop-again
+    loop-less-2
+    loop-again-2
     same-length
-    returns
-    same-length-2
-    returns-2
-    same-length-3
-    returns-3)
+    returns)

@@ -1,55 +1,59 @@
 -- `rules::notes::refill` meets its contract. Assumes nothing.
+use Prim.Native.Nat.{ℕ, suc}
 use native.Mathlib.Omega.{arith}
-use mathlib.Core.Path.{refl, _∙_}
-use Rattle.rules.specs.Environment.{refilled, levelOf}
-use Rattle.rules.specs.Table.{asBorrow}
-use Rattle.rules.proofs.NotedLaws.{has-weight, note-room, changed-value, unchanged}
+use native.Mathlib.Numerals.{add-one}
+use mathlib.Core.Path.{ap, _∙_}
 use borrow.Author.Needs.{needs}
+use Rattle.rules.specs.Links.{leadingBoxes}
+use Rattle.rules.specs.Chains.{chainOf}
+use Rattle.rules.proofs.NoteLaws.{refilled-by}
 use Rattle.rules.proofs.notes.refill.Statement.{statement}
 use Rattle.rules.proofs.notes.refill.Tie as tie
 
-forget-holder-requires : tie.Need-forget-holder-requires
-forget-holder-requires c κs =
-    let at-if = c .before in
-    let start = at-if .before .before in
-    (omega (arith, start .pre .0), at-if .if1 .taken, λ r. has-weight _ _ (start .pre) _ r (at-if .if1 .taken))
+links-at-requires : tie.Need-links-at-requires
+links-at-requires c κs = search needs
 
-put-whole-requires : tie.Need-put-whole-requires
-put-whole-requires c κs = search needs
+leading-boxes-requires : tie.Need-leading-boxes-requires
+leading-boxes-requires c κs = search needs
+
+add-put-word : tie.Need-add-put-word
+add-put-word c = omega (arith, c .before .leading-boxes .ensures .1)
+
+put-word-requires : tie.Need-put-word-requires
+put-word-requires c κs = search needs
+
+put-roots-requires : tie.Need-put-roots-requires
+put-roots-requires c κs = search needs
 
 note-holder-requires : tie.Need-note-holder-requires
 note-holder-requires c κs =
-    let at-put = c .before .before .before in
-    let at-forget = at-put .before .before .before .before in
-    let at-if = at-forget .before .before in
-    let start = at-if .before .before in
-    (omega arith, at-if .if1 .taken, note-room _ _ (start .pre) _ _ _ (at-forget .forget-holder .ensures .1) (at-put .put-whole .ensures .1))
+    let at-roots = c .before .before .before in
+    let at-put = at-roots .before .before .before .before in
+    let start = at-put .before .before .before .before .before .before in
+    (omega (arith, at-roots .put-roots .kept .0, at-put .put-word .kept .0, start .pre .0 .0), omega (arith, start .pre .0 .1, start .pre .1))
 
 same-length : tie.Need-same-length
 same-length c = search needs
 
 returns : tie.Need-returns
-unfolding levelOf
 returns c =
     let at-note = c .before .before in
-    let at-put = at-note .before .before .before .before in
-    let at-forget = at-put .before .before .before .before in
-    let at-if = at-forget .before .before in
-    let start = at-if .before .before in
-    changed-value _ _ (start .pre) (λ s. refilled s (asBorrow (start .args .end))) refl refl (λ v. refl) _ _ _ _ (at-if .if1 .taken) (at-note .note-holder .kept .0 ∙ at-put .put-whole .kept .0 ∙ at-forget .forget-holder .kept .0) (at-forget .forget-holder .ensures) (at-put .put-whole .ensures) (at-note .note-holder .ensures)
-
-returns-2 : tie.Need-returns-2
-returns-2 c =
-    let start = c .before .before in
-    (unchanged _ _ (start .pre) (λ s. refilled s (asBorrow (start .args .end))) refl _ (c .if1 .left), start .pre)
+    let at-roots = at-note .before .before .before .before in
+    let at-put = at-roots .before .before .before .before in
+    let at-boxes = at-put .before .before in
+    let at-links = at-boxes .before in
+    let start = at-links .before .before .before in
+    refilled-by (start .args .env .now) (start .args .variables) (start .args .x) (start .pre .0) (start .pre .1) _ (start .args .roots) (at-put .put-word .last .0) (at-roots .put-roots .last .0) (at-note .note-holder .last .0) (at-note .note-holder .kept .0 ∙ at-roots .put-roots .kept .0 ∙ at-put .put-word .kept .0) (add-one _ ∙ ap suc (at-boxes .leading-boxes .ensures .0 ∙ ap (λ (l : ℕ). leadingBoxes (chainOf l)) (at-links .links-at .ensures))) (at-put .put-word .ensures) (at-roots .put-roots .ensures) (at-note .note-holder .ensures)
 
 pub refill-spec : {M : Type 1} → statement M
 refill-spec =
     tie.close
     (tie.spec
-    forget-holder-requires
-    put-whole-requires
+    links-at-requires
+    leading-boxes-requires
+    add-put-word
+    put-word-requires
+    put-roots-requires
     note-holder-requires
     same-length
-    returns
-    returns-2)
+    returns)

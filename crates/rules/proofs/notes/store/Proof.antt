@@ -1,78 +1,117 @@
 -- `rules::notes::store` meets its contract. Assumes nothing.
 use native.Mathlib.Omega.{arith}
 use native.Mathlib.Numerals.{add-one}
-use mathlib.Core.Path.{refl, _∙_, ap}
-use Rattle.rules.specs.Environment.{live, Environment, update, levelOf}
-use Rattle.rules.specs.Table.{asVariable}
-use Rattle.rules.proofs.TableLaws.{update-same}
-use Rattle.rules.proofs.NotedLaws.{has-weight, note-room, changed-table}
+use Prim.Native.Nat.{ℕ, suc}
+use mathlib.Core.Path.{ap, _∙_, subst}
 use borrow.Author.Needs.{needs}
+use Rattle.rules.specs.Links.{leadingBoxes}
+use Rattle.rules.specs.Chains.{chainOf}
+use Rattle.rules.proofs.WordLaws.{Put, raised-next}
+use Rattle.rules.proofs.StoreLaws.{entered, stored}
 use Rattle.rules.proofs.notes.store.Statement.{statement}
 use Rattle.rules.proofs.notes.store.Tie as tie
 
-forget-holder-requires : tie.Need-forget-holder-requires
-forget-holder-requires c κs =
-    let start = c .before .before in
-    (omega (arith, start .pre .0 .0), start .pre .1, λ r. has-weight _ _ (start .pre .0) _ r (start .pre .1))
+put-word-requires : tie.Need-put-word-requires
+put-word-requires c κs = search needs
 
-put-live-requires : tie.Need-put-live-requires
-put-live-requires c κs = search needs
+put-word-requires-2 : tie.Need-put-word-requires-2
+put-word-requires-2 c κs = search needs
+
+leading-boxes-requires : tie.Need-leading-boxes-requires
+leading-boxes-requires c κs = search needs
+
+add-put-word : tie.Need-add-put-word
+add-put-word c = omega (arith, c .leading-boxes .ensures .1)
+
+put-word-requires-3 : tie.Need-put-word-requires-3
+put-word-requires-3 c κs = search needs
+
+put-word-requires-4 : tie.Need-put-word-requires-4
+put-word-requires-4 c κs = search needs
+
+put-roots-requires : tie.Need-put-roots-requires
+put-roots-requires c κs = search needs
 
 note-holder-requires : tie.Need-note-holder-requires
 note-holder-requires c κs =
-    let at-put = c .before .before .before in
-    let at-forget = at-put .before .before .before .before in
-    let start = at-forget .before .before .before in
-    (omega arith, start .pre .1, note-room _ _ (start .pre .0) _ _ _ (at-forget .forget-holder .ensures .1) (at-put .put-live .ensures .1))
+    let at-roots = c .before .before .before in
+    let at-level = at-roots .before .before .before .before in
+    let at-moved = at-level .before .before .before .before in
+    let at-links = at-moved .before .before .before .before .before in
+    let at-status = at-links .before .before .before .before in
+    let start = at-status .before .before .before in
+    (omega (arith, at-roots .put-roots .kept .0, at-level .put-word4 .kept .0, at-moved .put-word3 .kept .0, at-links .put-word2 .kept .0, at-status .put-word .kept .0, start .pre .0 .0), omega (arith, start .pre .0 .1, start .pre .1))
 
 raise-note-requires : tie.Need-raise-note-requires
 raise-note-requires c κs = search needs
 
 add-raise-note : tie.Need-add-raise-note
-add-raise-note c = search needs
+add-raise-note c = omega (arith, c .before .before .before .before .before .before .before .before .before .before .before .before .before .before .before .before .before .before .before .before .before .before .before .before .before .before .before .before .before .before .before .pre .0 .1)
 
 add-raise-note-2 : tie.Need-add-raise-note-2
-add-raise-note-2 c = search needs
-
-cast-raise-note : tie.Need-cast-raise-note
-cast-raise-note c = search needs
+add-raise-note-2 c = omega (arith, c .before .before .before .before .before .before .before .before .before .before .before .before .before .before .before .before .before .before .before .before .before .before .before .before .before .before .before .before .before .before .before .pre .0 .1, c .before .before .before .before .before .before .before .before .before .before .before .before .before .before .before .before .before .before .before .before .before .before .before .before .before .before .before .before .before .before .before .pre .1)
 
 raise-note-requires-2 : tie.Need-raise-note-requires-2
-raise-note-requires-2 c κs = search needs
+raise-note-requires-2 c κs =
+    let at-deep = c .before .before .before in
+    let at-note = at-deep .before .before .before .before in
+    let at-roots = at-note .before .before .before .before in
+    let at-level = at-roots .before .before .before .before in
+    let at-moved = at-level .before .before .before .before in
+    let at-links = at-moved .before .before .before .before .before in
+    let at-status = at-links .before .before .before .before in
+    let start = at-status .before .before .before in
+    omega (arith, at-deep .raise-note .kept .0, at-note .note-holder .kept .0, at-roots .put-roots .kept .0, at-level .put-word4 .kept .0, at-moved .put-word3 .kept .0, at-links .put-word2 .kept .0, at-status .put-word .kept .0, start .pre .0 .0)
 
 same-length : tie.Need-same-length
 same-length c = search needs
 
 returns : tie.Need-returns
-unfolding levelOf
 returns c =
-    let at-last = c .before .before in
-    let at-raise = at-last .before .before .before .before in
-    let at-note = at-raise .before .before .before .before in
-    let at-put = at-note .before .before .before .before in
-    let at-forget = at-put .before .before .before .before in
-    let start = at-forget .before .before .before in
+    let at-high = c .before .before in
+    let at-deep = at-high .before .before .before .before in
+    let at-note = at-deep .before .before .before .before in
+    let at-roots = at-note .before .before .before .before in
+    let at-level = at-roots .before .before .before .before in
+    let at-moved = at-level .before .before .before .before in
+    let at-boxes = at-moved .before in
+    let at-links = at-boxes .before .before .before .before in
+    let at-status = at-links .before .before .before .before in
+    let start = at-status .before .before .before in
+    let env = start .args .env .now in
     let n = start .args .variables in
     let x = start .args .x in
-    let forgot = at-forget .forget-holder .ensures in
-    let put = at-put .put-live .ensures in
-    let noted = at-note .note-holder .ensures in
-    let deepest = at-raise .raise-note .ensures in
-    let highest = at-last .raise-note2 .ensures in
-    let changed = highest .0 ∙ deepest .0 ∙ noted .0 ∙ put .0 ∙ ap (λ (Γ : Environment). update Γ x (live (asVariable (start .args .state)))) (forgot .0) in
-    (changed, changed-table _ _ (start .pre .0) x _ _ _ _ (start .pre .1) (at-last .raise-note2 .kept .0 ∙ at-raise .raise-note .kept .0 ∙ at-note .note-holder .kept .0 ∙ at-put .put-live .kept .0 ∙ at-forget .forget-holder .kept .0) changed (forgot .1) (λ r. noted .1 r ∙ rw (put .1 r, put .0, update-same _ x x _ refl)) _ _ (omega arith) (deepest .1) (λ r. highest .1 r ∙ simp add-one))
+    let env₁ = at-status .put-word .last .0 in
+    let env₂ = at-links .put-word2 .last .0 in
+    let env₃ = at-moved .put-word3 .last .0 in
+    let env₄ = at-level .put-word4 .last .0 in
+    let env₅ = at-roots .put-roots .last .0 in
+    let env₆ = at-note .note-holder .last .0 in
+    let env₇ = at-deep .raise-note .last .0 in
+    let env₈ = at-high .raise-note2 .last .0 in
+    let whole = add-one _ ∙ ap suc (at-boxes .leading-boxes .ensures .0) in
+    stored env n x (start .pre .0) (start .pre .1) (start .args .links) (start .args .level) (start .args .roots) (start .pre .2) env₅ env₆ env₇ env₈
+    (at-high .raise-note2 .kept .0 ∙ at-deep .raise-note .kept .0 ∙ at-note .note-holder .kept .0 ∙ at-roots .put-roots .kept .0 ∙ at-level .put-word4 .kept .0 ∙ at-moved .put-word3 .kept .0 ∙ at-links .put-word2 .kept .0 ∙ at-status .put-word .kept .0)
+    (entered env env₁ env₂ env₃ env₄ env₅ x (start .args .links) (suc (leadingBoxes (chainOf (start .args .links)))) (start .args .level) (start .args .roots) (omega arith) (at-status .put-word .ensures) (at-links .put-word2 .ensures) (subst (λ (d : ℕ). Put env₂ x 4 d env₃) whole (at-moved .put-word3 .ensures)) (at-level .put-word4 .ensures) (at-roots .put-roots .ensures))
+    (at-note .note-holder .ensures)
+    (at-deep .raise-note .ensures)
+    (raised-next env₇ env₈ n x (at-high .raise-note2 .ensures))
 
 pub store-spec : {M : Type 1} → statement M
 store-spec =
     tie.close
     (tie.spec
-    forget-holder-requires
-    put-live-requires
+    put-word-requires
+    put-word-requires-2
+    leading-boxes-requires
+    add-put-word
+    put-word-requires-3
+    put-word-requires-4
+    put-roots-requires
     note-holder-requires
     raise-note-requires
     add-raise-note
     add-raise-note-2
-    cast-raise-note
     raise-note-requires-2
     same-length
     returns)

@@ -14,7 +14,10 @@ same-length c = search needs
 
 returns : tie.Need-returns
 unfolding begun need _>>=_
-returns c = (rw (← c .before .is-free .ensures, not-true (c .before .is-free .result) (c .if1 .taken)), c .before .before .before .before .pre .0)
+returns c =
+    let at-is-free = c .before in
+    let start = at-is-free .before .before .before in
+    (rw (← at-is-free .is-free .ensures, not-true (at-is-free .is-free .result) (c .if1 .taken)), start .pre .0)
 
 take-number-requires : tie.Need-take-number-requires
 take-number-requires c κs = search needs
@@ -31,6 +34,4 @@ returns-2 c =
     (rw (← at-is-free .is-free .ensures, not-false (at-is-free .is-free .result) (at-if1 .if1 .left), at-take-number .take-number .ensures .0), at-take-number .take-number .ensures .1)
 
 pub begin-let-spec : {M : Type 1} → statement M
-begin-let-spec =
-    tie.close
-    (tie.spec is-free-requires same-length returns take-number-requires same-length-2 returns-2)
+begin-let-spec = tie.close (tie.spec is-free-requires same-length returns take-number-requires same-length-2 returns-2)

@@ -14,7 +14,9 @@ enum-known-left c = search needs
 
 returns : tie.Need-returns
 unfolding judgeBelow asRequirement answered _>>=_
-returns c = rw (← c .before .before .before .judge-number .ensures, c .before .left .given .1)
+returns c =
+    let at-judge-number = c .before .before .before in
+    rw (← at-judge-number .judge-number .ensures, c .before .left .given .1)
 
 enum-told : tie.Need-enum-told
 enum-told c = search needs
@@ -27,7 +29,12 @@ enum-known-right c = search needs
 
 returns-2 : tie.Need-returns-2
 unfolding judgeBelow asRequirement answered _>>=_
-returns-2 c = rw (← c .before .before .before .before .before .before .judge-number .ensures, c .before .before .before .before .enum-told .given .1, ← c .before .before .before .judge-number2 .ensures, c .before .right .given .1)
+returns-2 c =
+    let at-right = c .before in
+    let at-judge-number2 = at-right .before .before in
+    let at-enum-told = at-judge-number2 .before in
+    let at-judge-number = at-enum-told .before .before in
+    rw (← at-judge-number .judge-number .ensures, at-enum-told .enum-told .given .1, ← at-judge-number2 .judge-number2 .ensures, at-right .right .given .1)
 
 enum-told-2 : tie.Need-enum-told-2
 enum-told-2 c = search needs
@@ -45,16 +52,4 @@ returns-3 c =
     rw (← at-judge-number .judge-number .ensures, at-enum-told .enum-told .given .1, ← at-judge-number2 .judge-number2 .ensures, at-enum-told2 .enum-told2 .given .1) (c .number-value .ensures _)
 
 pub judge-below-spec : {M : Type 1} → statement M
-judge-below-spec =
-    tie.close
-    (tie.spec
-    judge-number-requires
-    enum-known-left
-    returns
-    enum-told
-    judge-number-requires-2
-    enum-known-right
-    returns-2
-    enum-told-2
-    number-value-requires
-    returns-3)
+judge-below-spec = tie.close (tie.spec judge-number-requires enum-known-left returns enum-told judge-number-requires-2 enum-known-right returns-2 enum-told-2 number-value-requires returns-3)

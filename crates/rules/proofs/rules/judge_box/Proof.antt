@@ -1,6 +1,8 @@
 -- `rules::rules::judge_box` meets its contract. Assumes nothing.
 use borrow.Author.Needs.{needs}
 use Rattle.reader.specs.Result.{_>>=_}
+use Rattle.rules.specs.Links.{leadingBoxes}
+use Rattle.rules.specs.Environment.{borrowEnd}
 use Rattle.rules.specs.Rules.{valued, judgeBox}
 use Rattle.rules.specs.Verdicts.{asValue, answered}
 use Rattle.rules.proofs.rules.judge_box.Statement.{statement}
@@ -14,15 +16,16 @@ enum-told c = search needs
 
 returns : tie.Need-returns
 unfolding judgeBox answered asValue valued _>>=_
-returns c = λ nv Γ. rw (c .enum-told .given .1)
+returns c = λ nv env. rw (c .enum-told .given .1)
 
 longer-value-requires : tie.Need-longer-value-requires
 longer-value-requires c κs = search needs
 
 returns-2 : tie.Need-returns-2
-unfolding judgeBox asValue valued _>>=_
-returns-2 c = λ nv Γ. rw (c .before .before .inner .given .1) (c .longer-value .ensures Γ)
+unfolding judgeBox asValue valued borrowEnd leadingBoxes _>>=_
+returns-2 c =
+    let at-inner = c .before .before .before in
+    λ nv env. rw (at-inner .inner .given .1) (c .longer-value .ensures env)
 
 pub judge-box-spec : {M : Type 1} → statement M
-judge-box-spec =
-    tie.close (tie.spec enum-known-inner enum-told returns longer-value-requires returns-2)
+judge-box-spec = tie.close (tie.spec enum-known-inner enum-told returns longer-value-requires returns-2)

@@ -3,6 +3,7 @@ use borrow.Author.Needs.{needs}
 use Rattle.reader.specs.Result.{_>>=_}
 use Rattle.rules.specs.Rules.{valued, judgeLet}
 use Rattle.rules.specs.Verdicts.{asValue, answered}
+use Rattle.rules.proofs.ValueLaws.{unrecorded, let-there}
 use Rattle.rules.proofs.rules.judge_let.Statement.{statement}
 use Rattle.rules.proofs.rules.judge_let.Tie as tie
 
@@ -14,32 +15,30 @@ enum-told c = search needs
 
 returns : tie.Need-returns
 unfolding judgeLet answered asValue valued _>>=_
-returns c = (rw (c .enum-told .given .1), c .before .before .before .pre .0)
+returns c =
+    let start = c .before .before .before in
+    (rw (c .enum-told .given .1), start .pre .0 .0)
 
-fresh-state-requires : tie.Need-fresh-state-requires
-fresh-state-requires c κs = search needs
+recorded-roots-requires : tie.Need-recorded-roots-requires
+recorded-roots-requires c κs = search needs
 
 store-requires : tie.Need-store-requires
-store-requires c κs = search needs
+store-requires c κs =
+    let at-inner = c .before .before .before .before in
+    let start = at-inner .before .before .before in
+    let env = start .args .env .now in
+    (start .pre .0 .0, start .pre .1, unrecorded env _ _ _ _ _ _ (c .recorded-roots .result) (start .pre .0 .1 .1) (start .pre .2) (at-inner .inner .given .1) (start .pre .3) (c .recorded-roots .ensures env))
 
 same-length : tie.Need-same-length
 same-length c = search needs
 
 returns-2 : tie.Need-returns-2
-unfolding judgeLet answered asValue valued _>>=_
 returns-2 c =
     let at-store = c .before .before in
-    let at-fresh-state = at-store .before .before in
-    (rw (at-fresh-state .before .before .inner .given .1, at-store .store .ensures .0, at-fresh-state .fresh-state .ensures), at-store .store .ensures .1)
+    let at-recorded-roots = at-store .before in
+    let at-inner = at-recorded-roots .before .before .before .before in
+    let start = at-inner .before .before .before in
+    (let-there _ _ _ _ _ _ _ _ (at-recorded-roots .recorded-roots .result) (at-inner .inner .given .1) (at-recorded-roots .recorded-roots .ensures (start .args .env .now)) (at-store .store .ensures .0), at-store .store .ensures .1)
 
 pub judge-let-spec : {M : Type 1} → statement M
-judge-let-spec =
-    tie.close
-    (tie.spec
-    enum-known-inner
-    enum-told
-    returns
-    fresh-state-requires
-    store-requires
-    same-length
-    returns-2)
+judge-let-spec = tie.close (tie.spec enum-known-inner enum-told returns recorded-roots-requires store-requires same-length returns-2)

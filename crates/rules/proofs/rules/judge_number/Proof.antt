@@ -1,9 +1,10 @@
 -- `rules::rules::judge_number` meets its contract. Assumes nothing.
 use borrow.Author.Needs.{needs}
 use Rattle.reader.specs.Result.{need, _>>=_}
-use Rattle.rules.specs.Rules.{judgeNumber}
+use Rattle.rules.specs.Rules.{judgeReadable, judgeNumber}
+use Rattle.rules.specs.Table.{environmentOf, asPlace}
 use Rattle.rules.specs.Verdicts.{asRequirement}
-use Rattle.rules.proofs.PlaceLaws.{found-in, found-refused}
+use Rattle.rules.proofs.PlaceLaws.{found-at, found-refused}
 use Rattle.rules.proofs.rules.judge_number.Statement.{statement}
 use Rattle.rules.proofs.rules.judge_number.Tie as tie
 
@@ -21,7 +22,16 @@ is-number-requires c κs = search needs
 
 returns : tie.Need-returns
 unfolding judgeNumber asRequirement _>>=_
-returns c = let refused = found-refused _ (c .before .before .before .judge-readable .ensures) (c .before .located .given .1) in rw (refused)
+returns c =
+    let at-located = c .before in
+    let at-judge-readable = at-located .before .before in
+    let start = at-judge-readable .before .before in
+    let env = start .args .env .now in
+    let nv = start .args .variables in
+    let i = start .args .term in
+    let p = asPlace (start .args .place) in
+    let refused = found-refused nv (environmentOf env) p (judgeReadable nv (environmentOf env) i p) (at-judge-readable .judge-readable .ensures) (at-located .located .given .1) in
+    rw refused
 
 returns-2 : tie.Need-returns-2
 unfolding judgeNumber asRequirement need _>>=_
@@ -29,7 +39,13 @@ returns-2 c =
     let at-is-number = c .before in
     let at-located2 = at-is-number .before .before in
     let at-judge-readable = at-located2 .before .before in
-    found-in _ (at-judge-readable .judge-readable .ensures) (at-located2 .located2 .given .1) λ l is chain after to. rw (is, chain, after, ← at-is-number .is-number .ensures, c .if1 .taken)
+    let start = at-judge-readable .before .before in
+    let env = start .args .env .now in
+    let nv = start .args .variables in
+    let i = start .args .term in
+    let p = asPlace (start .args .place) in
+    let F = found-at nv (environmentOf env) p (judgeReadable nv (environmentOf env) i p) (at-judge-readable .judge-readable .ensures) (at-located2 .located2 .given .1) in
+    rw (F .is, F .after, ← at-is-number .is-number .ensures, c .if1 .taken)
 
 returns-3 : tie.Need-returns-3
 unfolding judgeNumber asRequirement need _>>=_
@@ -37,16 +53,13 @@ returns-3 c =
     let at-is-number = c .before in
     let at-located2 = at-is-number .before .before in
     let at-judge-readable = at-located2 .before .before in
-    found-in _ (at-judge-readable .judge-readable .ensures) (at-located2 .located2 .given .1) λ l is chain after to. rw (is, chain, after, ← at-is-number .is-number .ensures, c .if1 .left)
+    let start = at-judge-readable .before .before in
+    let env = start .args .env .now in
+    let nv = start .args .variables in
+    let i = start .args .term in
+    let p = asPlace (start .args .place) in
+    let F = found-at nv (environmentOf env) p (judgeReadable nv (environmentOf env) i p) (at-judge-readable .judge-readable .ensures) (at-located2 .located2 .given .1) in
+    rw (F .is, F .after, ← at-is-number .is-number .ensures, c .if1 .left)
 
 pub judge-number-spec : {M : Type 1} → statement M
-judge-number-spec =
-    tie.close
-    (tie.spec
-    judge-readable-requires
-    enum-known-located
-    enum-known-located-2
-    is-number-requires
-    returns
-    returns-2
-    returns-3)
+judge-number-spec = tie.close (tie.spec judge-readable-requires enum-known-located enum-known-located-2 is-number-requires returns returns-2 returns-3)

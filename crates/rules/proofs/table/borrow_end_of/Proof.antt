@@ -1,20 +1,38 @@
--- `rules::table::borrow_end_of` meets its contract. Assumes nothing.
-use borrow.Author.Tests.{eq-eqb, ne-eqb}
-use Rattle.rules.specs.Table.{borrowEndAt}
+-- `rules::table::borrow_end_of` meets its contract. The rest of the links, without boxes before it, has the same borrow end. Assumes nothing.
+use native.Mathlib.Omega.{arith}
+use mathlib.Core.Path.{_≡_, refl, sym, _∙_}
+use Rattle.rules.specs.Chains.{chainOf}
+use Rattle.rules.specs.Table.{borrowEndOf}
+use Rattle.rules.proofs.EndLaws.{end-boxed, end-number, end-shared, end-exclusive}
 use Rattle.rules.proofs.table.borrow_end_of.Statement.{statement}
 use Rattle.rules.proofs.table.borrow_end_of.Tie as tie
 
-returns : tie.Need-returns
-unfolding borrowEndAt
-returns c = rw (eq-eqb _ _ (c .if1 .taken))
+abbrev Inv-loop : tie.InvT-loop
+Inv-loop links roots rest₀ rest = borrowEndOf (chainOf rest) roots ≡ borrowEndOf (chainOf links) roots
 
-returns-2 : tie.Need-returns-2
-unfolding borrowEndAt
-returns-2 c = rw (ne-eqb _ _ (c .before .if1 .left), eq-eqb _ _ (c .if2 .taken))
+abbrev μ-loop : tie.MeasureT-loop
+μ-loop links roots rest₀ rest = rest
 
-returns-3 : tie.Need-returns-3
-unfolding borrowEndAt
-returns-3 c = rw (ne-eqb _ _ (c .before .if1 .left), ne-eqb _ _ (c .if2 .left))
+loop-holds : tie.Need-loop-holds Inv-loop μ-loop
+loop-holds c = refl
+
+loop-less : tie.Need-loop-less Inv-loop μ-loop
+loop-less c = omega arith
+
+loop-again : tie.Need-loop-again Inv-loop μ-loop
+loop-again c = sym (end-boxed _ _ (c .loop-test .taken)) ∙ c .before .loop .inv
+
+returns : tie.Need-returns Inv-loop μ-loop
+returns c = sym (end-number _ _ (c .if1 .taken)) ∙ c .before .before .loop .inv
+
+returns-2 : tie.Need-returns-2 Inv-loop μ-loop
+returns-2 c = sym (end-shared _ _ (c .if2 .taken)) ∙ c .before .before .before .loop .inv
+
+returns-3 : tie.Need-returns-3 Inv-loop μ-loop
+returns-3 c =
+    sym (end-exclusive _ _ (c .before .if1 .left) (c .before .before .loop-test .left) (c .if2 .left)) ∙ c .before .before .before .loop .inv
 
 pub borrow-end-of-spec : {M : Type 1} → statement M
-borrow-end-of-spec = tie.close (tie.spec returns returns-2 returns-3)
+borrow-end-of-spec =
+    tie.close
+    (tie.spec Inv-loop μ-loop loop-holds loop-less loop-again returns returns-2 returns-3)

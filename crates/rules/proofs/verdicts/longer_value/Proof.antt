@@ -12,19 +12,26 @@ one-more-fits-requires c κs = search needs
 
 returns : tie.Need-returns
 unfolding need answered _>>=_
-returns c = λ Γ. rw (← c .before .one-more-fits .ensures, not-true (c .before .one-more-fits .result) (c .if1 .taken))
+returns c =
+    let at-one-more-fits = c .before in
+    λ env. rw (← at-one-more-fits .one-more-fits .ensures, not-true (at-one-more-fits .one-more-fits .result) (c .if1 .taken))
 
 with-first-requires : tie.Need-with-first-requires
-with-first-requires c κs = (sym (c .before .one-more-fits .ensures) ∙ not-false (c .before .one-more-fits .result) (c .if1 .left), c .before .before .pre .0, c .before .before .pre .1)
+with-first-requires c κs =
+    let at-one-more-fits = c .before in
+    let start = at-one-more-fits .before in
+    (sym (at-one-more-fits .one-more-fits .ensures) ∙ not-false (at-one-more-fits .one-more-fits .result) (c .if1 .left), start .pre .0, start .pre .1)
 
 value-of-requires : tie.Need-value-of-requires
 value-of-requires c κs = search needs
 
 returns-2 : tie.Need-returns-2
 unfolding need _>>=_
-returns-2 c = λ Γ. rw (← c .before .before .before .one-more-fits .ensures, not-false (c .before .before .before .one-more-fits .result) (c .before .before .if1 .left), ← c .before .with-first .ensures) (c .value-of .ensures Γ)
+returns-2 c =
+    let at-with-first = c .before in
+    let at-if1 = at-with-first .before in
+    let at-one-more-fits = at-if1 .before in
+    λ env. rw (← at-one-more-fits .one-more-fits .ensures, not-false (at-one-more-fits .one-more-fits .result) (at-if1 .if1 .left), ← at-with-first .with-first .ensures) (c .value-of .ensures env)
 
 pub longer-value-spec : {M : Type 1} → statement M
-longer-value-spec =
-    tie.close
-    (tie.spec one-more-fits-requires returns with-first-requires value-of-requires returns-2)
+longer-value-spec = tie.close (tie.spec one-more-fits-requires returns with-first-requires value-of-requires returns-2)

@@ -2,17 +2,20 @@
 use native.Mathlib.Omega.{arith}
 use mathlib.Core.Path.{_∙_}
 use borrow.Author.Needs.{needs}
-use Rattle.rules.specs.Table.{asBorrow}
+use Rattle.rules.specs.Environment.{borrowEnd}
 use Rattle.rules.proofs.ChainLaws.{chain-none}
 use Rattle.rules.proofs.verdicts.number_value.Statement.{statement}
 use Rattle.rules.proofs.verdicts.number_value.Tie as tie
+
+no-roots-requires : tie.Need-no-roots-requires
+no-roots-requires c κs = search needs
 
 value-of-requires : tie.Need-value-of-requires
 value-of-requires c κs = search needs
 
 returns : tie.Need-returns
-unfolding asBorrow
-returns c = λ Γ. c .value-of .ensures Γ ∙ rw (chain-none 0 (omega arith))
+unfolding borrowEnd
+returns c = λ env. c .value-of .ensures env ∙ rw (chain-none 0 (omega arith))
 
 pub number-value-spec : {M : Type 1} → statement M
-number-value-spec = tie.close (tie.spec value-of-requires returns)
+number-value-spec = tie.close (tie.spec no-roots-requires value-of-requires returns)

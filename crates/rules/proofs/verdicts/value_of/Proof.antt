@@ -6,7 +6,7 @@ use Rattle.rules.proofs.verdicts.value_of.Tie as tie
 
 returns : tie.Need-returns
 unfolding answered asValue
-returns c = λ Γ. refl
+returns c = λ env. refl
 
 pub value-of-spec : {M : Type 1} → statement M
 value-of-spec = tie.close (tie.spec returns)

@@ -1,0 +1,355 @@
+-- The search for where a place leads: what its loop keeps, what a round does, and what it has found at its ends. Then the roots that the
+-- variables of a set record. Assumes nothing.
+use Prim.Native.Nat.{ℕ, suc, _-_, _≤_, _<_}
+use native.Mathlib.Omega.{arith}
+use mathlib.Core.Path.{_≡_, refl, sym, ap, ap₂, _∙_, subst, fun-ext}
+use mathlib.Core.Bool.{Bool, true, false, false≢true, true≢false}
+use mathlib.Core.List.{List}
+use lib.ListN.{length, length-drop}
+use lib.Dec.{eqb}
+use borrow.Author.Tests.{eqb-true}
+use denote.Enum.Declared.{tagOf}
+use Rattle.reader.specs.Result.{pick}
+use Rattle.reader.specs.Script.{Place}
+use Rattle.rules.specs.declared.roots.Roots.{Roots}
+use Rattle.rules.specs.declared.follow.Ends.{Ends}
+use Rattle.rules.specs.declared.follow.Ends.the-variants as ends
+use Rattle.rules.proofs.follow.Ends.{the-type}
+use Rattle.rules.specs.declared.follow.Step.{Step}
+use Rattle.rules.specs.declared.follow.Step.the-variants as step
+use Rattle.rules.specs.Links.{Link}
+use Rattle.rules.specs.Places.{every, rooted}
+use Rattle.rules.specs.Environment.{Variable, live}
+use Rattle.rules.specs.Follow.{ownLink, wholeSlot, valueWhole}
+use Rattle.rules.specs.Neat.{place}
+use Rattle.rules.specs.Roots.{linksOf, lengths, placesOf, leads, MetFrom}
+use Rattle.rules.specs.Chains.{chainOf}
+use Rattle.rules.specs.Masks.{has}
+use Rattle.rules.specs.Table.{longAt, linksAt, rootsAt, variableAt, environmentOf}
+use Rattle.rules.specs.Verdicts.{NeatTable}
+use Rattle.rules.specs.Steps.{passesSlot, passes, Passed, Searched, BorrowedAt}
+use Rattle.rules.proofs.SetLaws.{rooted-out}
+use Rattle.rules.proofs.FollowBound.{all-met}
+use Rattle.rules.proofs.FollowRoots.{roots-met, whole-by-roots, every-root}
+use Rattle.rules.proofs.ClosureLoop.{Meeting, metAfter, todoAfter, round, over, count, waiting, one-fewer}
+use Rattle.rules.proofs.EntryLaws.{live-status}
+use Rattle.rules.proofs.StepLaws.{passes-at, ends-at, passed-at, leads-nowhere, leads-to-roots}
+
+-- ---- the loop, over any sets
+
+-- What is met so far; of that, all but what is still to do passes, and `ends` are those of it in which following ends.
+pub record Search (first : ℕ → Bool) (leads : ℕ → ℕ → Bool) (pass own met todo ends : ℕ → Bool) : Type 0 where
+  pub meeting : Meeting first leads met todo
+  pub passed : (y : ℕ) → met y ≡ true → todo y ≡ false → pass y ≡ true
+  pub ended : (y : ℕ) → ends y ≡ pick (met y) (pick (todo y) false (own y)) false
+
+module _ (first : ℕ → Bool) (leads : ℕ → ℕ → Bool) (pass own : ℕ → Bool) where
+  pub search-begins : (met ends : ℕ → Bool) → ((y : ℕ) → met y ≡ first y) → ((y : ℕ) → ends y ≡ false) → Search first leads pass own met met ends
+  search-begins met ends e z = record {
+    meeting = record {
+      start = λ x h. e x ∙ h;
+      inside = λ y h. h;
+      added = λ y w h k l. absurd (true≢false (sym h ∙ k));
+      least = λ s a b y h. a y (sym (e y) ∙ h);
+    };
+    passed = λ y h k. absurd (true≢false (sym h ∙ k));
+    ended = λ y. z y ∙ go (met y) (own y);
+  }
+    where
+      go : (b c : Bool) → false ≡ pick b (pick b false c) false
+      go true c = refl
+      go false c = refl
+
+  module _ (met todo ends : ℕ → Bool) (S : Search first leads pass own met todo ends) (x : ℕ) (h : todo x ≡ true) where
+    module _ (met′ todo′ : ℕ → Bool) (me : (z : ℕ) → met′ z ≡ metAfter leads x met z) (te : (z : ℕ) → todo′ z ≡ todoAfter leads x met todo z) where
+      -- The variable x has been looked at: it passes, and counts if following ends in it.
+      pub search-round : (ends′ : ℕ → Bool) → pass x ≡ true → ((y : ℕ) → ends′ y ≡ pick (ends y) true (pick (eqb x y) (own x) false)) → Search first leads pass own met′ todo′ ends′
+      search-round ends′ p ee = record {
+        meeting = round first leads met todo (S .meeting) x h met′ todo′ me te;
+        passed = λ y a b. pass-y y (met y) (todo y) (eqb x y) (leads x y) refl refl refl (sym (me y) ∙ a) (sym (te y) ∙ b);
+        ended = λ y. ee y ∙ ap (λ (b : Bool). pick b true (pick (eqb x y) (own x) false)) (S .ended y)
+            ∙ end-y y (met y) (todo y) (eqb x y) (leads x y) refl refl refl
+            ∙ ap₂ (λ (b c : Bool). pick b (pick c false (own y)) false) (sym (me y)) (sym (te y));
+      }
+        where
+          pass-y : (y : ℕ) (b t q l : Bool) → met y ≡ b → todo y ≡ t → eqb x y ≡ q → pick b true l ≡ true → pick b (pick q false t) l ≡ false → pass y ≡ true
+          pass-y y b t true l e f g i j = ap pass (sym (eqb-true x y g)) ∙ p
+          pass-y y true true false l e f g i j = absurd (true≢false j)
+          pass-y y true false false l e f g i j = S .passed y e f
+          pass-y y false t false true e f g i j = absurd (true≢false j)
+          pass-y y false t false false e f g i j = absurd (false≢true i)
+
+          at-x : (y : ℕ) (b t l : Bool) → b ≡ true → t ≡ true → own x ≡ own y → pick (pick b (pick t false (own y)) false) true (own x) ≡ pick (pick b true l) (pick (pick b false l) false (own y)) false
+          at-x y true true l e f g = g
+          at-x y true false l e f g = absurd (false≢true f)
+          at-x y false t l e f g = absurd (false≢true e)
+
+          other : (b t l o : Bool) → pick (pick b (pick t false o) false) true false ≡ pick (pick b true l) (pick (pick b t l) false o) false
+          other true true l o = refl
+          other true false l true = refl
+          other true false l false = refl
+          other false t true o = refl
+          other false t false o = refl
+
+          end-y : (y : ℕ) (b t q l : Bool) → met y ≡ b → todo y ≡ t → eqb x y ≡ q
+              → pick (pick b (pick t false (own y)) false) true (pick q (own x) false) ≡ pick (pick b true l) (pick (pick b (pick q false t) l) false (own y)) false
+          end-y y b t true l e f g =
+              let z = eqb-true x y g in
+              at-x y b t l (sym e ∙ ap met (sym z) ∙ S .meeting .inside x h) (sym f ∙ ap todo (sym z) ∙ h) (ap own z)
+          end-y y b t false l e f g = other b t l (own y)
+
+      -- One fewer is waiting.
+      pub search-less : (n : ℕ) → x < n → count (waiting met todo) n ≡ suc (count (waiting met′ todo′) n)
+      search-less n l =
+          one-fewer leads n met todo x l h (S .meeting .inside x h)
+          ∙ ap₂ (λ (f g : ℕ → Bool). suc (count (waiting f g) n)) (sym (fun-ext me)) (sym (fun-ext te))
+
+    -- The sets after x in the code: nothing new if it leads nowhere.
+    module _ (todo₁ : ℕ → Bool) (e : (z : ℕ) → todo₁ z ≡ pick (eqb x z) false (todo z)) where
+      -- What is not met is not to be done.
+      unmet : (z : ℕ) → met z ≡ false → todo z ≡ false
+      unmet z k = go (todo z) refl
+        where
+          go : (b : Bool) → todo z ≡ b → b ≡ false
+          go true f = absurd (true≢false (sym (S .meeting .inside z f) ∙ k))
+          go false f = refl
+
+      module _ (none : (z : ℕ) → leads x z ≡ false) where
+        pub here-met : (z : ℕ) → met z ≡ metAfter leads x met z
+        here-met z = go (met z) ∙ ap (λ (l : Bool). pick (met z) true l) (sym (none z))
+          where
+            go : (b : Bool) → b ≡ pick b true false
+            go true = refl
+            go false = refl
+
+        pub here-todo : (z : ℕ) → todo₁ z ≡ todoAfter leads x met todo z
+        here-todo z = e z ∙ go (met z) refl (eqb x z) ∙ ap (λ (l : Bool). pick (met z) (pick (eqb x z) false (todo z)) l) (sym (none z))
+          where
+            off : (t q : Bool) → t ≡ false → pick q false t ≡ false
+            off t true k = refl
+            off t false k = k
+
+            go : (b : Bool) → met z ≡ b → (q : Bool) → pick q false (todo z) ≡ pick b (pick q false (todo z)) false
+            go true k q = refl
+            go false k q = off (todo z) q (unmet z k)
+
+      module _ (new : ℕ → Bool) (some : (z : ℕ) → leads x z ≡ new z) (more : ℕ → Bool) (me : (z : ℕ) → more z ≡ pick (met z) false (new z)) where
+        pub through-met : (met′ : ℕ → Bool) → ((z : ℕ) → met′ z ≡ pick (met z) true (more z)) → (z : ℕ) → met′ z ≡ metAfter leads x met z
+        through-met met′ q z = q z ∙ ap (λ (b : Bool). pick (met z) true b) (me z) ∙ go (met z) (new z) ∙ ap (λ (l : Bool). pick (met z) true l) (sym (some z))
+          where
+            go : (b l : Bool) → pick b true (pick b false l) ≡ pick b true l
+            go true l = refl
+            go false l = refl
+
+        pub through-todo : (todo′ : ℕ → Bool) → ((z : ℕ) → todo′ z ≡ pick (todo₁ z) true (more z)) → (z : ℕ) → todo′ z ≡ todoAfter leads x met todo z
+        through-todo todo′ q z =
+            q z ∙ ap₂ (λ (a b : Bool). pick a true b) (e z) (me z) ∙ go (met z) refl (eqb x z) (new z) ∙ ap (λ (l : Bool). pick (met z) (pick (eqb x z) false (todo z)) l) (sym (some z))
+          where
+            same : (b : Bool) → pick b true false ≡ b
+            same true = refl
+            same false = refl
+
+            off : (t p l : Bool) → t ≡ false → pick (pick p false t) true l ≡ l
+            off t true l k = refl
+            off true false l k = absurd (true≢false k)
+            off false false l k = refl
+
+            go : (b : Bool) → met z ≡ b → (p l : Bool) → pick (pick p false (todo z)) true (pick b false l) ≡ pick b (pick p false (todo z)) l
+            go true k p l = same (pick p false (todo z))
+            go false k p l = off (todo z) p l (unmet z k)
+
+-- ---- in a table
+
+-- The variable passes with m links left, and following ends in it.
+abbrev pub passing : List ℕ → ℕ → Bool → ℕ → Bool
+passing env m deep y = passesSlot deep (environmentOf env y) (linksOf (environmentOf env y) - m)
+
+abbrev pub ending : List ℕ → ℕ → ℕ → Bool
+ending env m y = ownLink (environmentOf env y) (linksOf (environmentOf env y) - m)
+
+abbrev pub Searching : List ℕ → ℕ → ℕ → Bool → Roots → Roots → Roots → Type 0
+Searching env root m deep met todo es = Search (eqb root) (leads (environmentOf env) m) (passing env m deep) (ending env m) (has met) (has todo) (has es)
+
+so-far : (b o : Bool) → o ≡ true → b ≡ pick b o false
+so-far true o e = sym e
+so-far false o e = refl
+
+no-more : (a b o : Bool) → o ≡ false → a ≡ pick a true (pick b o false)
+no-more true b o e = refl
+no-more false true o e = sym e
+no-more false false o e = refl
+
+module _ (env : List ℕ) (n : ℕ) (T : NeatTable env n) (root m : ℕ) (is : environmentOf env root ≡ live (variableAt env root)) (long : m ≤ longAt env root) where
+  abbrev start : Place
+  start = place root (longAt env root - m)
+
+  fits : longAt env root - m ≤ longAt env root
+  fits = omega arith
+
+  -- All that following meets is in scope, and long enough.
+  abbrev InReach : ℕ → Type 0
+  InReach y = (environmentOf env y ≡ live (variableAt env y)) × (m ≤ longAt env y) × (y < n)
+
+  all-reached : (f : ℕ → Bool) × (MetFrom (environmentOf env) m root f) × ((y : ℕ) → f y ≡ true → InReach y)
+  all-reached =
+      let A = all-met (T .1 .1) start (variableAt env root) is fits in
+      let e : longAt env root - (longAt env root - m) ≡ m = omega arith in (
+        rooted (A .0),
+        subst (λ (k : ℕ). MetFrom (environmentOf env) k root (rooted (A .0))) e (roots-met (T .1 .1) start (variableAt env root) is fits (A .0) (A .1)),
+        λ y h.
+            let q = rooted-out (A .0) y h in
+            let L = A .2 .good (q .0) (q .1) in
+            let l : environmentOf env y ≡ live (L .variable) = ap (environmentOf env) (sym (q .2)) ∙ L .is in
+            let s : L .variable ≡ variableAt env y = live-status env y (L .variable) l .1 in
+            let a = length-drop (q .0 .follows) (L .variable .chain) in
+            let b = length-drop (longAt env root - m) (chainOf (linksAt env root)) in
+            let d = ap (λ (ks : List Link). length ks) (L .rest) in
+            let g : length (L .variable .chain) ≡ longAt env y = ap (λ (v : Variable). length (v .chain)) s in
+            (l ∙ ap live s, omega (arith, a, b, d, g, e), T .1 .1 .low y (L .variable) l),
+      )
+
+  module _ (deep : Bool) (met todo es : Roots) (S : Searching env root m deep met todo es) where
+    -- Nothing is left to do.
+    pub search-over : ((y : ℕ) → has todo y ≡ false) → Searched n (environmentOf env) root m deep (ends.At es)
+    search-over none = record {
+      met = has met;
+      is = over (eqb root) (leads (environmentOf env) m) (has met) (has todo) (S .meeting) none;
+      moved = λ e. absurd (let z : 0 ≡ 1 = ap (tagOf the-type) e in omega arith);
+      passed = λ s e. every-root n (has met) (environmentOf env) m (passes deep (environmentOf env)) .1 (λ x l k. S .passed x k (none x));
+      to = λ s e y.
+          let z : es ≡ s = cc in
+          ap (λ (k : Roots). has k y) (sym z) ∙ S .ended y ∙ ap (λ (b : Bool). pick (has met y) (pick b false (ending env m y)) false) (none y);
+    }
+
+    module _ (x : ℕ) (h : has todo x ≡ true) where
+      met-x : all-reached .0 x ≡ true
+      met-x = S .meeting .least (all-reached .0) (all-reached .1 .start) (all-reached .1 .closed) x (S .meeting .inside x h)
+
+      pub in-reach : InReach x
+      in-reach = all-reached .2 x met-x
+
+      module _ (r : Step) (P : Passed deep (variableAt env x) (longAt env x - m) r) where
+        -- One that is met does not pass.
+        pub search-stops : r ≡ step.MovedAway → Searched n (environmentOf env) root m deep ends.MovedAway
+        search-stops e = record {
+          met = all-reached .0;
+          is = all-reached .1;
+          moved = λ k. not-all (every (passes deep (environmentOf env)) (placesOf n (all-reached .0) (lengths (environmentOf env)) m)) refl;
+          passed = λ s k. absurd (let z : 1 ≡ 0 = ap (tagOf the-type) k in omega arith);
+          to = λ s k. absurd (let z : 1 ≡ 0 = ap (tagOf the-type) k in omega arith);
+        }
+          where
+            stops : passing env m deep x ≡ false
+            stops = passes-at env x m (in-reach .0) deep ∙ P .moved e
+
+            not-all : (b : Bool) → every (passes deep (environmentOf env)) (placesOf n (all-reached .0) (lengths (environmentOf env)) m) ≡ b → b ≡ false
+            not-all true k = absurd (true≢false (sym (every-root n (all-reached .0) (environmentOf env) m (passes deep (environmentOf env)) .0 k x (in-reach .2) met-x) ∙ stops))
+            not-all false k = refl
+
+        module _ (todo₁ : Roots) (te : (y : ℕ) → has todo₁ y ≡ pick (eqb x y) false (has todo y)) where
+          abbrev leading : ℕ → ℕ → Bool
+          leading = leads (environmentOf env) m
+
+          module _ (e : r ≡ step.Here) where
+            none : (z : ℕ) → leading x z ≡ false
+            none = leads-nowhere env x m (in-reach .0) (P .here e .1)
+
+            same-met : (z : ℕ) → has met z ≡ metAfter leading x (has met) z
+            same-met = here-met (eqb root) leading (passing env m deep) (ending env m) (has met) (has todo) (has es) S x h (has todo₁) te none
+
+            less-todo : (z : ℕ) → has todo₁ z ≡ todoAfter leading x (has met) (has todo) z
+            less-todo = here-todo (eqb root) leading (passing env m deep) (ending env m) (has met) (has todo) (has es) S x h (has todo₁) te none
+
+            pub here-again : (one es′ : Roots) → ((y : ℕ) → has one y ≡ eqb x y) → ((y : ℕ) → has es′ y ≡ pick (has es y) true (has one y)) → Searching env root m deep met todo₁ es′
+            here-again one es′ oe ee =
+                search-round (eqb root) leading (passing env m deep) (ending env m) (has met) (has todo) (has es) S x h (has met) (has todo₁) same-met less-todo (has es′)
+                (passes-at env x m (in-reach .0) deep ∙ P .here e .0)
+                (λ y. ee y ∙ ap (λ (b : Bool). pick (has es y) true b) (oe y ∙ so-far (eqb x y) (ending env m x) (ends-at env x m (in-reach .0) (P .here e .1))))
+
+            pub here-less : count (waiting (has met) (has todo₁)) n < count (waiting (has met) (has todo)) n
+            here-less =
+                let z = search-less (eqb root) leading (passing env m deep) (ending env m) (has met) (has todo) (has es) S x h (has met) (has todo₁) same-met less-todo n (in-reach .2) in
+                omega (arith, z)
+
+          module _ (e : r ≡ step.Through) (roots more met′ todo′ : Roots) (re : roots ≡ rootsAt env x) (me : (z : ℕ) → has more z ≡ pick (has met z) false (has roots z)) (met-is : (z : ℕ) → has met′ z ≡ pick (has met z) true (has more z)) (todo-is : (z : ℕ) → has todo′ z ≡ pick (has todo₁ z) true (has more z)) where
+            some : (z : ℕ) → leading x z ≡ has roots z
+            some z = leads-to-roots env x m (in-reach .0) (P .through e .1) z ∙ ap (λ (k : Roots). has k z) (sym re)
+
+            more-met : (z : ℕ) → has met′ z ≡ metAfter leading x (has met) z
+            more-met = through-met (eqb root) leading (passing env m deep) (ending env m) (has met) (has todo) (has es) S x h (has todo₁) te (has roots) some (has more) me (has met′) met-is
+
+            more-todo : (z : ℕ) → has todo′ z ≡ todoAfter leading x (has met) (has todo) z
+            more-todo = through-todo (eqb root) leading (passing env m deep) (ending env m) (has met) (has todo) (has es) S x h (has todo₁) te (has roots) some (has more) me (has todo′) todo-is
+
+            pub through-again : Searching env root m deep met′ todo′ es
+            through-again =
+                search-round (eqb root) leading (passing env m deep) (ending env m) (has met) (has todo) (has es) S x h (has met′) (has todo′) more-met more-todo (has es)
+                (passes-at env x m (in-reach .0) deep ∙ P .through e .0)
+                (λ y. no-more (has es y) (eqb x y) (ending env m x) (passed-at env x m (in-reach .0) (P .through e .1)))
+
+            pub through-less : count (waiting (has met′) (has todo′)) n < count (waiting (has met) (has todo)) n
+            through-less =
+                let z = search-less (eqb root) leading (passing env m deep) (ending env m) (has met) (has todo) (has es) S x h (has met′) (has todo′) more-met more-todo n (in-reach .2) in
+                omega (arith, z)
+
+-- Whole is what the search to the end of the links says, each variable met being asked for all of it.
+pub whole-found : (env : List ℕ) (n : ℕ) → NeatTable env n → (x : ℕ) → environmentOf env x ≡ live (variableAt env x) → (r : Ends) → Searched n (environmentOf env) x 0 true r
+    → ((s : Roots) → r ≡ ends.At s → true ≡ valueWhole n (environmentOf env) x (variableAt env x)) × (r ≡ ends.MovedAway → false ≡ valueWhole n (environmentOf env) x (variableAt env x))
+unfolding passesSlot
+whole-found env n T x is r S =
+    let z : longAt env x - longAt env x ≡ 0 = omega arith in
+    let l : longAt env x ≤ longAt env x = omega arith in
+    let W = whole-by-roots (T .1 .1) (place x (longAt env x)) (variableAt env x) is l (S .met) (subst (λ (k : ℕ). MetFrom (environmentOf env) k x (S .met)) (sym z) (S .is)) refl in
+    let found = W ∙ ap (λ (k : ℕ). every (λ q. wholeSlot (environmentOf env (q .root))) (placesOf n (S .met) (lengths (environmentOf env)) k)) z in
+    (λ s e. sym (found ∙ S .passed s e), λ e. sym (found ∙ S .moved e))
+
+-- ---- the roots that the variables of a set record
+
+-- All those of the variables that are not left are in, and nothing else.
+pub record Gathering (env : List ℕ) (to roots left : Roots) : Type 0 where
+  pub inside : (y : ℕ) → has left y ≡ true → has to y ≡ true
+  pub within : (y x : ℕ) → has to y ≡ true → has left y ≡ false → has (rootsAt env y) x ≡ true → has roots x ≡ true
+  pub from : (x : ℕ) → has roots x ≡ true → (y : ℕ) × (has to y ≡ true) × (has (rootsAt env y) x ≡ true)
+
+module _ (env : List ℕ) (to : Roots) where
+  pub gather-begins : (roots : Roots) → ((x : ℕ) → has roots x ≡ false) → Gathering env to roots to
+  gather-begins roots z = record {
+    inside = λ y h. h;
+    within = λ y x h k l. absurd (true≢false (sym h ∙ k));
+    from = λ x h. absurd (true≢false (sym h ∙ z x));
+  }
+
+  module _ (roots left : Roots) (G : Gathering env to roots left) where
+    pub gather-round : (x : ℕ) → has left x ≡ true → (more roots′ left′ : Roots) → more ≡ rootsAt env x → ((z : ℕ) → has roots′ z ≡ pick (has roots z) true (has more z))
+        → ((y : ℕ) → has left′ y ≡ pick (eqb x y) false (has left y)) → Gathering env to roots′ left′
+    gather-round x h more roots′ left′ me re le = record {
+      inside = λ y k. G .inside y (still (eqb x y) (has left y) (sym (le y) ∙ k));
+      within = λ y z k l g. added y z (eqb x y) refl (has left y) refl k (sym (le y) ∙ l) g;
+      from = λ z k. came z (has roots z) refl (sym (re z) ∙ k);
+    }
+      where
+        still : (q b : Bool) → pick q false b ≡ true → b ≡ true
+        still true b k = absurd (false≢true k)
+        still false b k = k
+
+        either : (a b : Bool) → b ≡ true → pick a true b ≡ true
+        either true b k = refl
+        either false b k = k
+
+        first : (a b : Bool) → a ≡ true → pick a true b ≡ true
+        first true b k = refl
+        first false b k = absurd (false≢true k)
+
+        more-is : (z : ℕ) → has more z ≡ has (rootsAt env x) z
+        more-is z = ap (λ (k : Roots). has k z) me
+
+        added : (y z : ℕ) (q : Bool) → eqb x y ≡ q → (b : Bool) → has left y ≡ b → has to y ≡ true → pick q false b ≡ false → has (rootsAt env y) z ≡ true → has roots′ z ≡ true
+        added y z true q b e k l g = re z ∙ either (has roots z) (has more z) (more-is z ∙ ap (λ (w : ℕ). has (rootsAt env w) z) (eqb-true x y q) ∙ g)
+        added y z false q b e k l g = re z ∙ first (has roots z) (has more z) (G .within y z k (e ∙ l) g)
+
+        came : (z : ℕ) (b : Bool) → has roots z ≡ b → pick b true (has more z) ≡ true → (y : ℕ) × (has to y ≡ true) × (has (rootsAt env y) z ≡ true)
+        came z true e k = G .from z e
+        came z false e k = (x, G .inside x h, sym (more-is z) ∙ k)
+
+    pub gather-over : ((y : ℕ) → has left y ≡ false) → BorrowedAt env to roots
+    gather-over none = record { within = λ y x h k. G .within y x h (none y) k; from = G .from }

@@ -1,0 +1,238 @@
+-- Assigns: every variable that may be written, and what is known after the write to one or to several.
+use Prim.Native.Nat.{ℕ, _-_, _^_, _<_}
+use native.Mathlib.Omega.{arith}
+use native.Mathlib.Decide.{ℕ-discrete}
+use mathlib.Core.Path.{_≡_, refl, sym, ap, ap₂, fun-ext, _∙_, subst}
+use mathlib.Core.Logic.{_⊎_, inl, inr}
+use mathlib.Core.Bool.{Bool, true, false, false≢true, true≢false}
+use mathlib.Core.List.{List, [], _∷_}
+use lib.Dec.{leb, eqb}
+use borrow.Author.Tests.{eqb-true, eq-eqb, ne-eqb}
+use Rattle.reader.specs.Result.{pick}
+use Rattle.reader.specs.Script.{Place}
+use Rattle.rules.specs.declared.roots.Roots.{Roots}
+use Rattle.rules.specs.Places.{every, someOf, rooted}
+use Rattle.rules.specs.Environment.{Borrow, Slot, Environment, update, refilled, widened, single, write, levelOf}
+use Rattle.rules.specs.Neat.{place, Among}
+use Rattle.rules.specs.Roots.{lengths, placeAt, placesFrom, placesOf}
+use Rattle.rules.specs.Chains.{chainOf}
+use Rattle.rules.specs.Masks.{has, isEmpty}
+use Rattle.rules.specs.Table.{environmentOf, linksAt, longAt, endIn, SameLinks, WidenedAll, Written}
+use Rattle.rules.proofs.Answers.{same-bool}
+use Rattle.rules.proofs.Slots.{update-same, update-other}
+use Rattle.rules.proofs.SetLaws.{every-in, rooted-in, rooted-out}
+use Rattle.rules.proofs.SetEquality.{all-pass}
+use Rattle.rules.proofs.RootLaws.{same-roots, from-out, from-in}
+use Rattle.rules.proofs.RootSets.{one-place}
+use Rattle.rules.proofs.MaskLaws.{none-in, some-in}
+use Rattle.rules.proofs.EndRoots.{end-links}
+
+-- ---- a number taken out of a set
+
+abbrev pub Without : Roots → ℕ → Roots → Type 0
+Without left x left′ = (y : ℕ) → has left′ y ≡ pick (eqb x y) false (has left y)
+
+module _ (left left′ : Roots) (x : ℕ) (W : Without left x left′) where
+  out-self : has left′ x ≡ false
+  out-self = W x ∙ ap (λ (b : Bool). pick b false (has left x)) (eq-eqb x x refl)
+
+  out-other : (y : ℕ) → (x ≡ y → ⊥) → has left′ y ≡ has left y
+  out-other y n = W y ∙ ap (λ (b : Bool). pick b false (has left y)) (ne-eqb x y n)
+
+  out-kept : (y : ℕ) → has left′ y ≡ true → (x ≡ y → ⊥) × (has left y ≡ true)
+  out-kept y h = go (ℕ-discrete x y)
+    where
+      go : Dec (x ≡ y) → (x ≡ y → ⊥) × (has left y ≡ true)
+      go (yes e) = absurd (false≢true (sym out-self ∙ ap (has left′) e ∙ h))
+      go (no n) = (n, sym (out-other y n) ∙ h)
+
+-- ---- something checked for each number of a set, one after the other
+
+-- What is still to be checked is in the set, and the others are checked.
+abbrev pub Checked : Roots → Roots → (ℕ → Type 0) → Type 0
+Checked to left J = ((y : ℕ) → has left y ≡ true → has to y ≡ true) × ((y : ℕ) → has to y ≡ true → has left y ≡ false → J y)
+
+pub checked-first : (to : Roots) (J : ℕ → Type 0) → Checked to to J
+checked-first to J = (λ y h. h, λ y h k. absurd (true≢false (sym h ∙ k)))
+
+pub checked-next : (to left left′ : Roots) (J : ℕ → Type 0) (x : ℕ) → Without left x left′ → J x → Checked to left J → Checked to left′ J
+checked-next to left left′ J x W j C = (λ y h. C .0 y (out-kept left left′ x W y h .1), λ y h k. go y h k (ℕ-discrete x y))
+  where
+    go : (y : ℕ) → has to y ≡ true → has left′ y ≡ false → Dec (x ≡ y) → J y
+    go y h k (yes e) = subst J e j
+    go y h k (no n) = C .1 y h (sym (out-other left left′ x W y n) ∙ k)
+
+pub checked-all : (to left : Roots) (J : ℕ → Type 0) → isEmpty left ≡ true → Checked to left J → (y : ℕ) → has to y ≡ true → J y
+checked-all to left J h C y k = C .1 y k (none-in left h y)
+
+-- A test on the roots of places.
+module _ (n : ℕ) (f : ℕ → Bool) (long : ℕ → ℕ) (m : ℕ) (g : ℕ → Bool) where
+  all-hold : ((x : ℕ) → f x ≡ true → g x ≡ true) → every (λ q. g (q .root)) (placesOf n f long m) ≡ true
+  unfolding placesOf
+  all-hold h = all-pass (λ q. g (q .root)) (placesFrom f long m 0 n) (λ q i. h (q .root) (from-out f long m 0 n q i .2))
+
+  one-fails : (x : ℕ) → x < n → f x ≡ true → g x ≡ false → every (λ q. g (q .root)) (placesOf n f long m) ≡ false
+  unfolding placesOf
+  one-fails x l e h = go (every (λ q. g (q .root)) (placesFrom f long m 0 n)) refl
+    where
+      go : (b : Bool) → every (λ q. g (q .root)) (placesFrom f long m 0 n) ≡ b → b ≡ false
+      go true k = absurd (true≢false (sym (every-in (λ q. g (q .root)) (placeAt long m x) (placesFrom f long m 0 n) k (from-in f long m 0 n x (omega arith) (omega arith) e)) ∙ h))
+      go false k = refl
+
+-- ---- roots that live long enough for a variable
+
+abbrev livesFor : List ℕ → Roots → ℕ → ℕ → Bool
+livesFor env roots m level = every (λ p. leb (levelOf (environmentOf env (p .root))) level) (placesOf 128 (has roots) (longAt env) m)
+
+abbrev pub LivesFor : List ℕ → Roots → ℕ → Type 0
+LivesFor env roots y = (m : ℕ) → livesFor env roots m (levelOf (environmentOf env y)) ≡ true
+
+module _ (env : List ℕ) (roots : Roots) (x level : ℕ) (is : level ≡ levelOf (environmentOf env x)) (r : Bool) (asked : (m : ℕ) → r ≡ livesFor env roots m level) where
+  pub long-lived : r ≡ true → LivesFor env roots x
+  long-lived h m = ap (livesFor env roots m) (sym is) ∙ sym (asked m) ∙ h
+
+  pub too-short : (n : ℕ) (to : Roots) → r ≡ false → x < n → has to x ≡ true
+      → (m k : ℕ) → false ≡ every (λ q. livesFor env roots m (levelOf (environmentOf env (q .root)))) (placesOf n (has to) (lengths (environmentOf env)) k)
+  too-short n to h l i m k =
+      sym (one-fails n (has to) (lengths (environmentOf env)) k (λ y. livesFor env roots m (levelOf (environmentOf env y))) x l i
+      (ap (livesFor env roots m) (sym is) ∙ sym (asked m) ∙ h))
+
+pub all-long : (env : List ℕ) (roots : Roots) (n : ℕ) (to : Roots) → ((y : ℕ) → has to y ≡ true → LivesFor env roots y)
+    → (m k : ℕ) → true ≡ every (λ q. livesFor env roots m (levelOf (environmentOf env (q .root)))) (placesOf n (has to) (lengths (environmentOf env)) k)
+all-long env roots n to h m k = sym (all-hold n (has to) (lengths (environmentOf env)) k (λ y. livesFor env roots m (levelOf (environmentOf env y))) (λ y i. h y i m))
+
+-- ---- several variables that may be written
+
+-- Those of the set that are not left are widened, all others as before.
+pub record Widening (env₀ : List ℕ) (to left s : Roots) (env : List ℕ) : Type 0 where
+  pub within : (y : ℕ) → has left y ≡ true → has to y ≡ true
+  pub done : (y : ℕ) → has to y ≡ true → has left y ≡ false → environmentOf env y ≡ widened (environmentOf env₀ y) (endIn env₀ (chainOf (linksAt env₀ y)) s)
+  pub rest : (y : ℕ) → has left y ≡ true → environmentOf env y ≡ environmentOf env₀ y
+  pub out : (y : ℕ) → has to y ≡ false → environmentOf env y ≡ environmentOf env₀ y
+  pub links : SameLinks env₀ env
+
+pub widening-first : (env : List ℕ) (to s : Roots) → Widening env to to s env
+widening-first env to s = record { within = λ y h. h; done = λ y h k. absurd (true≢false (sym h ∙ k)); rest = λ y h. refl; out = λ y h. refl; links = λ y. refl }
+
+pub widening-next : (env₀ env env′ : List ℕ) (to left left′ s : Roots) (x : ℕ) → has left x ≡ true → Without left x left′
+    → environmentOf env′ ≡ update (environmentOf env) x (widened (environmentOf env x) (endIn env (chainOf (linksAt env x)) s)) → SameLinks env env′
+    → Widening env₀ to left s env → Widening env₀ to left′ s env′
+widening-next env₀ env env′ to left left′ s x h W E L I = record {
+  within = λ y k. I .within y (out-kept left left′ x W y k .1);
+  done = λ y k j. go y k j (ℕ-discrete x y);
+  rest = λ y k. let o = out-kept left left′ x W y k in other y (o .0) ∙ I .rest y (o .1);
+  out = λ y k. other y (λ e. true≢false (sym (I .within x h) ∙ ap (has to) e ∙ k)) ∙ I .out y k;
+  links = λ y. L y ∙ I .links y;
+}
+  where
+    other : (y : ℕ) → (x ≡ y → ⊥) → environmentOf env′ y ≡ environmentOf env y
+    other y n = ap (λ (Γ : Environment). Γ y) E ∙ update-other (environmentOf env) x (widened (environmentOf env x) (endIn env (chainOf (linksAt env x)) s)) y (λ e. n (sym e))
+
+    here : environmentOf env′ x ≡ widened (environmentOf env₀ x) (endIn env₀ (chainOf (linksAt env₀ x)) s)
+    here =
+        ap (λ (Γ : Environment). Γ x) E
+        ∙ update-same (environmentOf env) x (widened (environmentOf env x) (endIn env (chainOf (linksAt env x)) s))
+        ∙ ap₂ (λ (sl : Slot) (b : Borrow). widened sl b) (I .rest x h) (ap (λ (k : ℕ). endIn env (chainOf k) s) (I .links x) ∙ end-links env₀ env (chainOf (linksAt env₀ x)) s (I .links))
+
+    go : (y : ℕ) → has to y ≡ true → has left′ y ≡ false → Dec (x ≡ y) → environmentOf env′ y ≡ widened (environmentOf env₀ y) (endIn env₀ (chainOf (linksAt env₀ y)) s)
+    go y k j (yes e) = subst (λ (z : ℕ). environmentOf env′ z ≡ widened (environmentOf env₀ z) (endIn env₀ (chainOf (linksAt env₀ z)) s)) e here
+    go y k j (no n) = other y n ∙ I .done y k (sym (out-other left left′ x W y n) ∙ j)
+
+pub widening-over : (env₀ env : List ℕ) (to left s : Roots) → isEmpty left ≡ true → Widening env₀ to left s env → WidenedAll env₀ to s env
+widening-over env₀ env to left s h I = record { in-set = λ x k. I .done x k (none-in left h x); out-of-set = I .out; links = I .links }
+
+-- ---- a write, by the set of the variables
+
+module _ (n : ℕ) (f : ℕ → Bool) (low : (y : ℕ) → f y ≡ true → y < n) (long : ℕ → ℕ) (m : ℕ) where
+  pub rooted-set : (y : ℕ) → rooted (placesOf n f long m) y ≡ f y
+  unfolding placesOf
+  rooted-set y = same-bool (rooted (placesFrom f long m 0 n) y) (f y)
+      (λ h. let k = rooted-out (placesFrom f long m 0 n) y h in ap f (sym (k .2)) ∙ from-out f long m 0 n (k .0) (k .1) .2)
+      (λ h. rooted-in (placeAt long m y) (placesFrom f long m 0 n) (from-in f long m 0 n y (omega arith) (let z = low y h in omega arith) h))
+
+  -- One alone: any two are the same.
+  single-once : (ps : List Place) → single ps ≡ true → (p q : Place) → Among p ps → Among q ps → p ≡ q
+  single-once [] h p q i j = absurd i
+  single-once (r ∷ []) h p q i j = alone i j
+    where
+      alone : (p ≡ r) ⊎ ⊥ → (q ≡ r) ⊎ ⊥ → p ≡ q
+      alone (inl a) (inl b) = a ∙ sym b
+      alone (inl a) (inr b) = absurd b
+      alone (inr a) b = absurd a
+  single-once (r ∷ s ∷ ps) h p q i j = absurd (false≢true h)
+
+  single-set : single (placesOf n f long m) ≡ true → (x y : ℕ) → f x ≡ true → f y ≡ true → x ≡ y
+  unfolding placesOf
+  single-set h x y e k =
+      ap (λ (p : Place). p .root) (single-once (placesFrom f long m 0 n) h (placeAt long m x) (placeAt long m y)
+      (from-in f long m 0 n x (omega arith) (let z = low x e in omega arith) e)
+      (from-in f long m 0 n y (omega arith) (let z = low y k in omega arith) k))
+
+write-one : (Γ : Environment) (x r : ℕ) (b : Borrow) (y : ℕ) → write Γ (place x r ∷ []) b y ≡ update Γ x (refilled (Γ x) b) y
+unfolding write rooted someOf update
+write-one Γ x r b y = go (eqb x y) refl
+  where
+    go : (c : Bool) → eqb x y ≡ c → pick (pick c true false) (refilled (Γ y) b) (Γ y) ≡ pick c (refilled (Γ x) b) (Γ y)
+    go true e = ap (λ (z : ℕ). refilled (Γ z) b) (sym (eqb-true x y e))
+    go false e = refl
+
+module _ (env env′ : List ℕ) (n : ℕ) (to s : Roots) (low : (y : ℕ) → has to y ≡ true → y < n) where
+  pub written-none : isEmpty to ≡ true → Written env n to s env
+  unfolding write
+  written-none h = record {
+    is = λ b m k. fun-ext (λ y.
+        let qs = placesOf n (has to) (lengths (environmentOf env)) m in
+        ap (λ (c : Bool). pick c (pick (single qs) (refilled (environmentOf env y) b) (widened (environmentOf env y) b)) (environmentOf env y))
+        (sym (rooted-set n (has to) low (lengths (environmentOf env)) m y ∙ none-in to h y)));
+    links = λ y. refl;
+  }
+
+  module _ (rest : Roots) (x : ℕ) (i : has to x ≡ true) (W : Without to x rest) where
+    pub written-one : isEmpty rest ≡ true → environmentOf env′ ≡ update (environmentOf env) x (refilled (environmentOf env x) (endIn env (chainOf (linksAt env x)) s)) → SameLinks env env′
+        → Written env n to s env′
+    written-one h E L = record {
+      is = λ b m k. fun-ext (λ y.
+          ap (λ (Γ : Environment). Γ y) E
+          ∙ ap (λ (c : Borrow). update (environmentOf env) x (refilled (environmentOf env x) c) y) (k x i)
+          ∙ sym (write-one (environmentOf env) x (lengths (environmentOf env) x - m) b y)
+          ∙ ap (λ (qs : List Place). write (environmentOf env) qs b y) (only-one m));
+      links = L;
+    }
+      where
+        alone : (y : ℕ) → has to y ≡ eqb x y
+        alone y = same-bool (has to y) (eqb x y) (λ j. go j (ℕ-discrete x y)) (λ e. ap (has to) (sym (eqb-true x y e)) ∙ i)
+          where
+            go : has to y ≡ true → Dec (x ≡ y) → eqb x y ≡ true
+            go j (yes e) = eq-eqb x y e
+            go j (no d) = absurd (true≢false (sym j ∙ sym (out-other to rest x W y d) ∙ none-in rest h y))
+
+        only-one : (m : ℕ) → place x (lengths (environmentOf env) x - m) ∷ [] ≡ placesOf n (has to) (lengths (environmentOf env)) m
+        only-one m =
+            one-place n (place x (lengths (environmentOf env) x - m)) (lengths (environmentOf env)) m (low x i) refl
+            ∙ same-roots n (eqb x) (has to) (lengths (environmentOf env)) (lengths (environmentOf env)) m (λ y. sym (alone y)) (λ y j. refl)
+
+    pub written-several : rest .low < 2 ^ 64 → rest .high < 2 ^ 64 → isEmpty rest ≡ false → WidenedAll env to s env′ → Written env n to s env′
+    unfolding write
+    written-several l g h E = record {
+      is = λ b m k. fun-ext (λ y.
+          let qs = placesOf n (has to) (lengths (environmentOf env)) m in
+          at b y (λ j. k y j) (has to y) refl
+          ∙ ap₂ (λ (c d : Bool). pick c (pick d (refilled (environmentOf env y) b) (widened (environmentOf env y) b)) (environmentOf env y))
+          (sym (rooted-set n (has to) low (lengths (environmentOf env)) m y)) (sym (not-single m (single qs) refl)));
+      links = E .links;
+    }
+      where
+        at : (b : Borrow) (y : ℕ) → (has to y ≡ true → endIn env (chainOf (linksAt env y)) s ≡ b) → (c : Bool) → has to y ≡ c
+            → environmentOf env′ y ≡ pick c (widened (environmentOf env y) b) (environmentOf env y)
+        at b y k true e = E .in-set y e ∙ ap (λ (d : Borrow). widened (environmentOf env y) d) (k e)
+        at b y k false e = E .out-of-set y e
+
+        not-single : (m : ℕ) (c : Bool) → single (placesOf n (has to) (lengths (environmentOf env)) m) ≡ c → c ≡ false
+        not-single m true e = absurd (true≢false (sym (some-in rest l g (λ y. none y (has rest y) refl)) ∙ h))
+          where
+            none : (y : ℕ) (c : Bool) → has rest y ≡ c → c ≡ false
+            none y true j =
+                let o = out-kept to rest x W y j in
+                absurd (o .0 (single-set n (has to) low (lengths (environmentOf env)) m e x y i (o .1)))
+            none y false j = refl
+        not-single m false e = refl

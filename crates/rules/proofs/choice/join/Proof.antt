@@ -1,0 +1,123 @@
+-- `rules::choice::join` meets its contract. The loop: rows before x are joined with what was kept, from x on all is as at first. Assumes nothing.
+use Prim.Native.Nat.{_-_, _≤_}
+use native.Mathlib.Omega.{arith}
+use mathlib.Core.Path.{_≡_, refl, subst, _∙_}
+use lib.ListN.{length}
+use borrow.Author.Needs.{needs}
+use Rattle.rules.specs.Table.{Noted}
+use Rattle.rules.proofs.RowLaws.{fixed-links}
+use Rattle.rules.proofs.ChoiceLaws.{Joining, joining-first, joining-round, joined-is}
+use Rattle.rules.proofs.choice.join.Statement.{statement}
+use Rattle.rules.proofs.choice.join.Tie as tie
+
+abbrev Inv-loop : tie.InvT-loop
+Inv-loop env₀ variables kept count x₀ env x = (x ≤ count) × (length env ≡ length env₀) × Noted env variables × Joining env₀ kept x env
+
+abbrev μ-loop : tie.MeasureT-loop
+μ-loop env₀ variables kept count x₀ env x = count - x
+
+loop-holds : tie.Need-loop-holds Inv-loop μ-loop
+loop-holds c = (omega arith, refl, c .before .before .pre .0 .0 .2, joining-first _ _)
+
+mul-move-earlier : tie.Need-mul-move-earlier Inv-loop μ-loop
+mul-move-earlier c = omega (arith, c .before .before .before .before .before .pre .1, c .before .before .before .before .before .pre .0 .0 .1)
+
+mul-move-earlier-2 : tie.Need-mul-move-earlier-2 Inv-loop μ-loop
+mul-move-earlier-2 c = omega (arith, c .before .before .before .before .before .pre .1, c .before .before .before .before .before .pre .0 .0 .1)
+
+shared-slice-read-move-earlier : tie.Need-shared-slice-read-move-earlier Inv-loop μ-loop
+shared-slice-read-move-earlier c = omega (arith, c .before .before .before .before .before .before .pre .2)
+
+move-earlier-requires : tie.Need-move-earlier-requires Inv-loop μ-loop
+move-earlier-requires c κs =
+    let at-test = c .before .before in
+    let at-loop = at-test .before in
+    let start = at-loop .before .before .before in
+    omega (arith, at-test .loop-test .taken, at-loop .loop .inv .1, start .pre .0 .0 .0, start .pre .1)
+
+kept-roots-requires : tie.Need-kept-roots-requires Inv-loop μ-loop
+kept-roots-requires c κs = omega (arith, c .before .before .before .before .before .before .before .before .before .pre .2)
+
+roots-at-requires : tie.Need-roots-at-requires Inv-loop μ-loop
+roots-at-requires c κs =
+    let at-test = c .before .before .before .before .before .before .before in
+    let at-loop = at-test .before in
+    let start = at-loop .before .before .before in
+    omega (arith, at-test .loop-test .taken, at-loop .loop .inv .1, start .pre .0 .0 .0, start .pre .1, c .before .before .before .before .move-earlier .kept .0)
+
+unite-requires : tie.Need-unite-requires Inv-loop μ-loop
+unite-requires c κs = search needs
+
+put-roots-requires : tie.Need-put-roots-requires Inv-loop μ-loop
+put-roots-requires c κs =
+    let at-test = c .before .before .before .before .before .before .before .before .before .before in
+    let at-loop = at-test .before in
+    let start = at-loop .before .before .before in
+    omega (arith, at-test .loop-test .taken, at-loop .loop .inv .1, start .pre .0 .0 .0, start .pre .1, c .before .before .before .before .before .before .before .move-earlier .kept .0)
+
+note-holder-requires : tie.Need-note-holder-requires Inv-loop μ-loop
+note-holder-requires c κs =
+    let at-test = c .before .before .before .before .before .before .before .before .before .before .before .before .before .before in
+    let at-loop = at-test .before in
+    let start = at-loop .before .before .before in
+    (omega (arith, at-loop .loop .inv .1, start .pre .0 .0 .0, c .before .before .before .before .before .before .before .before .before .before .before .move-earlier .kept .0, c .before .before .before .put-roots .kept .0), omega (arith, at-test .loop-test .taken, start .pre .1, start .pre .0 .0 .1))
+
+add-x : tie.Need-add-x Inv-loop μ-loop
+add-x c =
+    let at-test = c .before .before .before .before .before .before .before .before .before .before .before .before .before .before .before .before .before in
+    let at-loop = at-test .before in
+    let start = at-loop .before .before .before in
+    omega (arith, at-test .loop-test .taken, start .pre .1, start .pre .0 .0 .1)
+
+loop-less : tie.Need-loop-less Inv-loop μ-loop
+loop-less c = omega (arith, c .before .before .before .before .before .before .before .before .before .before .before .before .before .before .before .before .before .loop-test .taken)
+
+loop-again : tie.Need-loop-again Inv-loop μ-loop
+loop-again c =
+    let at-note = c .before .before in
+    let at-put-roots = at-note .before .before .before .before in
+    let at-unite = at-put-roots .before .before in
+    let at-roots-at = at-unite .before in
+    let at-kept-roots = at-roots-at .before .before in
+    let at-move = at-kept-roots .before .before .before in
+    let at-test = at-move .before .before .before in
+    let at-loop = at-test .before in
+    let start = at-loop .before .before .before in
+    let round =
+    joining-round _ (start .args .env .now) (start .args .kept .now) _ (at-loop .loop .env) (at-move .move-earlier .last .0) (at-put-roots .put-roots .last .0) (at-note .note-holder .last .0) _ _ _ _ refl
+    (at-roots-at .roots-at .ensures) (at-kept-roots .kept-roots .ensures) (at-unite .unite .ensures) (at-move .move-earlier .ensures) (at-put-roots .put-roots .ensures) (at-note .note-holder .ensures)
+    (at-loop .loop .inv .2) (at-loop .loop .inv .3) in
+    (omega (arith, at-test .loop-test .taken), at-note .note-holder .kept .0 ∙ at-put-roots .put-roots .kept .0 ∙ at-move .move-earlier .kept .0 ∙ at-loop .loop .inv .1, round .0, round .1)
+
+same-length : tie.Need-same-length Inv-loop μ-loop
+same-length c = c .before .loop .inv .1
+
+returns : tie.Need-returns Inv-loop μ-loop
+returns c =
+    let at-loop = c .before in
+    let start = at-loop .before .before .before in
+    let all : at-loop .loop .x ≡ start .args .count = omega (arith, c .loop-test .left, at-loop .loop .inv .0) in
+    let J = subst (λ x. Joining (start .args .env .now) (start .args .kept .now) x (at-loop .loop .env)) all (at-loop .loop .inv .3) in
+    (λ Γ Γ₁ level N K S₁ S₂. joined-is _ level _ _ _ _ J Γ Γ₁ N K S₁ S₂, (at-loop .loop .inv .1 ∙ start .pre .0 .0 .0, start .pre .0 .0 .1, at-loop .loop .inv .2), fixed-links (start .args .env .now) (at-loop .loop .env) (at-loop .loop .inv .3 .fixed))
+
+pub join-spec : {M : Type 1} → statement M
+join-spec =
+    tie.close
+    (tie.spec
+    Inv-loop
+    μ-loop
+    loop-holds
+    mul-move-earlier
+    mul-move-earlier-2
+    shared-slice-read-move-earlier
+    move-earlier-requires
+    kept-roots-requires
+    roots-at-requires
+    unite-requires
+    put-roots-requires
+    note-holder-requires
+    add-x
+    loop-less
+    loop-again
+    same-length
+    returns)

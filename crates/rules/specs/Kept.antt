@@ -1,0 +1,36 @@
+-- What is kept of the variables while the other block of a choice is judged (LANGUAGE 3.31): from where each is moved away, and the roots that it
+-- records, 3 words to each of the first `count` numbers. No rule of the language is stated here.
+use Prim.Native.Nat.{ℕ, _+_, _*_, _<_}
+use mathlib.Core.Path.{_≡_}
+use mathlib.Core.List.{List}
+use lib.ListN.{getD}
+use Rattle.rules.specs.declared.roots.Roots.{Roots}
+use Rattle.rules.specs.Environment.{borrowEnd, Variable, used, live, Environment}
+use Rattle.rules.specs.Roots.{lengths, placesOf, left}
+use Rattle.rules.specs.Masks.{has}
+
+abbrev pub keptMovedFrom : List ℕ → ℕ → ℕ
+keptMovedFrom kept x = getD kept (x * 3) 0
+
+abbrev pub keptRoots : List ℕ → ℕ → Roots
+keptRoots kept x = record { low = getD kept (x * 3 + 1) 0; high = getD kept (x * 3 + 2) 0 }
+
+-- The words kept say what changes of the variables in scope; links and levels do not.
+pub record Kept (kept : List ℕ) (count : ℕ) (Γ : Environment) (x : ℕ) (v : Variable) : Type 0 where
+  pub low : x < count
+  pub movedFrom : v .movedFrom ≡ keptMovedFrom kept x
+  pub borrow : v .borrow ≡ borrowEnd (v .chain) (placesOf 128 (has (keptRoots kept x)) (lengths Γ) (left (v .chain)))
+
+abbrev pub KeepsAll : List ℕ → ℕ → Environment → Type 0
+KeepsAll kept count Γ = (x : ℕ) (v : Variable) → Γ x ≡ live v → Kept kept count Γ x v
+
+-- In scope after a block is who was in scope before it, with the same links and level; numbers taken stay taken.
+pub record Stays (Γ Γ′ : Environment) : Type 0 where
+  pub lives : (x : ℕ) (v : Variable) → Γ x ≡ live v → (w : Variable) × (Γ′ x ≡ live w) × (w .chain ≡ v .chain) × (w .level ≡ v .level)
+  pub lived : (x : ℕ) (w : Variable) → Γ′ x ≡ live w → (v : Variable) × (Γ x ≡ live v)
+  pub taken : (x : ℕ) → Γ x ≡ used → Γ′ x ≡ used
+
+-- The words of x put.
+pub record PutKept (kept : List ℕ) (x d : ℕ) (s : Roots) (kept′ : List ℕ) : Type 0 where
+  pub here : (keptMovedFrom kept′ x ≡ d) × (keptRoots kept′ x ≡ s)
+  pub there : (y : ℕ) → (y ≡ x → ⊥) → (keptMovedFrom kept′ y ≡ keptMovedFrom kept y) × (keptRoots kept′ y ≡ keptRoots kept y)

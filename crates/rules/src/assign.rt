@@ -1,0 +1,118 @@
+// Assign (LANGUAGE 3.25): a write to the one variable that a place leads to, or to one of several.
+ghost use mathlib.Core.Path.{_≡_};
+ghost use mathlib.Core.Bool.{true};
+ghost use Prim.Native.Nat.{ℕ, _<_};
+ghost use lib.Dec.{leb};
+ghost use Rattle.rules.specs.Places.{every};
+ghost use Rattle.rules.specs.Environment.{levelOf};
+ghost use Rattle.rules.specs.Rules.{judgeAssign};
+ghost use Rattle.rules.specs.Neat.{NeatValue};
+ghost use Rattle.rules.specs.Roots.{lengths, placesOf};
+ghost use Rattle.rules.specs.Masks.{has};
+ghost use Rattle.rules.specs.Table.{TableFor, environmentOf, longAt, WidenedAll, Written, asPlace};
+ghost use Rattle.rules.specs.Verdicts.{NeatTable, asValue, answered};
+use crate::bars::write_barred;
+use crate::chains::no_shared;
+use crate::environment::level_at;
+use crate::environment::lives_at;
+use crate::environment::recorded_roots;
+use crate::notes::refill;
+use crate::notes::widen;
+use crate::refusals;
+use crate::roots::Roots;
+use crate::roots::is_empty;
+use crate::roots::lowest;
+use crate::roots::without;
+use crate::rules::Located;
+use crate::rules::judge_place;
+use crate::table::Place;
+use crate::verdicts::Value;
+use crate::verdicts::Verdict;
+use reader::fields::index_of;
+
+// The roots live long enough for each variable that may be written (40; LANGUAGE 3.25).
+fn live_long_enough(env: &[u64], variables: usize, roots: Roots, to: Roots) -> bool
+    requires { ⌜ TableFor (now env) variables × ((y : ℕ) → has to y ≡ true → y < variables) ⌝ }
+    ensures { λ r. ⌜ ((m k : ℕ) → r ≡ every (λ q. every (λ p. leb (levelOf (environmentOf (now (env .entry)) (p .root))) (levelOf (environmentOf (now (env .entry)) (q .root)))) (placesOf 128 (has roots) (longAt (now (env .entry))) m)) (placesOf variables (has to) (lengths (environmentOf (now (env .entry)))) k)) ⌝ }
+{
+    let mut left = to;
+    while !is_empty(left) {
+        let x = lowest(left);
+        let level = level_at(env, variables, x);
+        if !lives_at(env, variables, roots, level) {
+            return false;
+        }
+        left = without(left, x);
+    }
+    true
+}
+
+// One of these variables is written (LANGUAGE 3.25): each may be.
+fn widen_all(env: &mut [u64], variables: usize, to: Roots, roots: Roots)
+    requires { ⌜ TableFor (now env) variables × ((y : ℕ) → has to y ≡ true → y < variables) ⌝ }
+    ensures { λ _. ⌜ WidenedAll (now (env .entry)) to roots (now (env .exit)) × TableFor (now (env .exit)) variables ⌝ }
+{
+    let mut left = to;
+    while !is_empty(left) {
+        let x = lowest(left);
+        left = without(left, x);
+        widen(env, variables, x, roots);
+    }
+}
+
+// A value that records these roots is written to one of these variables (LANGUAGE 3.25): the only one is whole again;
+// several may be written.
+fn write_to(env: &mut [u64], variables: usize, to: Roots, roots: Roots)
+    requires { ⌜ TableFor (now env) variables × ((y : ℕ) → has to y ≡ true → y < variables) ⌝ }
+    ensures { λ _. ⌜ Written (now (env .entry)) variables to roots (now (env .exit)) × TableFor (now (env .exit)) variables ⌝ }
+{
+    if is_empty(to) {
+        return;
+    }
+    let x = lowest(to);
+    if is_empty(without(to, x)) {
+        refill(env, variables, x, roots);
+    } else {
+        widen_all(env, variables, to, roots);
+    }
+}
+
+// Assign (LANGUAGE 3.25), after the right side: it has a value (41), the path of the place (31, 32, 33), no shared link
+// passed (36), the same links (39), every borrowed root lives long enough for every variable that may be written (40).
+// With the new value in place, writing the named root is not barred (35).
+pub fn judge_assign(
+    env: &mut [u64],
+    variables: usize,
+    term: usize,
+    place: Place,
+    inner: Value,
+) -> Verdict
+    requires { ⌜ NeatTable (now env) variables × ((level : ℕ) × NeatValue (environmentOf (now env)) level (asValue (now env) inner)) ⌝ }
+    ensures { λ r. ⌜ (answered (now (env .exit)) r ≡ judgeAssign variables (environmentOf (now (env .entry))) term (asPlace place) (asValue (now (env .entry)) inner)) × TableFor (now (env .exit)) variables ⌝ }
+{
+    let Value::Of(of) = inner else {
+        return Verdict::Refused(refusals::NO_VALUE, term);
+    };
+    let located = judge_place(env, variables, term, place);
+    match located {
+        Located::Refused(number, at) => Verdict::Refused(number, at),
+        Located::At(links, rest, to) => {
+            if !no_shared(links, index_of(place.follows)) {
+                return Verdict::Refused(refusals::SHARED_PASSED, term);
+            }
+            if rest != of.links {
+                return Verdict::Refused(refusals::OTHER_LINKS, term);
+            }
+            let of_roots = of.roots;
+            let roots = recorded_roots(rest, of_roots);
+            if !live_long_enough(env, variables, roots, to) {
+                return Verdict::Refused(refusals::LIVES_TOO_SHORT, term);
+            }
+            write_to(env, variables, to, roots);
+            if write_barred(env, variables, index_of(place.root)) {
+                return Verdict::Refused(refusals::WRITING_BARRED, term);
+            }
+            Verdict::Fine(Value::None)
+        }
+    }
+}

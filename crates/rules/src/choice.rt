@@ -1,0 +1,132 @@
+// The two blocks of a choice (LANGUAGE 3.31). What changes of the variables in scope is kept while the other block is judged:
+// from where each is moved away, and the roots that it records, 3 words to each number taken before.
+ghost use mathlib.Core.Path.{_≡_};
+ghost use Prim.Native.Nat.{ℕ, suc, _≤_, _<_, _+_, _*_};
+ghost use lib.ListN.{length};
+ghost use Rattle.rules.specs.Environment.{Environment};
+ghost use Rattle.rules.specs.Choice.{carried, earlier, joined};
+ghost use Rattle.rules.specs.Neat.{Neat};
+ghost use Rattle.rules.specs.Table.{TableFor, environmentOf, entryWord, noteAt, SameLinks, putAt};
+ghost use Rattle.rules.specs.Verdicts.{NeatTable, Joins};
+ghost use Rattle.rules.specs.Kept.{keptMovedFrom, keptRoots, KeepsAll, Stays, PutKept};
+use crate::notes::note_holder;
+use crate::refusals;
+use crate::roots::Roots;
+use crate::roots::unite;
+use crate::table::MOVED_FROM;
+use crate::table::NOTE;
+use crate::table::put_roots;
+use crate::table::put_word;
+use crate::table::roots_at;
+use crate::table::word_at;
+use crate::verdicts::Value;
+use crate::verdicts::Verdict;
+use crate::verdicts::value_of;
+
+// The words kept of a number.
+pub const KEPT: usize = 3;
+
+// One above the highest number taken (LANGUAGE 3.6).
+pub fn numbers_taken(env: &[u64], variables: usize) -> usize
+    requires { ⌜ TableFor (now env) variables ⌝ }
+    ensures { λ r. ⌜ r ≡ noteAt (now (env .entry)) (suc variables) ⌝ }
+{
+    word_at(env, variables + 1, NOTE) as usize
+}
+
+fn kept_roots(kept: &[u64], x: usize) -> Roots
+    requires { ⌜ x * 3 + 3 ≤ length (now kept) ⌝ }
+    ensures { λ r. ⌜ r ≡ keptRoots (now (kept .entry)) x ⌝ }
+{
+    Roots {
+        low: kept[x * KEPT + 1],
+        high: kept[x * KEPT + 2],
+    }
+}
+
+fn keep_one(kept: &mut [u64], x: usize, moved_from: u64, roots: Roots)
+    requires { ⌜ x * 3 + 3 ≤ length (now kept) ⌝ }
+    ensures { λ _. ⌜ PutKept (now (kept .entry)) x «moved_from» roots (now (kept .exit)) ⌝ }
+{
+    kept[x * KEPT] = moved_from;
+    kept[x * KEPT + 1] = roots.low;
+    kept[x * KEPT + 2] = roots.high;
+}
+
+// The state of the first count numbers is kept, all that are taken.
+pub fn keep(env: &[u64], variables: usize, kept: &mut [u64], count: usize)
+    requires { ⌜ NeatTable (now env) variables × (count ≡ noteAt (now env) (suc variables)) × (count * 3 ≤ length (now kept)) ⌝ }
+    ensures { λ _. ⌜ KeepsAll (now (kept .exit)) count (environmentOf (now (env .entry))) ⌝ }
+{
+    let mut x: usize = 0;
+    while x < count {
+        keep_one(kept, x, word_at(env, x, MOVED_FROM), roots_at(env, x));
+        x += 1;
+    }
+}
+
+// After the first block: the state that was kept is the table's again, but for numbers taken since (LANGUAGE 3.31); the
+// state after the block is kept instead.
+pub fn exchange(env: &mut [u64], variables: usize, kept: &mut [u64], count: usize)
+    requires { ⌜ NeatTable (now env) variables × (count ≤ variables) × (count * 3 ≤ length (now kept)) ⌝ }
+    ensures { λ _. ⌜ ((Γ : Environment) (level : ℕ) → Neat variables Γ level → KeepsAll (now (kept .entry)) count Γ → Stays Γ (environmentOf (now (env .entry))) → (environmentOf (now (env .exit)) ≡ carried Γ (environmentOf (now (env .entry)))) × KeepsAll (now (kept .exit)) count (environmentOf (now (env .entry)))) × TableFor (now (env .exit)) variables × SameLinks (now (env .entry)) (now (env .exit)) ⌝ }
+{
+    let mut x: usize = 0;
+    while x < count {
+        let moved_from = kept[x * KEPT];
+        let roots = kept_roots(kept, x);
+        keep_one(kept, x, word_at(env, x, MOVED_FROM), roots_at(env, x));
+        put_word(env, x, MOVED_FROM, moved_from);
+        put_roots(env, x, roots);
+        note_holder(env, variables, x, roots);
+        x += 1;
+    }
+}
+
+// The links of x from link k on are moved away, if they are not already (LANGUAGE 3.31).
+fn move_earlier(env: &mut [u64], x: usize, k: u64)
+    requires { ⌜ x * 8 + 8 ≤ length (now env) ⌝ }
+    ensures { λ _. ⌜ ((y j : ℕ) → j < 8 → entryWord (now (env .exit)) y j ≡ putAt (entryWord (now (env .entry))) x 4 (earlier k (entryWord (now (env .entry)) x 4)) y j) ⌝ }
+{
+    if k < word_at(env, x, MOVED_FROM) {
+        put_word(env, x, MOVED_FROM, k);
+    }
+}
+
+// After the second block: each variable is moved away from the earlier of the two links, and records the roots of both
+// (LANGUAGE 3.31).
+pub fn join(env: &mut [u64], variables: usize, kept: &[u64], count: usize)
+    requires { ⌜ NeatTable (now env) variables × (count ≤ variables) × (count * 3 ≤ length (now kept)) ⌝ }
+    ensures { λ _. ⌜ ((Γ Γ₁ : Environment) (level : ℕ) → Neat variables Γ₁ level → KeepsAll (now (kept .entry)) count Γ₁ → Stays Γ Γ₁ → Stays (carried Γ Γ₁) (environmentOf (now (env .entry))) → environmentOf (now (env .exit)) ≡ joined Γ Γ₁ (environmentOf (now (env .entry)))) × TableFor (now (env .exit)) variables × SameLinks (now (env .entry)) (now (env .exit)) ⌝ }
+{
+    let mut x: usize = 0;
+    while x < count {
+        move_earlier(env, x, kept[x * KEPT]);
+        let roots = kept_roots(kept, x);
+        let all = unite(roots_at(env, x), roots);
+        put_roots(env, x, all);
+        note_holder(env, variables, x, roots);
+        x += 1;
+    }
+}
+
+// The value of a choice (LANGUAGE 3.31): those of its blocks have equal links, or both are none (39).
+pub fn judge_either(term: usize, first: Value, second: Value) -> Verdict
+    ensures { λ r. ⌜ Joins term first second r ⌝ }
+{
+    let Value::Of(one) = first else {
+        let Value::None = second else {
+            return Verdict::Refused(refusals::OTHER_LINKS, term);
+        };
+        return Verdict::Fine(Value::None);
+    };
+    let Value::Of(other) = second else {
+        return Verdict::Refused(refusals::OTHER_LINKS, term);
+    };
+    if one.links != other.links {
+        return Verdict::Refused(refusals::OTHER_LINKS, term);
+    }
+    let one_roots = one.roots;
+    let other_roots = other.roots;
+    value_of(one.links, unite(one_roots, other_roots))
+}
