@@ -1,8 +1,6 @@
 -- Facts of the judge alone, of its definitions; then the laws that the proofs of the functions cite: each joins what the code does with a
 -- definition of specs/.
 
--- Scripts that likely errors would misjudge.
-pub mod ErrorScripts
 -- Answers, numbers, chains and sets of places taken apart.
 pub mod Answers
 pub mod Slots

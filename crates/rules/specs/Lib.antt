@@ -8,6 +8,7 @@ pub mod Bars
 pub mod Choice
 pub mod Rules
 pub mod Judge
+pub mod ErrorScripts
 pub mod Neat
 pub mod Met
 pub mod Closure

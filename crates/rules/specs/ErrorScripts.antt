@@ -1,9 +1,9 @@
--- Scripts that likely errors would misjudge: an assign's place judged before its right side, lifetimes compared with the variable named and not
--- with the one finally written (LANGUAGE 3.25, 3.26); and of a choice (3.31) a path judged at the named place only, a write that may land in
+-- The definitions tried on scripts that likely errors would misjudge: an assign's place judged before its right side, lifetimes compared with the
+-- variable named and not with the one finally written, a borrow held on after it is overwritten (LANGUAGE 3.25, 3.26); and of a choice (3.31) a path judged at the named place only, a write that may land in
 -- either of two taken for one that does, the state of one branch alone kept, the numbers of the first branch free again.
 use Prim.Native.Nat.{ℕ}
 use mathlib.Core.Path.{_≡_, refl}
-use Rattle.reader.specs.Result.{err, need, _>>=_}
+use Rattle.reader.specs.Result.{ok, err, need, _>>=_}
 use Rattle.reader.specs.Script.{Place, Term, Terms, number, reading, copy, move, borrowShared, borrowExclusive, box, declare, assign, block, choice, last, more}
 use Rattle.rules.specs.Links
 use Rattle.rules.specs.Places
@@ -27,6 +27,12 @@ outliving =
     block 0 (more (declare 1 0 (number 2 1)) (more (declare 3 1 (borrowShared 4 (v 0 0)))
     (more (block 5 (more (declare 6 2 (borrowExclusive 7 (v 1 0))) (more (declare 8 3 (number 9 2)) (more (assign 10 (v 2 1) (borrowShared 11 (v 3 0))) (last (number 12 0))))))
     (last (number 13 0)))))
+
+-- E6 (LANGUAGE 8.4), `let v0=1; let v1=2; let v2=&v0; v2=&v1; v0=9; copy *v2`: v2 holds v0 no longer.
+abbrev overwriting : Term
+overwriting =
+    block 0 (more (declare 1 0 (number 2 1)) (more (declare 3 1 (number 4 2)) (more (declare 5 2 (borrowShared 6 (v 0 0)))
+    (more (assign 7 (v 2 0) (borrowShared 8 (v 1 0))) (more (assign 9 (v 0 0) (number 10 9)) (last (copy 11 (v 2 1))))))))
 
 -- `let v0=reading 0; ..`
 abbrev after-reading : Terms → Term
@@ -57,10 +63,11 @@ second-moves =
 abbrev taking : Term
 taking = after-reading (last (choice 3 (v 0 0) 4 (more (declare 5 1 (number 6 1)) (last (number 7 0))) 8 (more (declare 9 1 (number 10 2)) (last (number 11 0)))))
 
--- With the four variables that they have; under every larger set it is the same (LANGUAGE 7.7).
-pub scripts-refused :
+-- With four variables; under every larger set it is the same (LANGUAGE 7.7).
+pub scripts-judged :
     (judgeScript 4 moving ≡ err (33, 4))
     × (judgeScript 4 outliving ≡ err (40, 10))
+    × (judgeScript 4 overwriting ≡ ok tt)
     × (judgeScript 4 reaching ≡ err (33, 19))
     × (judgeScript 4 landing ≡ err (33, 22))
     × (judgeScript 4 second-moves ≡ err (33, 12))
@@ -74,4 +81,4 @@ unfolding
     Bars.borrowsAny Bars.borrowsExclusive Bars.heldBy Bars.held
     Choice.carried Choice.earlier Choice.joined Choice.agreeing
     Rules.inScope Rules.reached Rules.valued Rules.judgePlace Rules.judgeReadable Rules.judgeCopy Rules.judgeMove Rules.judgeShared Rules.judgeExclusive Rules.judgeBox Rules.judgeLet Rules.judgeAssign Rules.judgeNumber Rules.judgeBlockEnd Rules.judgeChoice
-scripts-refused = (refl, refl, refl, refl, refl, refl)
+scripts-judged = (refl, refl, refl, refl, refl, refl, refl)
