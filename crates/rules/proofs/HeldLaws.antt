@@ -1,30 +1,27 @@
--- Who holds a borrow of a root: by the state that the code has loaded, and by the note of the root, outside which nobody holds one. Assumes
--- nothing.
+-- Who holds a borrow of a root: by the words of its entry, and by the note of the root, outside which nobody holds one. Assumes nothing.
 use Prim.Native.Nat.{ℕ, zero, suc, _<_, _≤_}
 use native.Mathlib.Omega.{arith}
 use native.Mathlib.Decide.{ℕ-discrete}
-use mathlib.Core.Path.{_≡_, refl, sym, ap, _∙_, subst}
+use mathlib.Core.Path.{_≡_, refl, sym, ap, ap₂, _∙_}
 use mathlib.Core.Bool.{Bool, true, false, false≢true}
 use mathlib.Core.List.{List}
-use lib.Dec.{eqb}
-use borrow.Author.Tests.{lt-ltb, le-ltb, eqb-true}
-use Rattle.reader.specs.Result.{Refusal, err, pick}
+use lib.Dec.{ltb, eqb}
+use borrow.Author.Tests.{eqb-true}
+use Rattle.reader.specs.Result.{pick}
+use Rattle.reader.specs.Script.{Place}
 use Rattle.rules.specs.declared.roots.Roots.{Roots}
+use Rattle.rules.specs.declared.table.BorrowEnd.{BorrowEnd}
 use Rattle.rules.specs.declared.table.BorrowEnd.the-variants as end
-use Rattle.rules.specs.declared.table.VariableState.{VariableState}
-use Rattle.rules.specs.declared.table.Entry.{Entry}
-use Rattle.rules.specs.declared.table.Entry.the-variants as entry
-use Rattle.rules.specs.Links.{leadingBoxes}
+use Rattle.rules.specs.Links.{Link, leadingBoxes}
 use Rattle.rules.specs.Places.{someOf, rooted}
 use Rattle.rules.specs.Environment.{Borrow, noBorrow, sharedOf, exclusiveOf, places, Variable, Slot, free, used, live, Environment, holding}
 use Rattle.rules.specs.Bars.{borrowsAny, borrowsExclusive, heldBy, held}
-use Rattle.rules.specs.Rules.{inScope}
 use Rattle.rules.specs.Roots.{left}
 use Rattle.rules.specs.Chains.{chainOf}
 use Rattle.rules.specs.Masks.{has, isEmpty}
-use Rattle.rules.specs.Table.{entryWord, linksAt, longAt, rootsAt, holdersAt, placesIn, endIn, borrowEndOf, variableAt, environmentOf, stateAt, entryAt, TableFor, borrowsBy}
+use Rattle.rules.specs.Table.{entryWord, linksAt, longAt, rootsAt, holdersAt, placesIn, endIn, borrowEndOf, variableAt, environmentOf, TableFor, borrowsBy}
 use Rattle.rules.proofs.MaskLaws.{none-in}
-use Rattle.rules.proofs.EntryLaws.{NotLive, slot-live, not-in-scope, live-status, live-inside}
+use Rattle.rules.proofs.EntryLaws.{status-live, live-status, live-inside}
 use Rattle.rules.proofs.EndLaws.{told-none, told-shared, told-exclusive, rooted-in-set, end-in-set}
 
 -- ---- one of several numbers
@@ -66,77 +63,85 @@ borrows-rooted false noBorrow x e = absurd (false≢true e)
 borrows-rooted false (sharedOf ps) x e = absurd (false≢true e)
 borrows-rooted false (exclusiveOf ps) x e = e
 
-unheld : (h : Borrow → ℕ → Bool) (sl : Slot) (x : ℕ) (r : Refusal) → inScope sl r ≡ err r → heldBy h sl x ≡ false
-unfolding heldBy inScope
-unheld h free x r e = refl
-unheld h used x r e = refl
-unheld h (live v) x r e = let z : _≡_ {A = ℕ} 0 1 = cc in absurd (omega arith)
+module _ (env : List ℕ) (x root : ℕ) where
+  pub unheld : (h : Borrow → ℕ → Bool) → ((v : Variable) → environmentOf env x ≡ live v → h (v .borrow) root ≡ true → ⊥) → false ≡ heldBy h (environmentOf env x) root
+  unheld h none = sym (go (heldBy h (environmentOf env x) root) refl)
+    where
+      go : (b : Bool) → heldBy h (environmentOf env x) root ≡ b → b ≡ false
+      go true k = let o = held-out h (environmentOf env x) root k in absurd (none (o .0) (o .1) (o .2))
+      go false k = refl
 
-module _ (env : List ℕ) (x root : ℕ) (any : Bool) (e : Entry) (loaded : e ≡ entryAt env x) where
+  -- By the words of a variable in scope: whether it records the root, if its borrow link is not moved away.
+  pub recorded : 2 ≤ entryWord env x 0 → has (rootsAt env x) root ≡ true → (boxes moved : ℕ) → boxes ≡ leadingBoxes (chainOf (linksAt env x)) → moved ≡ entryWord env x 4
+      → ltb boxes moved ≡ heldBy (λ b y. has (rootsAt env x) y) (environmentOf env x) root
+  unfolding heldBy holding
+  recorded l h boxes moved be me =
+      ap₂ ltb be me ∙ go (ltb (leadingBoxes (chainOf (linksAt env x))) (entryWord env x 4))
+      ∙ sym (ap (λ (sl : Slot). heldBy (λ b y. has (rootsAt env x) y) sl root) (status-live env x l))
+    where
+      go : (b : Bool) → b ≡ pick b (has (rootsAt env x) root) false
+      go true = sym h
+      go false = refl
+
+  -- The sort of borrow asked for decides nothing else.
+  same-held : (h g : Borrow → ℕ → Bool) → h (variableAt env x .borrow) root ≡ g (variableAt env x .borrow) root → heldBy h (environmentOf env x) root ≡ heldBy g (environmentOf env x) root
+  unfolding heldBy
+  same-held h g e = go (environmentOf env x) refl
+    where
+      go : (sl : Slot) → environmentOf env x ≡ sl → heldBy h sl root ≡ heldBy g sl root
+      go free k = refl
+      go used k = refl
+      go (live v) k =
+          let z = live-status env x v k .1 in
+          ap (λ (c : Bool). pick (holding v) c false) (ap (λ (u : Variable). h (u .borrow) root) z ∙ e ∙ sym (ap (λ (u : Variable). g (u .borrow) root) z))
+
+-- By the borrow end, as the code finds its kind.
+module _ (env : List ℕ) (x root : ℕ) (any : Bool) (e : BorrowEnd) (links : ℕ) (roots : Roots) (kind : e ≡ borrowEndOf (chainOf links) roots) (le : links ≡ linksAt env x) (re : roots ≡ rootsAt env x) where
   abbrev Holds : Bool
   Holds = heldBy (borrowsBy any) (environmentOf env x) root
 
-  pub none-loaded : NotLive e → false ≡ Holds
-  none-loaded h = sym (unheld (borrowsBy any) (environmentOf env x) root (0, 0) (not-in-scope env x e loaded (0, 0) h))
+  abbrev Records : Bool
+  Records = heldBy (λ b y. has (rootsAt env x) y) (environmentOf env x) root
 
-  module _ (v : VariableState) (is : e ≡ entry.Live v) where
-    the-state : v ≡ stateAt env x
-    the-state = slot-live env x e loaded v is .1
+  abbrev ks : List Link
+  ks = chainOf (linksAt env x)
 
-    of-state : Holds ≡ pick (holding (variableAt env x)) (borrowsBy any (variableAt env x .borrow) root) false
-    unfolding heldBy
-    of-state = ap (λ (sl : Slot). heldBy (borrowsBy any) sl root) (slot-live env x e loaded v is .0)
+  abbrev ps : List Place
+  ps = placesIn env ks (rootsAt env x)
 
-    pub moved-loaded : v .«moved_from» ≤ leadingBoxes (chainOf (v .links)) → false ≡ Holds
-    unfolding holding stateAt
-    moved-loaded h =
-        let g = subst (λ (u : VariableState). u .«moved_from» ≤ leadingBoxes (chainOf (u .links))) the-state h in
-        sym (of-state ∙ ap (λ (b : Bool). pick b (borrowsBy any (variableAt env x .borrow) root) false) (le-ltb (leadingBoxes (chainOf (linksAt env x))) (entryWord env x 4) g))
+  the-end : e ≡ borrowEndOf ks (rootsAt env x)
+  the-end = kind ∙ ap₂ (λ (l : ℕ) (s : Roots). borrowEndOf (chainOf l) s) le re
 
-    -- The borrow link is not moved away: the borrow end decides.
-    module _ (whole : leadingBoxes (chainOf (v .links)) < v .«moved_from») where
-      of-end : Holds ≡ borrowsBy any (endIn env (chainOf (linksAt env x)) (rootsAt env x)) root
-      unfolding holding stateAt
-      of-end =
-          let g = subst (λ (u : VariableState). leadingBoxes (chainOf (u .links)) < u .«moved_from») the-state whole in
-          of-state ∙ ap (λ (b : Bool). pick b (borrowsBy any (variableAt env x .borrow) root) false) (lt-ltb (leadingBoxes (chainOf (linksAt env x))) (entryWord env x 4) g)
+  nothing-held : borrowsBy any (endIn env ks (rootsAt env x)) root ≡ false → false ≡ Holds
+  nothing-held h = unheld env x root (borrowsBy any) (λ v k b. false≢true (sym h ∙ sym (ap (λ (u : Variable). borrowsBy any (u .borrow) root) (live-status env x v k .1)) ∙ b))
 
-      the-end : v .«borrow_end» ≡ borrowEndOf (chainOf (linksAt env x)) (rootsAt env x)
-      unfolding stateAt
-      the-end = ap (λ (u : VariableState). u .«borrow_end») the-state
+  all-recorded : borrowsBy any (endIn env ks (rootsAt env x)) root ≡ rooted ps root → Records ≡ Holds
+  all-recorded h = same-held env x root (λ b y. has (rootsAt env x) y) (borrowsBy any) (sym (h ∙ rooted-in-set (rootsAt env x) (longAt env) (left ks) root))
 
-      pub none-held : v .«borrow_end» ≡ end.None → false ≡ Holds
-      unfolding borrowsBy borrowsAny borrowsExclusive rooted someOf
-      none-held h = sym (of-end ∙ ap (λ (b : Borrow). borrowsBy any b root) (told-none _ (chainOf (linksAt env x)) (rootsAt env x) (sym the-end ∙ h)) ∙ go any)
-        where
-          go : (any : Bool) → borrowsBy any noBorrow root ≡ false
-          go true = refl
-          go false = refl
+  pub none-held : e ≡ end.None → false ≡ Holds
+  unfolding borrowsBy borrowsAny borrowsExclusive rooted someOf
+  none-held h = nothing-held (ap (λ (b : Borrow). borrowsBy any b root) (told-none ps ks (rootsAt env x) (sym the-end ∙ h)) ∙ go any)
+    where
+      go : (any : Bool) → borrowsBy any noBorrow root ≡ false
+      go true = refl
+      go false = refl
 
-      pub shared-held : (t : Roots) → v .«borrow_end» ≡ end.Shared t → any ≡ true → has t root ≡ Holds
-      unfolding borrowsBy borrowsAny
-      shared-held t h a =
-          let k = told-shared (placesIn env (chainOf (linksAt env x)) (rootsAt env x)) (chainOf (linksAt env x)) (rootsAt env x) t (sym the-end ∙ h) in
-          ap (λ (s : Roots). has s root) (k .0)
-          ∙ sym (of-end ∙ ap (λ (b : Borrow). borrowsBy any b root) (k .1) ∙ ap (λ (c : Bool). borrowsBy c (sharedOf (placesIn env (chainOf (linksAt env x)) (rootsAt env x))) root) a
-          ∙ rooted-in-set (rootsAt env x) (longAt env) (left (chainOf (linksAt env x))) root)
+  module _ (t : Roots) where
+    pub shared-held : e ≡ end.Shared t → any ≡ true → Records ≡ Holds
+    unfolding borrowsBy borrowsAny
+    shared-held h a = all-recorded (ap₂ (λ (c : Bool) (b : Borrow). borrowsBy c b root) a (told-shared ps ks (rootsAt env x) t (sym the-end ∙ h) .1))
 
-      pub shared-passed : (t : Roots) → v .«borrow_end» ≡ end.Shared t → any ≡ false → false ≡ Holds
-      unfolding borrowsBy borrowsExclusive
-      shared-passed t h a =
-          let k = told-shared (placesIn env (chainOf (linksAt env x)) (rootsAt env x)) (chainOf (linksAt env x)) (rootsAt env x) t (sym the-end ∙ h) in
-          sym (of-end ∙ ap (λ (b : Borrow). borrowsBy any b root) (k .1) ∙ ap (λ (c : Bool). borrowsBy c (sharedOf (placesIn env (chainOf (linksAt env x)) (rootsAt env x))) root) a)
+    pub shared-passed : e ≡ end.Shared t → any ≡ false → false ≡ Holds
+    unfolding borrowsBy borrowsExclusive
+    shared-passed h a = nothing-held (ap₂ (λ (c : Bool) (b : Borrow). borrowsBy c b root) a (told-shared ps ks (rootsAt env x) t (sym the-end ∙ h) .1))
 
-      pub exclusive-held : (t : Roots) → v .«borrow_end» ≡ end.Exclusive t → has t root ≡ Holds
-      unfolding borrowsBy borrowsAny borrowsExclusive
-      exclusive-held t h =
-          let k = told-exclusive (placesIn env (chainOf (linksAt env x)) (rootsAt env x)) (chainOf (linksAt env x)) (rootsAt env x) t (sym the-end ∙ h) in
-          ap (λ (s : Roots). has s root) (k .0)
-          ∙ sym (of-end ∙ ap (λ (b : Borrow). borrowsBy any b root) (k .1) ∙ go any ∙ rooted-in-set (rootsAt env x) (longAt env) (left (chainOf (linksAt env x))) root)
-        where
-          go : (any : Bool) → borrowsBy any (exclusiveOf (placesIn env (chainOf (linksAt env x)) (rootsAt env x))) root ≡ rooted (placesIn env (chainOf (linksAt env x)) (rootsAt env x)) root
-          go true = refl
-          go false = refl
+    pub exclusive-held : e ≡ end.Exclusive t → Records ≡ Holds
+    unfolding borrowsBy borrowsAny borrowsExclusive
+    exclusive-held h = all-recorded (ap (λ (b : Borrow). borrowsBy any b root) (told-exclusive ps ks (rootsAt env x) t (sym the-end ∙ h) .1) ∙ go any)
+      where
+        go : (any : Bool) → borrowsBy any (exclusiveOf ps) root ≡ rooted ps root
+        go true = refl
+        go false = refl
 
 -- ---- the note of a root
 
@@ -159,6 +164,10 @@ nobody-in s h n Γ root A e = held-none h n Γ root (λ y l. go y (heldBy h (Γ 
     go : (y : ℕ) (b : Bool) → heldBy h (Γ y) root ≡ b → b ≡ false
     go y true k = absurd (false≢true (sym (none-in s e y) ∙ A y k))
     go y false k = refl
+
+-- Nobody is in the note of the root.
+pub none-noted : (env : List ℕ) (n root : ℕ) → TableFor env n → root < n → (s : Roots) → s ≡ holdersAt env root → isEmpty s ≡ true → (any : Bool) → held (borrowsBy any) n (environmentOf env) root ≡ false
+none-noted env n root T l s e h any = nobody-in s (borrowsBy any) n (environmentOf env) root (λ y k. ap (λ (t : Roots). has t y) e ∙ held-noted env n root T l any y k .1) h
 
 pub one-less : (s s′ : Roots) (h : Borrow → ℕ → Bool) (Γ : Environment) (root x : ℕ) → AllIn s h Γ root → heldBy h (Γ x) root ≡ false
     → ((y : ℕ) → has s′ y ≡ pick (eqb x y) false (has s y)) → AllIn s′ h Γ root

@@ -36,6 +36,7 @@ pub mod EntryLaws
 -- Following, as the code searches.
 pub mod StepLaws
 pub mod SearchLaws
+pub mod GatherLaws
 pub mod TableLaws
 pub mod EndLaws
 pub mod EveryRoot

@@ -1,5 +1,5 @@
--- The search for where a place leads: what its loop keeps, what a round does, and what it has found at its ends. Then the roots that the
--- variables of a set record. Assumes nothing.
+-- The search for where a place leads: what its loop keeps, what a round does, and what it has found at its ends. Then whole values.
+-- Assumes nothing.
 use Prim.Native.Nat.{ℕ, suc, _-_, _≤_, _<_}
 use native.Mathlib.Omega.{arith}
 use mathlib.Core.Path.{_≡_, refl, sym, ap, ap₂, _∙_, subst, fun-ext}
@@ -7,7 +7,7 @@ use mathlib.Core.Bool.{Bool, true, false, false≢true, true≢false}
 use mathlib.Core.List.{List}
 use lib.ListN.{length, length-drop}
 use lib.Dec.{eqb}
-use borrow.Author.Tests.{eqb-true}
+use borrow.Author.Tests.{lt-ltb, eqb-true, eq-eqb}
 use denote.Enum.Declared.{tagOf}
 use Rattle.reader.specs.Result.{pick}
 use Rattle.reader.specs.Script.{Place}
@@ -17,23 +17,23 @@ use Rattle.rules.specs.declared.follow.Ends.the-variants as ends
 use Rattle.rules.proofs.follow.Ends.{the-type}
 use Rattle.rules.specs.declared.follow.Step.{Step}
 use Rattle.rules.specs.declared.follow.Step.the-variants as step
-use Rattle.rules.specs.Links.{Link}
+use Rattle.rules.specs.Links.{Link, leadingBoxes}
 use Rattle.rules.specs.Places.{every, rooted}
-use Rattle.rules.specs.Environment.{Variable, live}
+use Rattle.rules.specs.Environment.{Variable, live, holding}
 use Rattle.rules.specs.Follow.{ownLink, wholeSlot, valueWhole}
 use Rattle.rules.specs.Neat.{place}
 use Rattle.rules.specs.Roots.{linksOf, lengths, placesOf, leads, MetFrom}
 use Rattle.rules.specs.Chains.{chainOf}
 use Rattle.rules.specs.Masks.{has}
-use Rattle.rules.specs.Table.{longAt, linksAt, rootsAt, variableAt, environmentOf}
+use Rattle.rules.specs.Table.{entryWord, longAt, linksAt, rootsAt, variableAt, environmentOf}
 use Rattle.rules.specs.Verdicts.{NeatTable}
-use Rattle.rules.specs.Steps.{passesSlot, passes, Passed, Searched, BorrowedAt}
+use Rattle.rules.specs.Steps.{passesSlot, passes, Passed, Searched}
 use Rattle.rules.proofs.SetLaws.{rooted-out}
 use Rattle.rules.proofs.FollowBound.{all-met}
 use Rattle.rules.proofs.FollowRoots.{roots-met, whole-by-roots, every-root}
 use Rattle.rules.proofs.ClosureLoop.{Meeting, metAfter, todoAfter, round, over, count, waiting, one-fewer}
 use Rattle.rules.proofs.EntryLaws.{live-status}
-use Rattle.rules.proofs.StepLaws.{passes-at, ends-at, passed-at, leads-nowhere, leads-to-roots}
+use Rattle.rules.proofs.StepLaws.{stops-deep, passes-at, ends-at, passed-at, leads-nowhere, leads-to-roots}
 
 -- ---- the loop, over any sets
 
@@ -44,7 +44,7 @@ pub record Search (first : ℕ → Bool) (leads : ℕ → ℕ → Bool) (pass ow
   pub ended : (y : ℕ) → ends y ≡ pick (met y) (pick (todo y) false (own y)) false
 
 module _ (first : ℕ → Bool) (leads : ℕ → ℕ → Bool) (pass own : ℕ → Bool) where
-  pub search-begins : (met ends : ℕ → Bool) → ((y : ℕ) → met y ≡ first y) → ((y : ℕ) → ends y ≡ false) → Search first leads pass own met met ends
+  search-begins : (met ends : ℕ → Bool) → ((y : ℕ) → met y ≡ first y) → ((y : ℕ) → ends y ≡ false) → Search first leads pass own met met ends
   search-begins met ends e z = record {
     meeting = record {
       start = λ x h. e x ∙ h;
@@ -208,6 +208,55 @@ module _ (env : List ℕ) (n : ℕ) (T : NeatTable env n) (root m : ℕ) (is : e
             (l ∙ ap live s, omega (arith, a, b, d, g, e), T .1 .1 .low y (L .variable) l),
       )
 
+  root-met : all-reached .0 root ≡ true
+  root-met = all-reached .1 .start root (eq-eqb root root refl)
+
+  -- One that is met does not pass.
+  stops-at : (deep : Bool) (x : ℕ) → all-reached .0 x ≡ true → passesSlot deep (live (variableAt env x)) (longAt env x - m) ≡ false → Searched n (environmentOf env) root m deep ends.MovedAway
+  stops-at deep x met-x h = record {
+    met = all-reached .0;
+    is = all-reached .1;
+    moved = λ k. not-all (every (passes deep (environmentOf env)) (placesOf n (all-reached .0) (lengths (environmentOf env)) m)) refl;
+    passed = λ s k. absurd (let z : 1 ≡ 0 = ap (tagOf the-type) k in omega arith);
+    to = λ s k. absurd (let z : 1 ≡ 0 = ap (tagOf the-type) k in omega arith);
+  }
+    where
+      stops : passing env m deep x ≡ false
+      stops = passes-at env x m (all-reached .2 x met-x .0) deep ∙ h
+
+      not-all : (b : Bool) → every (passes deep (environmentOf env)) (placesOf n (all-reached .0) (lengths (environmentOf env)) m) ≡ b → b ≡ false
+      not-all true k = absurd (true≢false (sym (every-root n (all-reached .0) (environmentOf env) m (passes deep (environmentOf env)) .0 k x (all-reached .2 x met-x .2) met-x) ∙ stops))
+      not-all false k = refl
+
+  -- The root is always met.
+  pub root-stops : (deep : Bool) → passesSlot deep (live (variableAt env root)) (longAt env root - m) ≡ false → Searched n (environmentOf env) root m deep ends.MovedAway
+  root-stops deep h = stops-at deep root root-met h
+
+  -- Where following ends in the root, nothing else is met.
+  pub root-alone : longAt env root - m ≤ leadingBoxes (chainOf (linksAt env root)) → MetFrom (environmentOf env) m root (eqb root)
+  root-alone h = record {
+    start = λ y k. k;
+    closed = λ y z k l. absurd (false≢true (sym (leads-nowhere env root m is h z) ∙ ap (λ (w : ℕ). leads (environmentOf env) m w z) (eqb-true root y k) ∙ l));
+    least = λ s a b y k. a y k;
+  }
+
+  pub root-ends : (deep : Bool) → passesSlot deep (live (variableAt env root)) (longAt env root - m) ≡ true → longAt env root - m ≤ leadingBoxes (chainOf (linksAt env root))
+      → (one : Roots) → ((y : ℕ) → has one y ≡ eqb root y) → Searched n (environmentOf env) root m deep (ends.At one)
+  root-ends deep p h one oe = record {
+    met = eqb root;
+    is = root-alone h;
+    moved = λ e. absurd (let z : 0 ≡ 1 = ap (tagOf the-type) e in omega arith);
+    passed = λ s e.
+        every-root n (eqb root) (environmentOf env) m (passes deep (environmentOf env)) .1 (λ x l k. ap (passing env m deep) (sym (eqb-true root x k)) ∙ passes-at env root m is deep ∙ p);
+    to = λ s e y.
+        let z : one ≡ s = cc in
+        ap (λ (k : Roots). has k y) (sym z) ∙ oe y ∙ at-end y (eqb root y) refl;
+  }
+    where
+      at-end : (y : ℕ) (b : Bool) → eqb root y ≡ b → b ≡ pick b (ending env m y) false
+      at-end y true k = sym (ap (ending env m) (sym (eqb-true root y k)) ∙ ends-at env root m is h)
+      at-end y false k = refl
+
   module _ (deep : Bool) (met todo es : Roots) (S : Searching env root m deep met todo es) where
     -- Nothing is left to do.
     pub search-over : ((y : ℕ) → has todo y ≡ false) → Searched n (environmentOf env) root m deep (ends.At es)
@@ -229,22 +278,8 @@ module _ (env : List ℕ) (n : ℕ) (T : NeatTable env n) (root m : ℕ) (is : e
       in-reach = all-reached .2 x met-x
 
       module _ (r : Step) (P : Passed deep (variableAt env x) (longAt env x - m) r) where
-        -- One that is met does not pass.
         pub search-stops : r ≡ step.MovedAway → Searched n (environmentOf env) root m deep ends.MovedAway
-        search-stops e = record {
-          met = all-reached .0;
-          is = all-reached .1;
-          moved = λ k. not-all (every (passes deep (environmentOf env)) (placesOf n (all-reached .0) (lengths (environmentOf env)) m)) refl;
-          passed = λ s k. absurd (let z : 1 ≡ 0 = ap (tagOf the-type) k in omega arith);
-          to = λ s k. absurd (let z : 1 ≡ 0 = ap (tagOf the-type) k in omega arith);
-        }
-          where
-            stops : passing env m deep x ≡ false
-            stops = passes-at env x m (in-reach .0) deep ∙ P .moved e
-
-            not-all : (b : Bool) → every (passes deep (environmentOf env)) (placesOf n (all-reached .0) (lengths (environmentOf env)) m) ≡ b → b ≡ false
-            not-all true k = absurd (true≢false (sym (every-root n (all-reached .0) (environmentOf env) m (passes deep (environmentOf env)) .0 k x (in-reach .2) met-x) ∙ stops))
-            not-all false k = refl
+        search-stops e = stops-at deep x met-x (P .moved e)
 
         module _ (todo₁ : Roots) (te : (y : ℕ) → has todo₁ y ≡ pick (eqb x y) false (has todo y)) where
           abbrev leading : ℕ → ℕ → Bool
@@ -292,64 +327,44 @@ module _ (env : List ℕ) (n : ℕ) (T : NeatTable env n) (root m : ℕ) (is : e
                 let z = search-less (eqb root) leading (passing env m deep) (ending env m) (has met) (has todo) (has es) S x h (has met′) (has todo′) more-met more-todo n (in-reach .2) in
                 omega (arith, z)
 
--- Whole is what the search to the end of the links says, each variable met being asked for all of it.
-pub whole-found : (env : List ℕ) (n : ℕ) → NeatTable env n → (x : ℕ) → environmentOf env x ≡ live (variableAt env x) → (r : Ends) → Searched n (environmentOf env) x 0 true r
-    → ((s : Roots) → r ≡ ends.At s → true ≡ valueWhole n (environmentOf env) x (variableAt env x)) × (r ≡ ends.MovedAway → false ≡ valueWhole n (environmentOf env) x (variableAt env x))
-unfolding passesSlot
-whole-found env n T x is r S =
-    let z : longAt env x - longAt env x ≡ 0 = omega arith in
-    let l : longAt env x ≤ longAt env x = omega arith in
-    let W = whole-by-roots (T .1 .1) (place x (longAt env x)) (variableAt env x) is l (S .met) (subst (λ (k : ℕ). MetFrom (environmentOf env) k x (S .met)) (sym z) (S .is)) refl in
-    let found = W ∙ ap (λ (k : ℕ). every (λ q. wholeSlot (environmentOf env (q .root))) (placesOf n (S .met) (lengths (environmentOf env)) k)) z in
-    (λ s e. sym (found ∙ S .passed s e), λ e. sym (found ∙ S .moved e))
+  -- The root has been looked at, and leads beyond its borrow link: what it records is to do, `none` is left of the first set.
+  pub search-goes-on : (deep : Bool) → Passed deep (variableAt env root) (longAt env root - m) step.Through → (one roots more met none : Roots) → ((y : ℕ) → has one y ≡ eqb root y)
+      → roots ≡ rootsAt env root → ((z : ℕ) → has more z ≡ pick (has one z) false (has roots z)) → ((z : ℕ) → has met z ≡ pick (has one z) true (has more z)) → ((y : ℕ) → has none y ≡ false)
+      → Searching env root m deep met more none
+  search-goes-on deep P one roots more met none oe re me met-is ne =
+      through-again deep one one none (search-begins (eqb root) (leads (environmentOf env) m) (passing env m deep) (ending env m) (has one) (has none) oe ne) root (oe root ∙ eq-eqb root root refl)
+      step.Through P none (λ y. ne y ∙ gone (eqb root y) (has one y) (oe y)) refl roots more met more re me met-is (λ z. ap (λ (b : Bool). pick b true (has more z)) (sym (ne z)))
+    where
+      gone : (q b : Bool) → b ≡ q → false ≡ pick q false b
+      gone true b e = refl
+      gone false b e = sym e
 
--- ---- the roots that the variables of a set record
+-- ---- whole values
 
--- All those of the variables that are not left are in, and nothing else.
-pub record Gathering (env : List ℕ) (to roots left : Roots) : Type 0 where
-  pub inside : (y : ℕ) → has left y ≡ true → has to y ≡ true
-  pub within : (y x : ℕ) → has to y ≡ true → has left y ≡ false → has (rootsAt env y) x ≡ true → has roots x ≡ true
-  pub from : (x : ℕ) → has roots x ≡ true → (y : ℕ) × (has to y ≡ true) × (has (rootsAt env y) x ≡ true)
+module _ (env : List ℕ) (n : ℕ) (T : NeatTable env n) (x : ℕ) (is : environmentOf env x ≡ live (variableAt env x)) where
+  abbrev whole : Bool
+  whole = valueWhole n (environmentOf env) x (variableAt env x)
 
-module _ (env : List ℕ) (to : Roots) where
-  pub gather-begins : (roots : Roots) → ((x : ℕ) → has roots x ≡ false) → Gathering env to roots to
-  gather-begins roots z = record {
-    inside = λ y h. h;
-    within = λ y x h k l. absurd (true≢false (sym h ∙ k));
-    from = λ x h. absurd (true≢false (sym h ∙ z x));
-  }
+  -- Whole is every variable met on the way to the end of the links.
+  whole-met : (f : ℕ → Bool) → MetFrom (environmentOf env) 0 x f → whole ≡ every (passes true (environmentOf env)) (placesOf n f (lengths (environmentOf env)) 0)
+  unfolding passesSlot
+  whole-met f F =
+      let z : longAt env x - longAt env x ≡ 0 = omega arith in
+      let l : longAt env x ≤ longAt env x = omega arith in
+      let W = whole-by-roots (T .1 .1) (place x (longAt env x)) (variableAt env x) is l f (subst (λ (k : ℕ). MetFrom (environmentOf env) k x f) (sym z) F) refl in
+      W ∙ ap (λ (k : ℕ). every (λ q. wholeSlot (environmentOf env (q .root))) (placesOf n f (lengths (environmentOf env)) k)) z
 
-  module _ (roots left : Roots) (G : Gathering env to roots left) where
-    pub gather-round : (x : ℕ) → has left x ≡ true → (more roots′ left′ : Roots) → more ≡ rootsAt env x → ((z : ℕ) → has roots′ z ≡ pick (has roots z) true (has more z))
-        → ((y : ℕ) → has left′ y ≡ pick (eqb x y) false (has left y)) → Gathering env to roots′ left′
-    gather-round x h more roots′ left′ me re le = record {
-      inside = λ y k. G .inside y (still (eqb x y) (has left y) (sym (le y) ∙ k));
-      within = λ y z k l g. added y z (eqb x y) refl (has left y) refl k (sym (le y) ∙ l) g;
-      from = λ z k. came z (has roots z) refl (sym (re z) ∙ k);
-    }
-      where
-        still : (q b : Bool) → pick q false b ≡ true → b ≡ true
-        still true b k = absurd (false≢true k)
-        still false b k = k
+  -- So it is what the search says that asks each variable for all of it.
+  pub whole-found : (r : Ends) → Searched n (environmentOf env) x 0 true r → ((s : Roots) → r ≡ ends.At s → true ≡ whole) × (r ≡ ends.MovedAway → false ≡ whole)
+  whole-found r S = (λ s e. sym (whole-met (S .met) (S .is) ∙ S .passed s e), λ e. sym (whole-met (S .met) (S .is) ∙ S .moved e))
 
-        either : (a b : Bool) → b ≡ true → pick a true b ≡ true
-        either true b k = refl
-        either false b k = k
+  -- Without a search: something of the variable itself is moved away, or nothing is and it has no borrow link.
+  pub moved-there : entryWord env x 4 ≤ leadingBoxes (chainOf (linksAt env x)) → false ≡ whole
+  moved-there h = whole-found ends.MovedAway (root-stops env n T x 0 is (omega arith) true (stops-deep (variableAt env x) (longAt env x - 0) true refl h)) .1 refl
 
-        first : (a b : Bool) → a ≡ true → pick a true b ≡ true
-        first true b k = refl
-        first false b k = absurd (false≢true k)
-
-        more-is : (z : ℕ) → has more z ≡ has (rootsAt env x) z
-        more-is z = ap (λ (k : Roots). has k z) me
-
-        added : (y z : ℕ) (q : Bool) → eqb x y ≡ q → (b : Bool) → has left y ≡ b → has to y ≡ true → pick q false b ≡ false → has (rootsAt env y) z ≡ true → has roots′ z ≡ true
-        added y z true q b e k l g = re z ∙ either (has roots z) (has more z) (more-is z ∙ ap (λ (w : ℕ). has (rootsAt env w) z) (eqb-true x y q) ∙ g)
-        added y z false q b e k l g = re z ∙ first (has roots z) (has more z) (G .within y z k (e ∙ l) g)
-
-        came : (z : ℕ) (b : Bool) → has roots z ≡ b → pick b true (has more z) ≡ true → (y : ℕ) × (has to y ≡ true) × (has (rootsAt env y) z ≡ true)
-        came z true e k = G .from z e
-        came z false e k = (x, G .inside x h, sym (more-is z) ∙ k)
-
-    pub gather-over : ((y : ℕ) → has left y ≡ false) → BorrowedAt env to roots
-    gather-over none = record { within = λ y x h k. G .within y x h (none y) k; from = G .from }
+  pub whole-there : leadingBoxes (chainOf (linksAt env x)) < entryWord env x 4 → longAt env x ≡ leadingBoxes (chainOf (linksAt env x)) → true ≡ whole
+  unfolding passesSlot wholeSlot holding
+  whole-there h e =
+      let k : wholeSlot (environmentOf env x) ≡ true = ap wholeSlot is ∙ lt-ltb (leadingBoxes (chainOf (linksAt env x))) (entryWord env x 4) h in
+      sym (whole-met (eqb x) (root-alone env n T x 0 is (omega arith) (omega (arith, e)))
+      ∙ every-root n (eqb x) (environmentOf env) 0 (passes true (environmentOf env)) .1 (λ y l i. ap (λ (w : ℕ). wholeSlot (environmentOf env w)) (sym (eqb-true x y i)) ∙ k))

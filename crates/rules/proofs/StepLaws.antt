@@ -2,7 +2,7 @@
 -- Assumes nothing.
 use Prim.Native.Nat.{ℕ, _-_, _≤_, _<_}
 use native.Mathlib.Omega.{arith}
-use mathlib.Core.Path.{_≡_, refl, sym, ap, _∙_}
+use mathlib.Core.Path.{_≡_, refl, sym, ap}
 use mathlib.Core.Logic.{_⊎_, inl, inr}
 use mathlib.Core.Bool.{Bool, true, false, true≢false}
 use mathlib.Core.List.{List, [], _∷_}
@@ -10,39 +10,25 @@ use lib.ListN.{length}
 use borrow.Author.Tests.{le-leb, lt-leb, lt-ltb, le-ltb}
 use denote.Enum.Declared.{tagOf}
 use Rattle.reader.specs.Script.{Place}
-use Rattle.rules.specs.declared.roots.Roots.{Roots}
 use Rattle.rules.specs.declared.follow.Step.the-variants as step
 use Rattle.rules.proofs.follow.Step.{the-type}
 use Rattle.rules.specs.Links.{Link, boxed, shared, exclusive, leadingBoxes}
-use Rattle.rules.specs.Places.{rooted}
-use Rattle.rules.specs.Environment.{places, borrowEnd, Variable, live, borrowOf, holding}
+use Rattle.rules.specs.Environment.{borrowEnd, Variable, live, borrowOf, holding}
 use Rattle.rules.specs.Follow.{isBorrow, ownLink, ownPath, wholeSlot}
-use Rattle.rules.specs.Roots.{linksOf, placesFrom, placesOf, left, goesOn, leads}
+use Rattle.rules.specs.Roots.{linksOf, goesOn, leads}
 use Rattle.rules.specs.Chains.{chainOf}
 use Rattle.rules.specs.Masks.{has}
 use Rattle.rules.specs.Table.{linksAt, longAt, rootsAt, variableAt, environmentOf}
 use Rattle.rules.specs.Steps.{passesSlot, Passed}
-use Rattle.rules.proofs.Answers.{same-bool}
-use Rattle.rules.proofs.SetLaws.{rooted-out}
-use Rattle.rules.proofs.RootLaws.{from-out, rooted-places}
-use Rattle.rules.proofs.MaskLaws.{has-below}
+use Rattle.rules.proofs.EndLaws.{end-rooted}
 
--- ---- the borrow end of links
-
--- With a link after the boxes there is a borrow link, and the places are its places.
-pub end-is : (ks : List Link) (ps : List Place) → leadingBoxes ks < length ks → (isBorrow (borrowEnd ks ps) ≡ true) × (places (borrowEnd ks ps) ≡ ps)
+-- With a link after the boxes there is a borrow link.
+pub is-linked : (ks : List Link) (ps : List Place) → leadingBoxes ks < length ks → isBorrow (borrowEnd ks ps) ≡ true
 unfolding borrowEnd leadingBoxes
-end-is [] ps h = absurd (omega arith)
-end-is (boxed ∷ ks) ps h = end-is ks ps (omega arith)
-end-is (shared ∷ ks) ps h = (refl, refl)
-end-is (exclusive ∷ ks) ps h = (refl, refl)
-
--- The roots of the places of a set in words are the set.
-pub rooted-has : (s : Roots) (long : ℕ → ℕ) (m z : ℕ) → rooted (placesOf 128 (has s) long m) z ≡ has s z
-unfolding placesOf
-rooted-has s long m z = same-bool (rooted (placesFrom (has s) long m 0 128) z) (has s z)
-    (λ h. let k = rooted-out (placesFrom (has s) long m 0 128) z h in ap (has s) (sym (k .2)) ∙ from-out (has s) long m 0 128 (k .0) (k .1) .2)
-    (λ h. rooted-places (has s) long m 128 z (has-below s z h) ∙ h)
+is-linked [] ps h = absurd (omega arith)
+is-linked (boxed ∷ ks) ps h = is-linked ks ps (omega arith)
+is-linked (shared ∷ ks) ps h = refl
+is-linked (exclusive ∷ ks) ps h = refl
 
 -- ---- what passes
 
@@ -119,7 +105,4 @@ module _ (env : List ℕ) (x m : ℕ) (is : environmentOf env x ≡ live (variab
 
   pub leads-to-roots : leadingBoxes (chainOf (linksAt env x)) < longAt env x - m → (z : ℕ) → leads (environmentOf env) m x z ≡ has (rootsAt env x) z
   unfolding leads goesOn borrowOf
-  leads-to-roots h z =
-      rw (is, lt-ltb (leadingBoxes (chainOf (linksAt env x))) (longAt env x - m) h)
-      (ap (λ (ps : List Place). rooted ps z) (end-is (chainOf (linksAt env x)) (placesOf 128 (has (rootsAt env x)) (longAt env) (left (chainOf (linksAt env x)))) (omega arith) .1)
-      ∙ rooted-has (rootsAt env x) (longAt env) (left (chainOf (linksAt env x))) z)
+  leads-to-roots h z = rw (is, lt-ltb (leadingBoxes (chainOf (linksAt env x))) (longAt env x - m) h) (end-rooted env (chainOf (linksAt env x)) (rootsAt env x) z (omega arith))

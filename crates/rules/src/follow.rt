@@ -4,6 +4,7 @@ ghost use mathlib.Core.Path.{_≡_};
 ghost use mathlib.Core.Bool.{true};
 ghost use Prim.Native.Nat.{ℕ, _≤_, _<_, _+_, _*_, _-_};
 ghost use lib.ListN.{length};
+ghost use Rattle.rules.specs.declared.follow.Step.the-variants as step;
 ghost use Rattle.rules.specs.Environment.{live};
 ghost use Rattle.rules.specs.Chains.{chainOf};
 ghost use Rattle.rules.specs.Table.{linksAt, environmentOf, variableAt};
@@ -66,14 +67,15 @@ fn step_at(env: &[u64], x: usize, remaining: usize, deep: bool) -> Step
     Step::Through
 }
 
-// All that is met from the variable root on, which is in scope, with so many links left: each variable once, until one
-// does not pass.
-pub fn search(env: &[u64], variables: usize, root: usize, remaining: usize, deep: bool) -> Ends
-    requires { ⌜ NeatTable (now env) variables × (environmentOf (now env) root ≡ live (variableAt (now env) root)) × (remaining ≤ length (chainOf (linksAt (now env) root))) ⌝ }
+// All that is met beyond the borrow link of the root, with so many links left: each variable once, until one does not
+// pass.
+fn search_beyond(env: &[u64], variables: usize, root: usize, remaining: usize, deep: bool) -> Ends
+    requires { ⌜ NeatTable (now env) variables × (environmentOf (now env) root ≡ live (variableAt (now env) root)) × (remaining ≤ length (chainOf (linksAt (now env) root))) × Passed deep (variableAt (now env) root) (length (chainOf (linksAt (now env) root)) - remaining) step.Through ⌝ }
     ensures { λ r. ⌜ Searched variables (environmentOf (now (env .entry))) root remaining deep r ⌝ }
 {
-    let mut met = only(root);
-    let mut todo = met;
+    let first = only(root);
+    let mut todo = less(roots_at(env, root), first);
+    let mut met = unite(first, todo);
     let mut ends = no_roots();
     while !is_empty(todo) {
         let x = lowest(todo);
@@ -96,11 +98,34 @@ pub fn search(env: &[u64], variables: usize, root: usize, remaining: usize, deep
     Ends::At(ends)
 }
 
-// Whole (LANGUAGE 3.15): nothing of the value of x, which is in scope, is moved away, to the end of its links.
+// All that is met from the variable root on, which is in scope, with so many links left. Most often that is the root
+// alone.
+pub fn search(env: &[u64], variables: usize, root: usize, remaining: usize, deep: bool) -> Ends
+    requires { ⌜ NeatTable (now env) variables × (environmentOf (now env) root ≡ live (variableAt (now env) root)) × (remaining ≤ length (chainOf (linksAt (now env) root))) ⌝ }
+    ensures { λ r. ⌜ Searched variables (environmentOf (now (env .entry))) root remaining deep r ⌝ }
+{
+    let step = step_at(env, root, remaining, deep);
+    match step {
+        Step::MovedAway => Ends::MovedAway,
+        Step::Here => Ends::At(only(root)),
+        Step::Through => search_beyond(env, variables, root, remaining, deep),
+    }
+}
+
+// Whole (LANGUAGE 3.15): nothing of the value of x, which is in scope, is moved away, to the end of its links. Without
+// a borrow link that is asked of x alone.
 pub fn value_whole(env: &[u64], variables: usize, x: usize) -> bool
     requires { ⌜ NeatTable (now env) variables × (environmentOf (now env) x ≡ live (variableAt (now env) x)) ⌝ }
     ensures { λ r. ⌜ r ≡ valueWhole variables (environmentOf (now (env .entry))) x (variableAt (now (env .entry)) x) ⌝ }
 {
+    let links = links_at(env, x);
+    let boxes = leading_boxes(links);
+    if word_at(env, x, MOVED_FROM) <= boxes as u64 {
+        return false;
+    }
+    if chain_length(links) == boxes {
+        return true;
+    }
     let ends = search(env, variables, x, 0, true);
     match ends {
         Ends::At(_) => true,

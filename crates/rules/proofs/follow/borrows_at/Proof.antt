@@ -6,7 +6,7 @@ use borrow.Author.Tests.{not-true, not-false}
 use Rattle.rules.specs.Masks.{has}
 use Rattle.rules.proofs.ClosureLoop.{count}
 use Rattle.rules.proofs.MaskLaws.{none-in, one-out}
-use Rattle.rules.proofs.SearchLaws.{Gathering, gather-begins, gather-round, gather-over}
+use Rattle.rules.proofs.GatherLaws.{Gathering, gather-begins, gather-round, gather-over}
 use Rattle.rules.proofs.follow.borrows_at.Statement.{statement}
 use Rattle.rules.proofs.follow.borrows_at.Tie as tie
 

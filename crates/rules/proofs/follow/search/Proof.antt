@@ -1,133 +1,45 @@
--- `rules::follow::search` meets its contract. What is met and no longer to do passes, and counts where following ends there; what it
--- leads to is met. Nothing met is out of scope, so each round leaves one fewer of the variables. Assumes nothing.
+-- `rules::follow::search` meets its contract. Assumes nothing.
 use native.Mathlib.Omega.{arith}
-use mathlib.Core.Path.{sym, _∙_}
 use borrow.Author.Needs.{needs}
-use borrow.Author.Tests.{not-true, not-false}
-use Rattle.rules.specs.Masks.{has}
-use Rattle.rules.proofs.ClosureLoop.{count, waiting}
-use Rattle.rules.proofs.MaskLaws.{none-in}
-use Rattle.rules.proofs.SearchLaws.{Searching, search-begins, search-over, in-reach, search-stops, here-again, here-less, through-again, through-less}
+use Rattle.rules.proofs.StepLaws.{step-through}
+use Rattle.rules.proofs.SearchLaws.{root-stops, root-ends}
 use Rattle.rules.proofs.follow.search.Statement.{statement}
 use Rattle.rules.proofs.follow.search.Tie as tie
 
-abbrev Inv-loop : tie.InvT-loop
-Inv-loop env variables root remaining deep met₀ todo₀ ends₀ met todo ends = Searching env root remaining deep met todo ends
+step-at-requires : tie.Need-step-at-requires
+step-at-requires c κs = let start = c .before in (omega (arith, start .pre .0 .0 .0, start .pre .0 .1 .1 .low _ _ (start .pre .1)), start .pre .2)
 
-abbrev μ-loop : tie.MeasureT-loop
-μ-loop env variables root remaining deep met₀ todo₀ ends₀ met todo ends = count (waiting (has met) (has todo)) variables
-
-only-requires : tie.Need-only-requires Inv-loop μ-loop
-only-requires c κs =
-    let start = c .before in
-    omega (arith, start .pre .0 .1 .1 .low _ _ (start .pre .1), start .pre .0 .0 .1)
-
-no-roots-requires : tie.Need-no-roots-requires Inv-loop μ-loop
-no-roots-requires c κs = search needs
-
-loop-holds : tie.Need-loop-holds Inv-loop μ-loop
-loop-holds c = search-begins _ _ _ _ _ _ (c .before .only .ensures) (c .no-roots .ensures)
-
-is-empty-requires : tie.Need-is-empty-requires Inv-loop μ-loop
-is-empty-requires c κs = search needs
-
-lowest-requires : tie.Need-lowest-requires Inv-loop μ-loop
-lowest-requires c κs = sym (c .before .is-empty .ensures) ∙ not-true (c .before .is-empty .result) (c .if1 .taken)
-
-without-requires : tie.Need-without-requires Inv-loop μ-loop
-without-requires c κs = c .lowest .ensures .1
-
-step-at-requires : tie.Need-step-at-requires Inv-loop μ-loop
-step-at-requires c κs =
-    let start = c .before .before .before .before .before .before .before .before in
-    let at = in-reach _ _ (start .pre .0) _ _ (start .pre .1) (start .pre .2) _ _ _ _ (c .before .before .before .before .loop .inv) _ (c .before .lowest .ensures .0) in
-    (omega (arith, start .pre .0 .0 .0, at .2), at .1)
-
-enum-told : tie.Need-enum-told Inv-loop μ-loop
+enum-told : tie.Need-enum-told
 enum-told c = search needs
 
-returns : tie.Need-returns Inv-loop μ-loop
-returns c =
-    let start = c .before .before .before .before .before .before .before .before .before .before .before in
-    search-stops _ _ (start .pre .0) _ _ (start .pre .1) (start .pre .2) _ _ _ _ (c .before .before .before .before .before .before .before .loop .inv) _ (c .before .before .before .before .lowest .ensures .0) _ (c .before .before .step-at .ensures) (c .enum-told .given .1)
-
-enum-told-2 : tie.Need-enum-told-2 Inv-loop μ-loop
+enum-told-2 : tie.Need-enum-told-2
 enum-told-2 c = search needs
 
-only-requires-2 : tie.Need-only-requires-2 Inv-loop μ-loop
-only-requires-2 c κs = c .before .before .before .before .lowest .ensures .1
+only-requires : tie.Need-only-requires
+only-requires c κs = let start = c .before .before .before .before in omega (arith, start .pre .0 .1 .1 .low _ _ (start .pre .1), start .pre .0 .0 .1)
 
-unite-requires : tie.Need-unite-requires Inv-loop μ-loop
-unite-requires c κs = search needs
-
-loop-less : tie.Need-loop-less Inv-loop μ-loop
-loop-less c =
-    let start = c .before .before .before .before .before .before .before .before .before .before .before .before .before in
-    here-less _ _ (start .pre .0) _ _ (start .pre .1) (start .pre .2) _ _ _ _ (c .before .before .before .before .before .before .before .before .before .loop .inv) _ (c .before .before .before .before .before .before .lowest .ensures .0) _ (c .before .before .before .before .step-at .ensures) _ (c .before .before .before .before .before .without .ensures) (c .before .before .enum-told2 .given .1)
-
-loop-again : tie.Need-loop-again Inv-loop μ-loop
-loop-again c =
-    let start = c .before .before .before .before .before .before .before .before .before .before .before .before .before in
-    here-again _ _ (start .pre .0) _ _ (start .pre .1) (start .pre .2) _ _ _ _ (c .before .before .before .before .before .before .before .before .before .loop .inv) _ (c .before .before .before .before .before .before .lowest .ensures .0) _ (c .before .before .before .before .step-at .ensures) _ (c .before .before .before .before .before .without .ensures) (c .before .before .enum-told2 .given .1) _ _ (c .before .only2 .ensures) (c .unite .ensures)
-
-enum-told-3 : tie.Need-enum-told-3 Inv-loop μ-loop
+enum-told-3 : tie.Need-enum-told-3
 enum-told-3 c = search needs
 
-roots-at-requires : tie.Need-roots-at-requires Inv-loop μ-loop
-roots-at-requires c κs =
-    let start = c .before .before .before .before .before .before .before .before .before .before .before in
-    let at = in-reach _ _ (start .pre .0) _ _ (start .pre .1) (start .pre .2) _ _ _ _ (c .before .before .before .before .before .before .before .loop .inv) _ (c .before .before .before .before .lowest .ensures .0) in
-    omega (arith, start .pre .0 .0 .0, at .2)
+search-beyond-requires : tie.Need-search-beyond-requires
+search-beyond-requires c κs =
+    let start = c .before .before .before .before in
+    let on = c .before .before .step-at .ensures .through (c .enum-told3 .given .1) in
+    (start .pre .0, start .pre .1, start .pre .2, step-through _ _ _ (on .0) (on .1))
 
-less-requires : tie.Need-less-requires Inv-loop μ-loop
-less-requires c κs = search needs
+returns : tie.Need-returns
+returns c =
+    let start = c .before .before .before .before in
+    root-stops _ _ (start .pre .0) _ _ (start .pre .1) (start .pre .2) _ (c .before .before .step-at .ensures .moved (c .enum-told .given .1))
 
-unite-requires-2 : tie.Need-unite-requires-2 Inv-loop μ-loop
-unite-requires-2 c κs = search needs
-
-unite-requires-3 : tie.Need-unite-requires-3 Inv-loop μ-loop
-unite-requires-3 c κs = search needs
-
-loop-less-2 : tie.Need-loop-less-2 Inv-loop μ-loop
-loop-less-2 c =
-    let start = c .before .before .before .before .before .before .before .before .before .before .before .before .before .before .before in
-    through-less _ _ (start .pre .0) _ _ (start .pre .1) (start .pre .2) _ _ _ _ (c .before .before .before .before .before .before .before .before .before .before .before .loop .inv) _ (c .before .before .before .before .before .before .before .before .lowest .ensures .0) _ (c .before .before .before .before .before .before .step-at .ensures) _ (c .before .before .before .before .before .before .before .without .ensures) (c .before .before .before .before .enum-told3 .given .1) _ _ _ _ (c .before .before .before .roots-at .ensures) (c .before .before .less .ensures) (c .before .unite2 .ensures) (c .unite3 .ensures)
-
-loop-again-2 : tie.Need-loop-again-2 Inv-loop μ-loop
-loop-again-2 c =
-    let start = c .before .before .before .before .before .before .before .before .before .before .before .before .before .before .before in
-    through-again _ _ (start .pre .0) _ _ (start .pre .1) (start .pre .2) _ _ _ _ (c .before .before .before .before .before .before .before .before .before .before .before .loop .inv) _ (c .before .before .before .before .before .before .before .before .lowest .ensures .0) _ (c .before .before .before .before .before .before .step-at .ensures) _ (c .before .before .before .before .before .before .before .without .ensures) (c .before .before .before .before .enum-told3 .given .1) _ _ _ _ (c .before .before .before .roots-at .ensures) (c .before .before .less .ensures) (c .before .unite2 .ensures) (c .unite3 .ensures)
-
-returns-2 : tie.Need-returns-2 Inv-loop μ-loop
+returns-2 : tie.Need-returns-2
 returns-2 c =
-    let start = c .before .before .before .before .before .before in
-    search-over _ _ (start .pre .0) _ _ (start .pre .1) (start .pre .2) _ _ _ _ (c .before .before .loop .inv) (none-in _ (sym (c .before .is-empty .ensures) ∙ not-false (c .before .is-empty .result) (c .if1 .left)))
+    let start = c .before .before .before .before .before in
+    let here = c .before .before .before .step-at .ensures .here (c .before .enum-told2 .given .1) in
+    root-ends _ _ (start .pre .0) _ _ (start .pre .1) (start .pre .2) _ (here .0) (here .1) _ (c .only .ensures)
+
+returns-3 : tie.Need-returns-3
+returns-3 c = c .search-beyond .ensures
 
 pub search-spec : {M : Type 1} → statement M
-search-spec =
-    tie.close
-    (tie.spec
-    Inv-loop
-    μ-loop
-    only-requires
-    no-roots-requires
-    loop-holds
-    is-empty-requires
-    lowest-requires
-    without-requires
-    step-at-requires
-    enum-told
-    returns
-    enum-told-2
-    only-requires-2
-    unite-requires
-    loop-less
-    loop-again
-    enum-told-3
-    roots-at-requires
-    less-requires
-    unite-requires-2
-    unite-requires-3
-    loop-less-2
-    loop-again-2
-    returns-2)
+search-spec = tie.close (tie.spec step-at-requires enum-told enum-told-2 only-requires enum-told-3 search-beyond-requires returns returns-2 returns-3)

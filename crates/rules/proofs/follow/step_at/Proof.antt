@@ -7,7 +7,7 @@ use lib.ListN.{length}
 use borrow.Author.Needs.{needs}
 use Rattle.rules.specs.Links.{leadingBoxes}
 use Rattle.rules.specs.Chains.{chainOf}
-use Rattle.rules.proofs.StepLaws.{end-is, stops-deep, passes-here, stops-here, stops-through, passes-through, step-moved, step-here, step-through}
+use Rattle.rules.proofs.StepLaws.{is-linked, stops-deep, passes-here, stops-here, stops-through, passes-through, step-moved, step-here, step-through}
 use Rattle.rules.proofs.follow.step_at.Statement.{statement}
 use Rattle.rules.proofs.follow.step_at.Tie as tie
 
@@ -60,7 +60,7 @@ returns-5 c =
     let boxes = c .before .before .before .before .before .leading-boxes .ensures .0 ∙ ap (λ (k : ℕ). leadingBoxes (chainOf k)) (c .before .before .before .before .before .before .links-at .ensures) in
     let moved = c .before .before .before .before .word-at .ensures in
     let long = c .before .before .chain-length .ensures .0 ∙ ap (λ (k : ℕ). length (chainOf k)) (c .before .before .before .before .before .before .links-at .ensures) in
-    step-through _ _ _ (passes-through _ _ _ (omega (arith, boxes, long, c .before .if3 .left)) (omega (arith, boxes, moved, c .if5 .left)) (end-is _ _ (omega (arith, boxes, long, c .before .if3 .left)) .0)) (omega (arith, boxes, long, c .before .if3 .left))
+    step-through _ _ _ (passes-through _ _ _ (omega (arith, boxes, long, c .before .if3 .left)) (omega (arith, boxes, moved, c .if5 .left)) (is-linked _ _ (omega (arith, boxes, long, c .before .if3 .left)))) (omega (arith, boxes, long, c .before .if3 .left))
 
 pub step-at-spec : {M : Type 1} → statement M
 step-at-spec = tie.close (tie.spec links-at-requires leading-boxes-requires word-at-requires returns chain-length-requires sub-follows returns-2 returns-3 returns-4 returns-5)

@@ -1,12 +1,43 @@
 -- `rules::follow::value_whole` meets its contract. Assumes nothing.
+use Prim.Native.Nat.{ℕ}
 use native.Mathlib.Omega.{arith}
+use mathlib.Core.Path.{sym, ap, _∙_}
+use lib.ListN.{length}
 use borrow.Author.Needs.{needs}
-use Rattle.rules.proofs.SearchLaws.{whole-found}
+use Rattle.rules.specs.Links.{leadingBoxes}
+use Rattle.rules.specs.Chains.{chainOf}
+use Rattle.rules.proofs.EntryLaws.{live-inside}
+use Rattle.rules.proofs.SearchLaws.{whole-found, moved-there, whole-there}
 use Rattle.rules.proofs.follow.value_whole.Statement.{statement}
 use Rattle.rules.proofs.follow.value_whole.Tie as tie
 
+links-at-requires : tie.Need-links-at-requires
+links-at-requires c κs = let start = c .before in omega (arith, start .pre .0 .0 .0, live-inside _ _ (start .pre .0 .0) _ _ (start .pre .1))
+
+leading-boxes-requires : tie.Need-leading-boxes-requires
+leading-boxes-requires c κs = search needs
+
+word-at-requires : tie.Need-word-at-requires
+word-at-requires c κs = let start = c .before .before .before in (omega (arith, start .pre .0 .0 .0, live-inside _ _ (start .pre .0 .0) _ _ (start .pre .1)), omega arith)
+
+returns : tie.Need-returns
+returns c =
+    let start = c .before .before .before .before .before in
+    let boxes = c .before .before .leading-boxes .ensures .0 ∙ ap (λ (k : ℕ). leadingBoxes (chainOf k)) (c .before .before .before .links-at .ensures) in
+    moved-there _ _ (start .pre .0) _ (start .pre .1) (omega (arith, boxes, c .before .word-at .ensures, c .if1 .taken))
+
+chain-length-requires : tie.Need-chain-length-requires
+chain-length-requires c κs = search needs
+
+returns-2 : tie.Need-returns-2
+returns-2 c =
+    let start = c .before .before .before .before .before .before .before in
+    let boxes = c .before .before .before .before .leading-boxes .ensures .0 ∙ ap (λ (k : ℕ). leadingBoxes (chainOf k)) (c .before .before .before .before .before .links-at .ensures) in
+    let long = c .before .chain-length .ensures .0 ∙ ap (λ (k : ℕ). length (chainOf k)) (c .before .before .before .before .before .links-at .ensures) in
+    whole-there _ _ (start .pre .0) _ (start .pre .1) (omega (arith, boxes, c .before .before .before .word-at .ensures, c .before .before .if1 .left)) (sym long ∙ c .if2 .taken ∙ boxes)
+
 search-requires : tie.Need-search-requires
-search-requires c κs = (c .before .pre .0, c .before .pre .1, omega arith)
+search-requires c κs = let start = c .before .before .before .before .before .before .before in (start .pre .0, start .pre .1, omega arith)
 
 enum-told : tie.Need-enum-told
 enum-told c = search needs
@@ -14,11 +45,13 @@ enum-told c = search needs
 enum-told-2 : tie.Need-enum-told-2
 enum-told-2 c = search needs
 
-returns : tie.Need-returns
-returns c = let start = c .before .before .before .before in whole-found _ _ (start .pre .0) _ (start .pre .1) _ (c .before .before .search .ensures) .0 _ (c .enum-told .given .1)
+returns-3 : tie.Need-returns-3
+returns-3 c = let start = c .before .before .before .before .before .before .before .before .before .before in whole-found _ _ (start .pre .0) _ (start .pre .1) _ (c .before .before .search .ensures) .0 _ (c .enum-told .given .1)
 
-returns-2 : tie.Need-returns-2
-returns-2 c = let start = c .before .before .before .before in whole-found _ _ (start .pre .0) _ (start .pre .1) _ (c .before .before .search .ensures) .1 (c .enum-told2 .given .1)
+returns-4 : tie.Need-returns-4
+returns-4 c = let start = c .before .before .before .before .before .before .before .before .before .before in whole-found _ _ (start .pre .0) _ (start .pre .1) _ (c .before .before .search .ensures) .1 (c .enum-told2 .given .1)
 
 pub value-whole-spec : {M : Type 1} → statement M
-value-whole-spec = tie.close (tie.spec search-requires enum-told enum-told-2 returns returns-2)
+value-whole-spec =
+    tie.close
+    (tie.spec links-at-requires leading-boxes-requires word-at-requires returns chain-length-requires returns-2 search-requires enum-told enum-told-2 returns-3 returns-4)

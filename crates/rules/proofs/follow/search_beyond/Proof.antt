@@ -1,0 +1,149 @@
+-- `rules::follow::search_beyond` meets its contract. The root has been looked at before the loop. What is met and no longer to do passes, and counts where following ends there; what it
+-- leads to is met. Nothing met is out of scope, so each round leaves one fewer of the variables. Assumes nothing.
+use native.Mathlib.Omega.{arith}
+use mathlib.Core.Path.{sym, _∙_}
+use borrow.Author.Needs.{needs}
+use borrow.Author.Tests.{not-true, not-false}
+use Rattle.rules.specs.Masks.{has}
+use Rattle.rules.proofs.ClosureLoop.{count, waiting}
+use Rattle.rules.proofs.MaskLaws.{none-in}
+use Rattle.rules.proofs.SearchLaws.{Searching, search-goes-on, search-over, in-reach, search-stops, here-again, here-less, through-again, through-less}
+use Rattle.rules.proofs.follow.search_beyond.Statement.{statement}
+use Rattle.rules.proofs.follow.search_beyond.Tie as tie
+
+abbrev Inv-loop : tie.InvT-loop
+Inv-loop env variables root remaining deep todo₀ met₀ ends₀ todo met ends = Searching env root remaining deep met todo ends
+
+abbrev μ-loop : tie.MeasureT-loop
+μ-loop env variables root remaining deep todo₀ met₀ ends₀ todo met ends = count (waiting (has met) (has todo)) variables
+
+only-requires : tie.Need-only-requires Inv-loop μ-loop
+only-requires c κs =
+    let start = c .before in
+    omega (arith, start .pre .0 .1 .1 .low _ _ (start .pre .1), start .pre .0 .0 .1)
+
+roots-at-requires : tie.Need-roots-at-requires Inv-loop μ-loop
+roots-at-requires c κs =
+    let start = c .before .before in
+    omega (arith, start .pre .0 .0 .0, start .pre .0 .1 .1 .low _ _ (start .pre .1))
+
+less-requires : tie.Need-less-requires Inv-loop μ-loop
+less-requires c κs = search needs
+
+unite-requires : tie.Need-unite-requires Inv-loop μ-loop
+unite-requires c κs = search needs
+
+no-roots-requires : tie.Need-no-roots-requires Inv-loop μ-loop
+no-roots-requires c κs = search needs
+
+loop-holds : tie.Need-loop-holds Inv-loop μ-loop
+loop-holds c =
+    let start = c .before .before .before .before .before .before in
+    search-goes-on _ _ (start .pre .0) _ _ (start .pre .1) (start .pre .2) _ (start .pre .3) _ _ _ _ _ (c .before .before .before .before .only .ensures) (c .before .before .before .roots-at .ensures) (c .before .before .less .ensures) (c .before .unite .ensures) (c .no-roots .ensures)
+
+is-empty-requires : tie.Need-is-empty-requires Inv-loop μ-loop
+is-empty-requires c κs = search needs
+
+lowest-requires : tie.Need-lowest-requires Inv-loop μ-loop
+lowest-requires c κs = sym (c .before .is-empty .ensures) ∙ not-true (c .before .is-empty .result) (c .if1 .taken)
+
+without-requires : tie.Need-without-requires Inv-loop μ-loop
+without-requires c κs = c .lowest .ensures .1
+
+step-at-requires : tie.Need-step-at-requires Inv-loop μ-loop
+step-at-requires c κs =
+    let start = c .before .before .before .before .before .before .before .before .before .before .before in
+    let at = in-reach _ _ (start .pre .0) _ _ (start .pre .1) (start .pre .2) _ _ _ _ (c .before .before .before .before .loop .inv) _ (c .before .lowest .ensures .0) in
+    (omega (arith, start .pre .0 .0 .0, at .2), at .1)
+
+enum-told : tie.Need-enum-told Inv-loop μ-loop
+enum-told c = search needs
+
+returns : tie.Need-returns Inv-loop μ-loop
+returns c =
+    let start = c .before .before .before .before .before .before .before .before .before .before .before .before .before .before in
+    search-stops _ _ (start .pre .0) _ _ (start .pre .1) (start .pre .2) _ _ _ _ (c .before .before .before .before .before .before .before .loop .inv) _ (c .before .before .before .before .lowest .ensures .0) _ (c .before .before .step-at .ensures) (c .enum-told .given .1)
+
+enum-told-2 : tie.Need-enum-told-2 Inv-loop μ-loop
+enum-told-2 c = search needs
+
+only-requires-2 : tie.Need-only-requires-2 Inv-loop μ-loop
+only-requires-2 c κs = c .before .before .before .before .lowest .ensures .1
+
+unite-requires-2 : tie.Need-unite-requires-2 Inv-loop μ-loop
+unite-requires-2 c κs = search needs
+
+loop-less : tie.Need-loop-less Inv-loop μ-loop
+loop-less c =
+    let start = c .before .before .before .before .before .before .before .before .before .before .before .before .before .before .before .before in
+    here-less _ _ (start .pre .0) _ _ (start .pre .1) (start .pre .2) _ _ _ _ (c .before .before .before .before .before .before .before .before .before .loop .inv) _ (c .before .before .before .before .before .before .lowest .ensures .0) _ (c .before .before .before .before .step-at .ensures) _ (c .before .before .before .before .before .without .ensures) (c .before .before .enum-told2 .given .1)
+
+loop-again : tie.Need-loop-again Inv-loop μ-loop
+loop-again c =
+    let start = c .before .before .before .before .before .before .before .before .before .before .before .before .before .before .before .before in
+    here-again _ _ (start .pre .0) _ _ (start .pre .1) (start .pre .2) _ _ _ _ (c .before .before .before .before .before .before .before .before .before .loop .inv) _ (c .before .before .before .before .before .before .lowest .ensures .0) _ (c .before .before .before .before .step-at .ensures) _ (c .before .before .before .before .before .without .ensures) (c .before .before .enum-told2 .given .1) _ _ (c .before .only2 .ensures) (c .unite2 .ensures)
+
+enum-told-3 : tie.Need-enum-told-3 Inv-loop μ-loop
+enum-told-3 c = search needs
+
+roots-at-requires-2 : tie.Need-roots-at-requires-2 Inv-loop μ-loop
+roots-at-requires-2 c κs =
+    let start = c .before .before .before .before .before .before .before .before .before .before .before .before .before .before in
+    let at = in-reach _ _ (start .pre .0) _ _ (start .pre .1) (start .pre .2) _ _ _ _ (c .before .before .before .before .before .before .before .loop .inv) _ (c .before .before .before .before .lowest .ensures .0) in
+    omega (arith, start .pre .0 .0 .0, at .2)
+
+less-requires-2 : tie.Need-less-requires-2 Inv-loop μ-loop
+less-requires-2 c κs = search needs
+
+unite-requires-3 : tie.Need-unite-requires-3 Inv-loop μ-loop
+unite-requires-3 c κs = search needs
+
+unite-requires-4 : tie.Need-unite-requires-4 Inv-loop μ-loop
+unite-requires-4 c κs = search needs
+
+loop-less-2 : tie.Need-loop-less-2 Inv-loop μ-loop
+loop-less-2 c =
+    let start = c .before .before .before .before .before .before .before .before .before .before .before .before .before .before .before .before .before .before in
+    through-less _ _ (start .pre .0) _ _ (start .pre .1) (start .pre .2) _ _ _ _ (c .before .before .before .before .before .before .before .before .before .before .before .loop .inv) _ (c .before .before .before .before .before .before .before .before .lowest .ensures .0) _ (c .before .before .before .before .before .before .step-at .ensures) _ (c .before .before .before .before .before .before .before .without .ensures) (c .before .before .before .before .enum-told3 .given .1) _ _ _ _ (c .before .before .before .roots-at2 .ensures) (c .before .before .less2 .ensures) (c .before .unite3 .ensures) (c .unite4 .ensures)
+
+loop-again-2 : tie.Need-loop-again-2 Inv-loop μ-loop
+loop-again-2 c =
+    let start = c .before .before .before .before .before .before .before .before .before .before .before .before .before .before .before .before .before .before in
+    through-again _ _ (start .pre .0) _ _ (start .pre .1) (start .pre .2) _ _ _ _ (c .before .before .before .before .before .before .before .before .before .before .before .loop .inv) _ (c .before .before .before .before .before .before .before .before .lowest .ensures .0) _ (c .before .before .before .before .before .before .step-at .ensures) _ (c .before .before .before .before .before .before .before .without .ensures) (c .before .before .before .before .enum-told3 .given .1) _ _ _ _ (c .before .before .before .roots-at2 .ensures) (c .before .before .less2 .ensures) (c .before .unite3 .ensures) (c .unite4 .ensures)
+
+returns-2 : tie.Need-returns-2 Inv-loop μ-loop
+returns-2 c =
+    let start = c .before .before .before .before .before .before .before .before .before in
+    search-over _ _ (start .pre .0) _ _ (start .pre .1) (start .pre .2) _ _ _ _ (c .before .before .loop .inv) (none-in _ (sym (c .before .is-empty .ensures) ∙ not-false (c .before .is-empty .result) (c .if1 .left)))
+
+pub search-beyond-spec : {M : Type 1} → statement M
+search-beyond-spec =
+    tie.close
+    (tie.spec
+    Inv-loop
+    μ-loop
+    only-requires
+    roots-at-requires
+    less-requires
+    unite-requires
+    no-roots-requires
+    loop-holds
+    is-empty-requires
+    lowest-requires
+    without-requires
+    step-at-requires
+    enum-told
+    returns
+    enum-told-2
+    only-requires-2
+    unite-requires-2
+    loop-less
+    loop-again
+    enum-told-3
+    roots-at-requires-2
+    less-requires-2
+    unite-requires-3
+    unite-requires-4
+    loop-less-2
+    loop-again-2
+    returns-2)
