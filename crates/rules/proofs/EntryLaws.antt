@@ -38,6 +38,16 @@ pub status-live : (env : List ℕ) (x : ℕ) → 2 ≤ entryWord env x 0 → env
 unfolding environmentOf
 status-live env x h = by-status (variableAt env x) (stateAt env x) (entryWord env x 0) h .0
 
+-- Not in scope is what has a lower one.
+pub status-dead : (env : List ℕ) (x : ℕ) (r : Refusal) → entryWord env x 0 < 2 → inScope (environmentOf env x) r ≡ err r
+unfolding environmentOf slotAs inScope
+status-dead env x r h = go (entryWord env x 0) h
+  where
+    go : (s : ℕ) → s < 2 → inScope (slotAs s (variableAt env x)) r ≡ err r
+    go zero l = refl
+    go (suc zero) l = refl
+    go (suc (suc n)) l = absurd (omega arith)
+
 pub live-status : (env : List ℕ) (x : ℕ) (v : Variable) → environmentOf env x ≡ live v → (2 ≤ entryWord env x 0) × (v ≡ variableAt env x)
 unfolding environmentOf slotAs
 live-status env x v h = go (entryWord env x 0) h
@@ -58,6 +68,10 @@ live-inside env n T x v h = go (decLt x n)
         let m = T .2 .most in
         let z = T .2 .untaken x (omega arith) in
         absurd (omega arith)
+
+-- A number that the table does not have is free.
+pub outside-dead : (env : List ℕ) (n : ℕ) → TableFor env n → (x : ℕ) (r : Refusal) → n ≤ x → inScope (environmentOf env x) r ≡ err r
+outside-dead env n T x r l = let m = T .2 .most in let z = T .2 .untaken x (omega arith) in status-dead env x r (omega arith)
 
 module _ (env : List ℕ) (x : ℕ) (e : Entry) (loaded : e ≡ entryAt env x) where
   pub slot-live : (v : VariableState) → e ≡ entry.Live v → (environmentOf env x ≡ live (variableAt env x)) × (v ≡ stateAt env x)

@@ -33,19 +33,21 @@ pub mod EqualChains
 pub mod MaskLaws
 -- The table.
 pub mod EntryLaws
--- Following, as the code searches.
-pub mod StepLaws
-pub mod SearchLaws
-pub mod GatherLaws
 pub mod TableLaws
 pub mod EndLaws
 pub mod EveryRoot
 pub mod HeldLaws
 pub mod LeavingLaws
+-- Following, as the code searches.
+pub mod StepLaws
+pub mod SearchLaws
+pub mod GatherLaws
 -- Words put into the table, and its notes.
 pub mod WordLaws
 pub mod NoteLaws
 pub mod StoreLaws
+-- A whole value has a whole path.
+pub mod WholePath
 -- Values and places as the rules' functions have them.
 pub mod ValueLaws
 pub mod PlaceLaws

@@ -2,7 +2,7 @@
 use Prim.Native.Nat.{ℕ, suc, _-_, _≤_, _<_}
 use native.Mathlib.Omega.{arith}
 use mathlib.Core.Path.{_≡_, refl, sym, ap, ap₂, _∙_, subst}
-use mathlib.Core.Bool.{Bool, true, false, false≢true}
+use mathlib.Core.Bool.{Bool, true, false, false≢true, not}
 use mathlib.Core.Option.{some}
 use mathlib.Core.List.{List, [], _∷_}
 use lib.ListN.{length, take, drop, length-drop}
@@ -18,6 +18,8 @@ use Rattle.rules.specs.declared.table.Entry.{Entry}
 use Rattle.rules.specs.declared.table.Entry.the-variants as entry
 use Rattle.rules.specs.declared.rules.Located.{Located}
 use Rattle.rules.specs.declared.rules.Located.the-variants as located
+use Rattle.rules.specs.declared.rules.Readable.{Readable}
+use Rattle.rules.specs.declared.rules.Readable.the-variants as readable
 use Rattle.rules.specs.declared.verdicts.Verdict.{Verdict}
 use Rattle.rules.specs.Links.{Link, shared, exclusive, maxLinks, leadingBoxes, noShared, isNumber, copies}
 use Rattle.rules.specs.Places.{every}
@@ -31,14 +33,15 @@ use Rattle.rules.specs.Roots.{linksOf, lengths, placesOf, MetFrom, endsO
 use Rattle.rules.specs.Masks.{has}
 use Rattle.rules.specs.Chains.{chainOf}
 use Rattle.rules.specs.Steps.{passesSlot, passes, Searched, BorrowedAt}
-use Rattle.rules.specs.Table.{linksAt, longAt, variableAt, stateAt, entryAt, endIn, environmentOf}
-use Rattle.rules.specs.Verdicts.{NeatTable, PlaceFound, LocatedIs, typeOf, answered, Answers, atMost8}
+use Rattle.rules.specs.Table.{entryWord, linksAt, longAt, variableAt, stateAt, entryAt, endIn, environmentOf}
+use Rattle.rules.specs.Verdicts.{NeatTable, PlaceFound, LocatedIs, Named, NamedIs, Read, ReadableIs, typeOf, answered, Answers, atMost8}
 use Rattle.rules.proofs.NeatPaths.{Lies, led}
 use Rattle.rules.proofs.NeatTerms.{readable-place}
 use Rattle.rules.proofs.RootLaws.{same-roots}
 use Rattle.rules.proofs.RootSets.{one-place}
 use Rattle.rules.proofs.FollowRoots as paths
-use Rattle.rules.proofs.EntryLaws.{live-status, live-inside, slot-live}
+use Rattle.rules.proofs.WholePath.{whole-path, not-whole}
+use Rattle.rules.proofs.EntryLaws.{status-live, live-status, live-inside, slot-live}
 use Rattle.rules.proofs.ValueLaws.{number-type, copied-borrow, borrows-there}
 
 -- ---- the answer, by its case
@@ -50,12 +53,25 @@ module _ (nv : ℕ) (Γ : Environment) (p : Place) (judged : Judged rules.Locate
   pub found-refused : {n at : ℕ} → r ≡ located.Refused n at → judged ≡ err (n, at)
   found-refused e = subst (λ (k : Located). LocatedIs nv Γ p judged k) e answer
 
--- A refusal of the place is one of reading it.
-pub readable-refused : (nv : ℕ) (Γ : Environment) (i : ℕ) (p : Place) {r : Located} → LocatedIs nv Γ p (judgePlace nv Γ i p) r → {n at : ℕ} → r ≡ located.Refused n at → LocatedIs nv Γ p (judgeReadable nv Γ i p) r
-unfolding judgeReadable _>>=_
-readable-refused nv Γ i p answer {n} {at} e =
-    let h : judgeReadable nv Γ i p ≡ err (n, at) = rw (found-refused nv Γ p (judgePlace nv Γ i p) answer e) in
-    subst (λ (k : Located). LocatedIs nv Γ p (judgeReadable nv Γ i p) k) (sym e) h
+module _ (nv : ℕ) (Γ : Environment) (i : ℕ) (p : Place) {r : Readable} where
+  pub named-at : NamedIs nv Γ i p r → {rest : ℕ} → r ≡ readable.Rest rest → Named Γ p rest
+  named-at answer e = subst (λ (k : Readable). NamedIs nv Γ i p k) e answer
+
+  pub named-refused : NamedIs nv Γ i p r → {n at : ℕ} → r ≡ readable.Refused n at → judgePlace nv Γ i p ≡ err (n, at)
+  named-refused answer e = subst (λ (k : Readable). NamedIs nv Γ i p k) e answer
+
+  pub read-at : ReadableIs nv Γ i p r → {rest : ℕ} → r ≡ readable.Rest rest → Read nv Γ i p rest
+  read-at answer e = subst (λ (k : Readable). ReadableIs nv Γ i p k) e answer
+
+  pub read-refused : ReadableIs nv Γ i p r → {n at : ℕ} → r ≡ readable.Refused n at → judgeReadable nv Γ i p ≡ err (n, at)
+  read-refused answer e = subst (λ (k : Readable). ReadableIs nv Γ i p k) e answer
+
+  -- A refusal of the place is one of reading it.
+  pub readable-refused : NamedIs nv Γ i p r → {n at : ℕ} → r ≡ readable.Refused n at → ReadableIs nv Γ i p r
+  unfolding judgeReadable _>>=_
+  readable-refused answer {n} {at} e =
+      let h : judgeReadable nv Γ i p ≡ err (n, at) = rw (named-refused answer e) in
+      subst (λ (k : Readable). ReadableIs nv Γ i p k) (sym e) h
 
 -- ---- judging a place
 
@@ -127,43 +143,64 @@ module _ (env : List ℕ) (nv : ℕ) (T : NeatTable env nv) (i : ℕ) (p : Place
         (same-roots nv (endsOf (environmentOf env) m (S .met)) (has s) (lengths (environmentOf env)) (lengths (environmentOf env)) m (λ y. sym (S .to s e y)) (λ y h. refl)) (told .1));
   }
 
--- ---- a place found
+-- The root of a place found is a variable that the table has.
+pub root-inside : (env : List ℕ) (nv : ℕ) → NeatTable env nv → (i : ℕ) (p : Place) {links rest : ℕ} {s : Roots}
+    → PlaceFound nv (environmentOf env) p links rest s (judgePlace nv (environmentOf env) i p) → (x : ℕ) → x ≡ p .root → x < nv
+root-inside env nv T i p F x e = let z = live-inside env nv (T .0) (p .root) (F .located .root) (F .root) in omega arith
 
-module _ (env : List ℕ) (nv : ℕ) (T : NeatTable env nv) (i : ℕ) (p : Place) {links rest : ℕ} {s : Roots} where
-  module _ (F : PlaceFound nv (environmentOf env) p links rest s (judgePlace nv (environmentOf env) i p)) where
-    root-at : F .located .root ≡ variableAt env (p .root)
-    root-at = live-status env (p .root) (F .located .root) (F .root) .1
+-- ---- a place named
+
+pub name-unknown : (nv : ℕ) (Γ : Environment) (i : ℕ) (p : Place) (x : ℕ) → x ≡ p .root → inScope (Γ x) (31, i) ≡ err (31, i) → judgePlace nv Γ i p ≡ err (31, i)
+unfolding judgePlace _>>=_
+name-unknown nv Γ i p x at h = let k : inScope (Γ (p .root)) (31, i) ≡ err (31, i) = subst (λ (y : ℕ). inScope (Γ y) (31, i) ≡ err (31, i)) at h in rw k
+
+-- What the status says at x is so of the place's root.
+pub named-root : (env : List ℕ) (x y : ℕ) → x ≡ y → 2 ≤ entryWord env x 0 → environmentOf env y ≡ live (variableAt env y)
+named-root env x y e h = subst (λ (z : ℕ). environmentOf env z ≡ live (variableAt env z)) e (status-live env x h)
+
+module _ (env : List ℕ) (nv : ℕ) (T : NeatTable env nv) (i : ℕ) (p : Place) {rest : ℕ} where
+  module _ (F : Named (environmentOf env) p rest) where
+    variable-is : F .variable ≡ variableAt env (p .root)
+    variable-is = live-status env (p .root) (F .variable) (F .is) .1
 
     -- The root, which the code has as x.
-    pub root-live : (x : ℕ) → x ≡ p .root → environmentOf env x ≡ live (variableAt env x)
-    root-live x e = subst (λ (y : ℕ). environmentOf env y ≡ live (variableAt env y)) (sym e) (F .root ∙ ap live root-at)
+    pub named-live : (x : ℕ) → x ≡ p .root → environmentOf env x ≡ live (variableAt env x)
+    named-live x e = subst (λ (y : ℕ). environmentOf env y ≡ live (variableAt env y)) (sym e) (F .is ∙ ap live variable-is)
 
-    pub root-inside : (x : ℕ) → x ≡ p .root → x < nv
-    root-inside x e = let z = live-inside env nv (T .0) (p .root) (F .located .root) (F .root) in omega arith
+    pub named-inside : (x : ℕ) → x ≡ p .root → x < nv
+    named-inside x e = let z = live-inside env nv (T .0) (p .root) (F .variable) (F .is) in omega arith
 
-    whole-is : (x : ℕ) → x ≡ p .root → (w b : Bool) → w ≡ valueWhole nv (environmentOf env) x (variableAt env x) → w ≡ b → valueWhole nv (environmentOf env) (p .root) (F .located .root) ≡ b
+    whole-is : (x : ℕ) → x ≡ p .root → (w b : Bool) → w ≡ valueWhole nv (environmentOf env) x (variableAt env x) → w ≡ b → valueWhole nv (environmentOf env) (p .root) (F .variable) ≡ b
     whole-is x e w b h k =
-        ap (valueWhole nv (environmentOf env) (p .root)) root-at ∙ ap (λ (y : ℕ). valueWhole nv (environmentOf env) y (variableAt env y)) (sym e) ∙ sym h ∙ k
+        ap (valueWhole nv (environmentOf env) (p .root)) variable-is ∙ ap (λ (y : ℕ). valueWhole nv (environmentOf env) y (variableAt env y)) (sym e) ∙ sym h ∙ k
 
     -- The roots of a borrow of the place.
     borrowed : (x : ℕ) → x ≡ p .root → (r : Roots) → ((y : ℕ) → has r y ≡ eqb x y) → placesOf 128 (has r) (longAt env) (length (chainOf rest)) ≡ p ∷ []
     borrowed x e r h =
-        let L = led (T .1 .1) i p (F .located) (F .is) .long in
-        let a : length (F .located .root .chain) ≡ longAt env (p .root) = ap (λ (v : Variable). length (v .chain)) root-at in
-        let b = length-drop (p .follows) (F .located .root .chain) in
+        let L = F .long in
+        let a : length (F .variable .chain) ≡ longAt env (p .root) = ap (λ (v : Variable). length (v .chain)) variable-is in
+        let b = length-drop (p .follows) (F .variable .chain) in
         let d = ap (λ (ks : List Link). length ks) (F .after) in
         let f : p .follows ≡ longAt env (p .root) - length (chainOf rest) = omega arith in
-        let g = root-inside (p .root) refl in
+        let g = named-inside (p .root) refl in
         let j = T .0 .1 in
         same-roots 128 (has r) (eqb (p .root)) (longAt env) (longAt env) (length (chainOf rest)) (λ y. h y ∙ ap (λ (z : ℕ). eqb z y) e) (λ y q. refl)
         ∙ sym (one-place 128 p (longAt env) (length (chainOf rest)) (omega arith) (ap (place (p .root)) f))
 
-    -- ---- readable (LANGUAGE 3.19)
-
     module _ (x : ℕ) (at : x ≡ p .root) (w : Bool) (whole : w ≡ valueWhole nv (environmentOf env) x (variableAt env x)) where
+      -- The value not whole, in a rule that asks for that first.
+      moved : w ≡ false → {A : Type 0} (next : rules.Located → Judged A)
+          → (judgePlace nv (environmentOf env) i p >>= λ l. need (valueWhole nv (environmentOf env) (p .root) (l .root)) (33, i) >>= λ _. next l) ≡ err (33, i)
+      moved h next = not-whole (T .1 .1) p (F .variable) (F .is) (F .long) i (whole-is x at w false whole h) next
+
+      path : w ≡ true → (to : List Place) × (judgePlace nv (environmentOf env) i p ≡ ok (paths.located (F .variable) to))
+      path h = whole-path (T .1 .1) p (F .variable) (F .is) (F .long) i (whole-is x at w true whole h)
+
+      -- ---- readable (LANGUAGE 3.19)
+
       pub readable-moved : w ≡ false → judgeReadable nv (environmentOf env) i p ≡ err (33, i)
-      unfolding judgeReadable need _>>=_
-      readable-moved h = rw (F .is, whole-is x at w false whole h)
+      unfolding judgeReadable
+      readable-moved h = moved h (λ l. need (not (readBarred nv (environmentOf env) (p .root))) (34, i) >>= λ _. ok l)
 
       module _ (yes-whole : w ≡ true) (b : Bool) (barred : b ≡ readBarred nv (environmentOf env) x) where
         barred-is : (d : Bool) → b ≡ d → readBarred nv (environmentOf env) (p .root) ≡ d
@@ -171,33 +208,30 @@ module _ (env : List ℕ) (nv : ℕ) (T : NeatTable env nv) (i : ℕ) (p : Place
 
         pub readable-barred : b ≡ true → judgeReadable nv (environmentOf env) i p ≡ err (34, i)
         unfolding judgeReadable need _>>=_
-        readable-barred h = rw (F .is, whole-is x at w true whole yes-whole, barred-is true h)
+        readable-barred h = rw (path yes-whole .1, whole-is x at w true whole yes-whole, barred-is true h)
 
-        pub readable-there : b ≡ false → PlaceFound nv (environmentOf env) p links rest s (judgeReadable nv (environmentOf env) i p)
+        pub readable-there : b ≡ false → Read nv (environmentOf env) i p rest
         unfolding judgeReadable need _>>=_
         readable-there h = record {
-          located = F .located;
-          is = rw (F .is, whole-is x at w true whole yes-whole, barred-is false h);
-          root = F .root;
-          chain = F .chain;
-          after = F .after;
-          low = F .low;
-          to = F .to;
+          named = F;
+          to = path yes-whole .0;
+          is = rw (path yes-whole .1, whole-is x at w true whole yes-whole, barred-is false h);
         }
 
       -- ---- exclusive borrow (LANGUAGE 3.22)
 
       pub exclusive-moved : w ≡ false → judgeExclusive nv (environmentOf env) i p ≡ err (33, i)
-      unfolding judgeExclusive need _>>=_
-      exclusive-moved h = rw (F .is, whole-is x at w false whole h)
+      unfolding judgeExclusive
+      exclusive-moved h = moved h _
 
-      module _ (yes-whole : w ≡ true) (f : ℕ) (follows : f ≡ p .follows) (u : Bool) (unshared : u ≡ noShared (take f (chainOf links))) where
-        unshared-is : (d : Bool) → u ≡ d → noShared (take (p .follows) (F .located .root .chain)) ≡ d
-        unshared-is d h = ap₂ (λ (k : ℕ) (ks : List Link). noShared (take k ks)) (sym follows) (F .chain) ∙ sym unshared ∙ h
+      module _ (yes-whole : w ≡ true) (f links : ℕ) (follows : f ≡ p .follows) (same : links ≡ linksAt env x) (u : Bool) (unshared : u ≡ noShared (take f (chainOf links))) where
+        unshared-is : (d : Bool) → u ≡ d → noShared (take (p .follows) (F .variable .chain)) ≡ d
+        unshared-is d h =
+            ap₂ (λ (k : ℕ) (ks : List Link). noShared (take k ks)) (sym follows) (ap (λ (v : Variable). v .chain) variable-is ∙ ap chainOf (ap (linksAt env) (sym at) ∙ sym same)) ∙ sym unshared ∙ h
 
         pub exclusive-shared : u ≡ false → judgeExclusive nv (environmentOf env) i p ≡ err (36, i)
         unfolding judgeExclusive need _>>=_
-        exclusive-shared h = rw (F .is, whole-is x at w true whole yes-whole, unshared-is false h)
+        exclusive-shared h = rw (path yes-whole .1, whole-is x at w true whole yes-whole, unshared-is false h)
 
         module _ (yes-unshared : u ≡ true) (b : Bool) (barred : b ≡ writeBarred nv (environmentOf env) x) where
           write-is : (d : Bool) → b ≡ d → writeBarred nv (environmentOf env) (p .root) ≡ d
@@ -205,58 +239,76 @@ module _ (env : List ℕ) (nv : ℕ) (T : NeatTable env nv) (i : ℕ) (p : Place
 
           pub exclusive-barred : b ≡ true → judgeExclusive nv (environmentOf env) i p ≡ err (35, i)
           unfolding judgeExclusive need _>>=_
-          exclusive-barred h = rw (F .is, whole-is x at w true whole yes-whole, unshared-is true yes-unshared, write-is true h)
+          exclusive-barred h = rw (path yes-whole .1, whole-is x at w true whole yes-whole, unshared-is true yes-unshared, write-is true h)
 
           pub exclusive-there : b ≡ false → (r : Roots) → ((y : ℕ) → has r y ≡ eqb x y) → (v : Verdict)
               → Answers v (atMost8 i (λ e. typeOf (exclusive ∷ chainOf rest) (endIn e (exclusive ∷ chainOf rest) r))) → answered env v ≡ judgeExclusive nv (environmentOf env) i p
           unfolding judgeExclusive need _>>=_ borrowEnd leadingBoxes
           exclusive-there h r o v a =
               let end : exclusiveOf (placesOf 128 (has r) (longAt env) (length (chainOf rest))) ≡ exclusiveOf (p ∷ []) = ap exclusiveOf (borrowed x at r o) in
-              rw (F .is, whole-is x at w true whole yes-whole, unshared-is true yes-unshared, write-is false h, F .after)
+              rw (path yes-whole .1, whole-is x at w true whole yes-whole, unshared-is true yes-unshared, write-is false h, F .after)
               (a env ∙ ap (λ (k : Borrow). need (leb (suc (length (chainOf rest))) maxLinks) (42, i) >>= λ _. ok (environmentOf env, some (typeOf (exclusive ∷ chainOf rest) k))) end)
 
   -- ---- a readable place
 
-  module _ (R : PlaceFound nv (environmentOf env) p links rest s (judgeReadable nv (environmentOf env) i p)) where
-    pub as-place : PlaceFound nv (environmentOf env) p links rest s (judgePlace nv (environmentOf env) i p)
-    as-place = record {
-      located = R .located;
-      is = readable-place nv (environmentOf env) i p (R .located) (R .is);
-      root = R .root;
-      chain = R .chain;
-      after = R .after;
-      low = R .low;
-      to = R .to;
-    }
-
+  module _ (R : Read nv (environmentOf env) i p rest) where
     -- Shared borrow (LANGUAGE 3.21).
     pub shared-there : (x : ℕ) → x ≡ p .root → (r : Roots) → ((y : ℕ) → has r y ≡ eqb x y) → (v : Verdict)
         → Answers v (atMost8 i (λ e. typeOf (shared ∷ chainOf rest) (endIn e (shared ∷ chainOf rest) r))) → answered env v ≡ judgeShared nv (environmentOf env) i p
     unfolding judgeShared need _>>=_ borrowEnd leadingBoxes
     shared-there x at r o v a =
-        let end : sharedOf (placesOf 128 (has r) (longAt env) (length (chainOf rest))) ≡ sharedOf (p ∷ []) = ap sharedOf (borrowed as-place x at r o) in
-        rw (R .is, R .after)
+        let end : sharedOf (placesOf 128 (has r) (longAt env) (length (chainOf rest))) ≡ sharedOf (p ∷ []) = ap sharedOf (borrowed (R .named) x at r o) in
+        rw (R .is, R .named .after)
         (a env ∙ ap (λ (k : Borrow). need (leb (suc (length (chainOf rest))) maxLinks) (42, i) >>= λ _. ok (environmentOf env, some (typeOf (shared ∷ chainOf rest) k))) end)
 
     -- Copy (LANGUAGE 3.19).
     pub copy-refused : copies (chainOf rest) ≡ false → judgeCopy nv (environmentOf env) i p ≡ err (37, i)
     unfolding judgeCopy need _>>=_
-    copy-refused h = rw (R .is, R .after, h)
+    copy-refused h = rw (R .is, R .named .after, h)
 
     module _ (copied : copies (chainOf rest) ≡ true) where
-      copy-is : judgeCopy nv (environmentOf env) i p ≡ ok (environmentOf env, some (typeOf (chainOf rest) (borrowEnd (chainOf rest) (borrowsAt (environmentOf env) (R .located .to)))))
+      copy-is : judgeCopy nv (environmentOf env) i p ≡ ok (environmentOf env, some (typeOf (chainOf rest) (borrowEnd (chainOf rest) (borrowsAt (environmentOf env) (R .to)))))
       unfolding judgeCopy need _>>=_
-      copy-is = rw (R .is, R .after, copied)
+      copy-is = rw (R .is, R .named .after, copied)
 
       pub copy-number : isNumber (chainOf rest) ≡ true → judgeCopy nv (environmentOf env) i p ≡ ok (environmentOf env, some numberTy)
-      copy-number h = copy-is ∙ ap (λ (t : Ty). ok (environmentOf env, some t)) (number-type (chainOf rest) (borrowsAt (environmentOf env) (R .located .to)) h)
+      copy-number h = copy-is ∙ ap (λ (t : Ty). ok (environmentOf env, some t)) (number-type (chainOf rest) (borrowsAt (environmentOf env) (R .to)) h)
 
-      pub copy-borrow : isNumber (chainOf rest) ≡ false → (r : Roots) → BorrowedAt env s r
-          → judgeCopy nv (environmentOf env) i p ≡ ok (environmentOf env, some (typeOf (chainOf rest) (endIn env (chainOf rest) r)))
-      copy-borrow h r B =
-          let L = led (T .1 .1) i p (R .located) (readable-place nv (environmentOf env) i p (R .located) (R .is)) in
-          let all = borrows-there env nv (chainOf rest) (R .located .to) s r (λ q k. let z = L .ends q k in (subst (λ (ks : List Link). Lies (environmentOf env) ks q) (R .after) (z .0), z .1)) (R .to) (R .low) B (copied-borrow (chainOf rest) copied h) in
-          copy-is ∙ ap (λ (ps : List Place). ok (environmentOf env, some (typeOf (chainOf rest) (borrowEnd (chainOf rest) ps)))) all
+      -- Where the place leads, by a search from its root with the links left after it.
+      module _ (x : ℕ) (at : x ≡ p .root) (m : ℕ) (left : m ≡ length (chainOf rest)) where
+        on-chain : drop (p .follows) (chainOf (linksAt env (p .root))) ≡ chainOf rest
+        on-chain = ap (λ (v : Variable). drop (p .follows) (v .chain)) (sym (variable-is (R .named))) ∙ R .named .after
+
+        long-enough : p .follows ≤ length (chainOf (linksAt env (p .root)))
+        long-enough = subst (λ (v : Variable). p .follows ≤ length (v .chain)) (variable-is (R .named)) (R .named .long)
+
+        pub search-fits : m ≤ length (chainOf (linksAt env x))
+        search-fits = rest-fits (p .follows) (chainOf (linksAt env (p .root))) (chainOf (linksAt env x)) rest m (ap (λ (y : ℕ). chainOf (linksAt env y)) (sym at)) on-chain left
+
+        module _ (e : Ends) (S : Searched nv (environmentOf env) x m false e) where
+          -- Such a search finds nothing moved away, since the value is whole; the rule would refuse it likewise.
+          pub copy-moved : e ≡ ends.MovedAway → judgeCopy nv (environmentOf env) i p ≡ err (33, i)
+          unfolding judgeCopy judgeReadable _>>=_
+          copy-moved h = rw (place-moved env nv T i p x at (linksAt env (p .root)) rest (named-live (R .named) (p .root) refl) refl long-enough on-chain m left e S h)
+
+          module _ (s : Roots) (found : e ≡ ends.At s) where
+            there : PlaceFound nv (environmentOf env) p (linksAt env (p .root)) rest s (judgePlace nv (environmentOf env) i p)
+            there = place-there env nv T i p x at (linksAt env (p .root)) rest (named-live (R .named) (p .root) refl) refl long-enough on-chain m left e S s found
+
+            pub ends-low : (y : ℕ) → has s y ≡ true → y < nv
+            ends-low = there .low
+
+            pub copy-borrow : isNumber (chainOf rest) ≡ false → (r : Roots) → BorrowedAt env s r
+                → judgeCopy nv (environmentOf env) i p ≡ ok (environmentOf env, some (typeOf (chainOf rest) (endIn env (chainOf rest) r)))
+            copy-borrow h r B =
+                let l = paths.located (R .named .variable) (R .to) in
+                let placed = readable-place nv (environmentOf env) i p l (R .is) in
+                let same : there .located ≡ l = (let z = sym (there .is) ∙ placed in cc) in
+                let L = led (T .1 .1) i p l placed in
+                let to : SameSet (R .to) (placesOf nv (has s) (lengths (environmentOf env)) (length (chainOf rest))) =
+                subst (λ (k : rules.Located). SameSet (k .to) (placesOf nv (has s) (lengths (environmentOf env)) (length (chainOf rest)))) same (there .to) in
+                let all = borrows-there env nv (chainOf rest) (R .to) s r (λ q k. let z = L .ends q k in (subst (λ (ks : List Link). Lies (environmentOf env) ks q) (R .named .after) (z .0), z .1)) to ends-low B (copied-borrow (chainOf rest) copied h) in
+                copy-is ∙ ap (λ (ps : List Place). ok (environmentOf env, some (typeOf (chainOf rest) (borrowEnd (chainOf rest) ps)))) all
 
 -- ---- move (LANGUAGE 3.20), test by test
 

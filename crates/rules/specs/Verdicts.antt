@@ -1,5 +1,5 @@
 -- What the rules' functions answer, in the rules' terms: the refusal or the values of each case (LANGUAGE 3.17).
-use Prim.Native.Nat.{ℕ, _<_}
+use Prim.Native.Nat.{ℕ, _<_, _≤_}
 use mathlib.Core.Path.{_≡_}
 use mathlib.Core.Bool.{true}
 use mathlib.Core.Option.{Option, none, some}
@@ -11,6 +11,8 @@ use Rattle.reader.specs.Script as script
 use Rattle.rules.specs.declared.roots.Roots.{Roots}
 use Rattle.rules.specs.declared.rules.Located.{Located}
 use Rattle.rules.specs.declared.rules.Located.the-variants as located
+use Rattle.rules.specs.declared.rules.Readable.{Readable}
+use Rattle.rules.specs.declared.rules.Readable.the-variants as readable
 use Rattle.rules.specs.declared.rules.Requirement.{Requirement}
 use Rattle.rules.specs.declared.rules.Requirement.the-variants as requirement
 use Rattle.rules.specs.declared.verdicts.Value.{Value}
@@ -18,7 +20,7 @@ use Rattle.rules.specs.declared.verdicts.Value.the-variants as value
 use Rattle.rules.specs.declared.verdicts.Verdict.{Verdict}
 use Rattle.rules.specs.declared.verdicts.Verdict.the-variants as verdict
 use Rattle.rules.specs.Links.{Link, maxLinks}
-use Rattle.rules.specs.Environment.{Borrow, places, used, live, Environment, Ty, update, isFree}
+use Rattle.rules.specs.Environment.{Borrow, places, Variable, used, live, Environment, Ty, update, isFree}
 use Rattle.rules.specs.Rules as rules
 use Rattle.rules.specs.Rules.{Judged, Out, judgeBox}
 use Rattle.rules.specs.Judge.{isAnswer}
@@ -66,6 +68,28 @@ pub record PlaceFound (nv : ℕ) (Γ : Environment) (p : script.Place) (links re
 abbrev pub LocatedIs : (nv : ℕ) → Environment → script.Place → Judged rules.Located → Located → Type 0
 LocatedIs nv Γ p judged (located.At links rest s) = PlaceFound nv Γ p links rest s judged
 LocatedIs nv Γ p judged (located.Refused n at) = judged ≡ err (n, at)
+
+-- A place that passes 31 and 32 (LANGUAGE 3.16), and the links after it.
+pub record Named (Γ : Environment) (p : script.Place) (rest : ℕ) : Type 0 where
+  pub variable : Variable
+  pub is : Γ (p .root) ≡ live variable
+  pub long : p .follows ≤ length (variable .chain)
+  pub after : drop (p .follows) (variable .chain) ≡ chainOf rest
+
+-- What 31 and 32 say of a place: a refusal is the rule's, otherwise 33 is still to be judged.
+abbrev pub NamedIs : (nv : ℕ) → Environment → ℕ → script.Place → Readable → Type 0
+NamedIs nv Γ i p (readable.Rest rest) = Named Γ p rest
+NamedIs nv Γ i p (readable.Refused n at) = rules.judgePlace nv Γ i p ≡ err (n, at)
+
+-- A place that may be read (LANGUAGE 3.19), and the links after it; where it leads is not told.
+pub record Read (nv : ℕ) (Γ : Environment) (i : ℕ) (p : script.Place) (rest : ℕ) : Type 0 where
+  pub named : Named Γ p rest
+  pub to : List script.Place
+  pub is : rules.judgeReadable nv Γ i p ≡ ok (record { root = named .variable; to = to })
+
+abbrev pub ReadableIs : (nv : ℕ) → Environment → ℕ → script.Place → Readable → Type 0
+ReadableIs nv Γ i p (readable.Rest rest) = Read nv Γ i p rest
+ReadableIs nv Γ i p (readable.Refused n at) = rules.judgeReadable nv Γ i p ≡ err (n, at)
 
 unfoldable pub asRequirement : Requirement → Judged (Unit {0})
 asRequirement requirement.Met = ok tt

@@ -4,10 +4,10 @@ ghost use mathlib.Core.Path.{_≡_};
 ghost use mathlib.Core.List.{List};
 ghost use Prim.Native.Nat.{ℕ, _<_};
 ghost use Rattle.rules.specs.Environment.{used};
-ghost use Rattle.rules.specs.Rules.{judgePlace, judgeReadable, judgeCopy, judgeMove, judgeShared, judgeExclusive, judgeLet, judgeNumber, judgeBelow, judgeBlockEnd};
+ghost use Rattle.rules.specs.Rules.{judgePlace, judgeCopy, judgeMove, judgeShared, judgeExclusive, judgeLet, judgeNumber, judgeBelow, judgeBlockEnd};
 ghost use Rattle.rules.specs.Neat.{NeatValue};
 ghost use Rattle.rules.specs.Table.{TableFor, environmentOf, asPlace};
-ghost use Rattle.rules.specs.Verdicts.{NeatTable, LocatedIs, RootsIn, asRequirement, begun, beginLet, asValue, answered, Boxes, judgeAnswer};
+ghost use Rattle.rules.specs.Verdicts.{NeatTable, LocatedIs, NamedIs, ReadableIs, RootsIn, asRequirement, begun, beginLet, asValue, answered, Boxes, judgeAnswer};
 use crate::bars::read_barred;
 use crate::bars::write_barred;
 use crate::chains::BOX;
@@ -36,9 +36,13 @@ use crate::roots::Roots;
 use crate::roots::no_roots;
 use crate::roots::only;
 use crate::table::Entry;
+use crate::table::LIVE;
 use crate::table::Place;
+use crate::table::STATUS;
+use crate::table::links_at;
 use crate::table::load;
 use crate::table::roots_at;
+use crate::table::word_at;
 use crate::verdicts::Value;
 use crate::verdicts::Verdict;
 use crate::verdicts::longer_value;
@@ -81,43 +85,79 @@ pub fn judge_place(env: &[u64], variables: usize, term: usize, place: Place) -> 
     Located::At(state.links, rest, to)
 }
 
-// The place of a copy, a shared borrow, a below, a sum and a choice (LANGUAGE 3.19, 3.21, 3.27, 3.31): judged, its value
-// whole (33), reading not barred (34).
-pub fn judge_readable(env: &[u64], variables: usize, term: usize, place: Place) -> Located
-    requires { ⌜ NeatTable (now env) variables ⌝ }
-    ensures { λ r. ⌜ LocatedIs variables (environmentOf (now (env .entry))) (asPlace place) (judgeReadable variables (environmentOf (now (env .entry))) term (asPlace place)) r ⌝ }
+// The links after a place that is named rightly (31, 32), or that may be read; or the refusal.
+pub enum Readable {
+    Rest(u32),
+    Refused(u32, usize),
+}
+
+// The root of the place is in scope (31), the chain long enough (32; LANGUAGE 3.16). Where the value must be whole, that
+// says that nothing is moved away on the path, so that the place need not be followed.
+fn judge_named(env: &[u64], variables: usize, term: usize, place: Place) -> Readable
+    requires { ⌜ TableFor (now env) variables ⌝ }
+    ensures { λ r. ⌜ NamedIs variables (environmentOf (now (env .entry))) term (asPlace place) r ⌝ }
 {
-    let located = judge_place(env, variables, term, place);
-    let Located::At(_, _, _) = located else {
-        return located;
+    let root = index_of(place.root);
+    if variables <= root {
+        return Readable::Refused(refusals::NOT_IN_SCOPE, term);
+    }
+    if word_at(env, root, STATUS) < LIVE {
+        return Readable::Refused(refusals::NOT_IN_SCOPE, term);
+    }
+    let after = links_from(links_at(env, root), index_of(place.follows));
+    let Rest::Links(rest) = after else {
+        return Readable::Refused(refusals::CHAIN_TOO_SHORT, term);
+    };
+    Readable::Rest(rest)
+}
+
+// The place of a copy, a shared borrow, a below, a sum and a choice (LANGUAGE 3.19, 3.21, 3.27, 3.31): named, its value
+// whole (33), reading not barred (34).
+pub fn judge_readable(env: &[u64], variables: usize, term: usize, place: Place) -> Readable
+    requires { ⌜ NeatTable (now env) variables ⌝ }
+    ensures { λ r. ⌜ ReadableIs variables (environmentOf (now (env .entry))) term (asPlace place) r ⌝ }
+{
+    let named = judge_named(env, variables, term, place);
+    let Readable::Rest(_) = named else {
+        return named;
     };
     let root = index_of(place.root);
     if !value_whole(env, variables, root) {
-        return Located::Refused(refusals::MOVED_AWAY, term);
+        return Readable::Refused(refusals::MOVED_AWAY, term);
     }
     if read_barred(env, variables, root) {
-        return Located::Refused(refusals::READING_BARRED, term);
+        return Readable::Refused(refusals::READING_BARRED, term);
     }
-    located
+    named
 }
 
 // Copy (LANGUAGE 3.19): the place is readable, then a number or a shared link (37). The copy borrows what is borrowed
-// where the place may lead.
+// where the place may lead; a number borrows nothing, so that only a borrow is followed.
 pub fn judge_copy(env: &[u64], variables: usize, term: usize, place: Place) -> Verdict
     requires { ⌜ NeatTable (now env) variables ⌝ }
     ensures { λ r. ⌜ answered (now (env .entry)) r ≡ judgeCopy variables (environmentOf (now (env .entry))) term (asPlace place) ⌝ }
 {
-    let located = judge_readable(env, variables, term, place);
-    match located {
-        Located::Refused(number, at) => Verdict::Refused(number, at),
-        Located::At(_, rest, to) => {
+    let readable = judge_readable(env, variables, term, place);
+    match readable {
+        Readable::Refused(number, at) => Verdict::Refused(number, at),
+        Readable::Rest(rest) => {
             if !is_copied(rest) {
                 return Verdict::Refused(refusals::NOT_COPIED, term);
             }
             if is_number(rest) {
                 return number_value();
             }
-            value_of(rest, borrows_at(env, variables, to))
+            let ends = search(
+                env,
+                variables,
+                index_of(place.root),
+                chain_length(rest),
+                false,
+            );
+            match ends {
+                Ends::At(to) => value_of(rest, borrows_at(env, variables, to)),
+                Ends::MovedAway => Verdict::Refused(refusals::MOVED_AWAY, term),
+            }
         }
     }
 }
@@ -157,10 +197,10 @@ pub fn judge_shared(env: &[u64], variables: usize, term: usize, place: Place) ->
     requires { ⌜ NeatTable (now env) variables ⌝ }
     ensures { λ r. ⌜ answered (now (env .entry)) r ≡ judgeShared variables (environmentOf (now (env .entry))) term (asPlace place) ⌝ }
 {
-    let located = judge_readable(env, variables, term, place);
-    match located {
-        Located::Refused(number, at) => Verdict::Refused(number, at),
-        Located::At(_, rest, _) => longer_value(term, SHARED, rest, only(index_of(place.root))),
+    let readable = judge_readable(env, variables, term, place);
+    match readable {
+        Readable::Refused(number, at) => Verdict::Refused(number, at),
+        Readable::Rest(rest) => longer_value(term, SHARED, rest, only(index_of(place.root))),
     }
 }
 
@@ -171,14 +211,14 @@ pub fn judge_exclusive(env: &[u64], variables: usize, term: usize, place: Place)
     ensures { λ r. ⌜ answered (now (env .entry)) r ≡ judgeExclusive variables (environmentOf (now (env .entry))) term (asPlace place) ⌝ }
 {
     let root = index_of(place.root);
-    let located = judge_place(env, variables, term, place);
-    match located {
-        Located::Refused(number, at) => Verdict::Refused(number, at),
-        Located::At(links, rest, _) => {
+    let named = judge_named(env, variables, term, place);
+    match named {
+        Readable::Refused(number, at) => Verdict::Refused(number, at),
+        Readable::Rest(rest) => {
             if !value_whole(env, variables, root) {
                 return Verdict::Refused(refusals::MOVED_AWAY, term);
             }
-            if !no_shared(links, index_of(place.follows)) {
+            if !no_shared(links_at(env, root), index_of(place.follows)) {
                 return Verdict::Refused(refusals::SHARED_PASSED, term);
             }
             if write_barred(env, variables, root) {
@@ -244,10 +284,10 @@ pub fn judge_number(env: &[u64], variables: usize, term: usize, place: Place) ->
     requires { ⌜ NeatTable (now env) variables ⌝ }
     ensures { λ r. ⌜ asRequirement r ≡ judgeNumber variables (environmentOf (now (env .entry))) term (asPlace place) ⌝ }
 {
-    let located = judge_readable(env, variables, term, place);
-    match located {
-        Located::Refused(number, at) => Requirement::Refused(number, at),
-        Located::At(_, rest, _) => {
+    let readable = judge_readable(env, variables, term, place);
+    match readable {
+        Readable::Refused(number, at) => Requirement::Refused(number, at),
+        Readable::Rest(rest) => {
             if is_number(rest) {
                 Requirement::Met
             } else {

@@ -4,21 +4,21 @@ use mathlib.Core.Path.{sym, _∙_}
 use borrow.Author.Needs.{needs}
 use borrow.Author.Tests.{not-true, not-false}
 use Rattle.reader.specs.Result.{_>>=_}
-use Rattle.rules.specs.Rules.{judgeReadable, judgeCopy}
+use Rattle.rules.specs.Rules.{judgeCopy}
 use Rattle.rules.specs.Table.{environmentOf, asPlace}
 use Rattle.rules.specs.Verdicts.{answered}
-use Rattle.rules.proofs.PlaceLaws.{found-at, found-refused, copy-refused, copy-number, copy-borrow}
+use Rattle.rules.proofs.PlaceLaws.{read-at, read-refused, named-live, search-fits, ends-low, copy-refused, copy-number, copy-moved, copy-borrow}
 use Rattle.rules.proofs.rules.judge_copy.Statement.{statement}
 use Rattle.rules.proofs.rules.judge_copy.Tie as tie
 
 judge-readable-requires : tie.Need-judge-readable-requires
 judge-readable-requires c κs = search needs
 
-enum-known-located : tie.Need-enum-known-located
-enum-known-located c = search needs
+enum-known-readable : tie.Need-enum-known-readable
+enum-known-readable c = search needs
 
-enum-known-located-2 : tie.Need-enum-known-located-2
-enum-known-located-2 c = search needs
+enum-known-readable-2 : tie.Need-enum-known-readable-2
+enum-known-readable-2 c = search needs
 
 is-copied-requires : tie.Need-is-copied-requires
 is-copied-requires c κs = search needs
@@ -27,14 +27,14 @@ returns : tie.Need-returns
 unfolding answered
 returns c =
     let at-is-copied = c .before in
-    let at-located2 = at-is-copied .before .before in
-    let at-judge-readable = at-located2 .before .before in
+    let at-readable2 = at-is-copied .before .before in
+    let at-judge-readable = at-readable2 .before .before in
     let start = at-judge-readable .before .before in
     let env = start .args .env .now in
     let nv = start .args .variables in
     let i = start .args .term in
     let p = asPlace (start .args .place) in
-    let F = found-at nv (environmentOf env) p (judgeReadable nv (environmentOf env) i p) (at-judge-readable .judge-readable .ensures) (at-located2 .located2 .given .1) in
+    let F = read-at nv (environmentOf env) i p (at-judge-readable .judge-readable .ensures) (at-readable2 .readable2 .given .1) in
     sym (copy-refused env nv (start .pre) i p F (sym (at-is-copied .is-copied .ensures) ∙ not-true (at-is-copied .is-copied .result) (c .if1 .taken)))
 
 is-number-requires : tie.Need-is-number-requires
@@ -49,60 +49,120 @@ returns-2 c =
     let at-is-number = at-if2 .before in
     let at-if1 = at-is-number .before in
     let at-is-copied = at-if1 .before in
-    let at-located2 = at-is-copied .before .before in
-    let at-judge-readable = at-located2 .before .before in
+    let at-readable2 = at-is-copied .before .before in
+    let at-judge-readable = at-readable2 .before .before in
     let start = at-judge-readable .before .before in
     let env = start .args .env .now in
     let nv = start .args .variables in
     let i = start .args .term in
     let p = asPlace (start .args .place) in
-    let F = found-at nv (environmentOf env) p (judgeReadable nv (environmentOf env) i p) (at-judge-readable .judge-readable .ensures) (at-located2 .located2 .given .1) in
-    c .number-value .ensures env ∙ sym (copy-number env nv (start .pre) i p F (sym (at-is-copied .is-copied .ensures) ∙ not-false (at-is-copied .is-copied .result) (at-if1 .if1 .left)) (sym (at-is-number .is-number .ensures) ∙ at-if2 .if2 .taken))
+    let F = read-at nv (environmentOf env) i p (at-judge-readable .judge-readable .ensures) (at-readable2 .readable2 .given .1) in
+    let copied = sym (at-is-copied .is-copied .ensures) ∙ not-false (at-is-copied .is-copied .result) (at-if1 .if1 .left) in
+    c .number-value .ensures env ∙ sym (copy-number env nv (start .pre) i p F copied (sym (at-is-number .is-number .ensures) ∙ at-if2 .if2 .taken))
+
+index-of-requires : tie.Need-index-of-requires
+index-of-requires c κs = search needs
+
+chain-length-requires : tie.Need-chain-length-requires
+chain-length-requires c κs = search needs
+
+search-requires : tie.Need-search-requires
+search-requires c κs =
+    let at-index-of = c .before in
+    let at-if1 = at-index-of .before .before .before in
+    let at-is-copied = at-if1 .before in
+    let at-readable2 = at-is-copied .before .before in
+    let at-judge-readable = at-readable2 .before .before in
+    let start = at-judge-readable .before .before in
+    let env = start .args .env .now in
+    let nv = start .args .variables in
+    let i = start .args .term in
+    let p = asPlace (start .args .place) in
+    let F = read-at nv (environmentOf env) i p (at-judge-readable .judge-readable .ensures) (at-readable2 .readable2 .given .1) in
+    let copied = sym (at-is-copied .is-copied .ensures) ∙ not-false (at-is-copied .is-copied .result) (at-if1 .if1 .left) in
+    (start .pre, named-live env nv (start .pre) i p (F .named) _ (at-index-of .index-of .ensures), search-fits env nv (start .pre) i p F copied _ (at-index-of .index-of .ensures) _ (c .chain-length .ensures .0))
+
+enum-known-ends : tie.Need-enum-known-ends
+enum-known-ends c = search needs
 
 borrows-at-requires : tie.Need-borrows-at-requires
 borrows-at-requires c κs =
-    let at-located2 = c .before .before .before .before .before in
-    let at-judge-readable = at-located2 .before .before in
+    let at-ends = c .before in
+    let at-search = at-ends .before .before in
+    let at-chain-length = at-search .before in
+    let at-index-of = at-chain-length .before in
+    let at-if1 = at-index-of .before .before .before in
+    let at-is-copied = at-if1 .before in
+    let at-readable2 = at-is-copied .before .before in
+    let at-judge-readable = at-readable2 .before .before in
     let start = at-judge-readable .before .before in
     let env = start .args .env .now in
     let nv = start .args .variables in
     let i = start .args .term in
     let p = asPlace (start .args .place) in
-    let F = found-at nv (environmentOf env) p (judgeReadable nv (environmentOf env) i p) (at-judge-readable .judge-readable .ensures) (at-located2 .located2 .given .1) in
-    (omega (arith, start .pre .0 .0), F .low)
+    let F = read-at nv (environmentOf env) i p (at-judge-readable .judge-readable .ensures) (at-readable2 .readable2 .given .1) in
+    let copied = sym (at-is-copied .is-copied .ensures) ∙ not-false (at-is-copied .is-copied .result) (at-if1 .if1 .left) in
+    (omega (arith, start .pre .0 .0), ends-low env nv (start .pre) i p F copied _ (at-index-of .index-of .ensures) _ (at-chain-length .chain-length .ensures .0) _ (at-search .search .ensures) _ (at-ends .ends .given .1))
 
 value-of-requires : tie.Need-value-of-requires
 value-of-requires c κs = search needs
 
+enum-told : tie.Need-enum-told
+enum-told c = search needs
+
 returns-3 : tie.Need-returns-3
 unfolding judgeCopy answered _>>=_
 returns-3 c =
-    let at-located = c .before in
-    let at-judge-readable = at-located .before .before in
+    let at-readable = c .before in
+    let at-judge-readable = at-readable .before .before in
     let start = at-judge-readable .before .before in
     let env = start .args .env .now in
     let nv = start .args .variables in
     let i = start .args .term in
     let p = asPlace (start .args .place) in
-    let refused = found-refused nv (environmentOf env) p (judgeReadable nv (environmentOf env) i p) (at-judge-readable .judge-readable .ensures) (at-located .located .given .1) in
+    let refused = read-refused nv (environmentOf env) i p (at-judge-readable .judge-readable .ensures) (at-readable .readable .given .1) in
     rw refused
 
 returns-4 : tie.Need-returns-4
 returns-4 c =
     let at-borrows-at = c .before in
-    let at-if2 = at-borrows-at .before in
+    let at-ends = at-borrows-at .before .before in
+    let at-search = at-ends .before .before in
+    let at-chain-length = at-search .before in
+    let at-index-of = at-chain-length .before in
+    let at-if2 = at-index-of .before in
     let at-is-number = at-if2 .before in
     let at-if1 = at-is-number .before in
     let at-is-copied = at-if1 .before in
-    let at-located2 = at-is-copied .before .before in
-    let at-judge-readable = at-located2 .before .before in
+    let at-readable2 = at-is-copied .before .before in
+    let at-judge-readable = at-readable2 .before .before in
     let start = at-judge-readable .before .before in
     let env = start .args .env .now in
     let nv = start .args .variables in
     let i = start .args .term in
     let p = asPlace (start .args .place) in
-    let F = found-at nv (environmentOf env) p (judgeReadable nv (environmentOf env) i p) (at-judge-readable .judge-readable .ensures) (at-located2 .located2 .given .1) in
-    c .value-of .ensures env ∙ sym (copy-borrow env nv (start .pre) i p F (sym (at-is-copied .is-copied .ensures) ∙ not-false (at-is-copied .is-copied .result) (at-if1 .if1 .left)) (sym (at-is-number .is-number .ensures) ∙ at-if2 .if2 .left) _ (at-borrows-at .borrows-at .ensures))
+    let F = read-at nv (environmentOf env) i p (at-judge-readable .judge-readable .ensures) (at-readable2 .readable2 .given .1) in
+    let copied = sym (at-is-copied .is-copied .ensures) ∙ not-false (at-is-copied .is-copied .result) (at-if1 .if1 .left) in
+    c .value-of .ensures env ∙ sym (copy-borrow env nv (start .pre) i p F copied _ (at-index-of .index-of .ensures) _ (at-chain-length .chain-length .ensures .0) _ (at-search .search .ensures) _ (at-ends .ends .given .1) (sym (at-is-number .is-number .ensures) ∙ at-if2 .if2 .left) _ (at-borrows-at .borrows-at .ensures))
+
+returns-5 : tie.Need-returns-5
+unfolding answered
+returns-5 c =
+    let at-search = c .before .before in
+    let at-chain-length = at-search .before in
+    let at-index-of = at-chain-length .before in
+    let at-if1 = at-index-of .before .before .before in
+    let at-is-copied = at-if1 .before in
+    let at-readable2 = at-is-copied .before .before in
+    let at-judge-readable = at-readable2 .before .before in
+    let start = at-judge-readable .before .before in
+    let env = start .args .env .now in
+    let nv = start .args .variables in
+    let i = start .args .term in
+    let p = asPlace (start .args .place) in
+    let F = read-at nv (environmentOf env) i p (at-judge-readable .judge-readable .ensures) (at-readable2 .readable2 .given .1) in
+    let copied = sym (at-is-copied .is-copied .ensures) ∙ not-false (at-is-copied .is-copied .result) (at-if1 .if1 .left) in
+    sym (copy-moved env nv (start .pre) i p F copied _ (at-index-of .index-of .ensures) _ (at-chain-length .chain-length .ensures .0) _ (at-search .search .ensures) (c .enum-told .given .1))
 
 pub judge-copy-spec : {M : Type 1} → statement M
-judge-copy-spec = tie.close (tie.spec judge-readable-requires enum-known-located enum-known-located-2 is-copied-requires returns is-number-requires number-value-requires returns-2 borrows-at-requires value-of-requires returns-3 returns-4)
+judge-copy-spec = tie.close (tie.spec judge-readable-requires enum-known-readable enum-known-readable-2 is-copied-requires returns is-number-requires number-value-requires returns-2 index-of-requires chain-length-requires search-requires enum-known-ends borrows-at-requires value-of-requires enum-told returns-3 returns-4 returns-5)

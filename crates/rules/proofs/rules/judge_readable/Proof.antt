@@ -2,16 +2,17 @@
 use mathlib.Core.Path.{sym, subst}
 use borrow.Author.Needs.{needs}
 use borrow.Author.Tests.{not-true, not-false}
-use Rattle.rules.specs.declared.rules.Located.{Located}
-use Rattle.rules.specs.Rules.{judgePlace, judgeReadable}
+use Rattle.rules.specs.declared.rules.Readable.{Readable}
 use Rattle.rules.specs.Table.{environmentOf, asPlace}
-use Rattle.rules.specs.Verdicts.{LocatedIs}
-use Rattle.rules.proofs.PlaceLaws.{found-at, root-live, root-inside, readable-refused, readable-moved, readable-barred, readable-there}
+use Rattle.rules.specs.Verdicts.{ReadableIs}
+use Rattle.rules.proofs.PlaceLaws.{named-at, named-live, named-inside, readable-refused, readable-moved, readable-barred, readable-there}
 use Rattle.rules.proofs.rules.judge_readable.Statement.{statement}
 use Rattle.rules.proofs.rules.judge_readable.Tie as tie
 
-judge-place-requires : tie.Need-judge-place-requires
-judge-place-requires c κs = search needs
+judge-named-requires : tie.Need-judge-named-requires
+judge-named-requires c κs =
+    let start = c .before in
+    start .pre .0
 
 enum-told : tie.Need-enum-told
 enum-told c = search needs
@@ -21,13 +22,13 @@ enum-told-2 c = search needs
 
 returns : tie.Need-returns
 returns c =
-    let at-judge-place = c .before .before in
-    let start = at-judge-place .before .before in
+    let at-judge-named = c .before .before in
+    let start = at-judge-named .before .before in
     let env = start .args .env .now in
     let nv = start .args .variables in
     let i = start .args .term in
     let p = asPlace (start .args .place) in
-    readable-refused nv (environmentOf env) i p (at-judge-place .judge-place .ensures) (c .enum-told2 .given .1)
+    readable-refused nv (environmentOf env) i p (at-judge-named .judge-named .ensures) (c .enum-told2 .given .1)
 
 index-of-requires : tie.Need-index-of-requires
 index-of-requires c κs = search needs
@@ -35,41 +36,41 @@ index-of-requires c κs = search needs
 value-whole-requires : tie.Need-value-whole-requires
 value-whole-requires c κs =
     let at-enum-told = c .before in
-    let at-judge-place = at-enum-told .before .before in
-    let start = at-judge-place .before .before in
+    let at-judge-named = at-enum-told .before .before in
+    let start = at-judge-named .before .before in
     let env = start .args .env .now in
     let nv = start .args .variables in
     let i = start .args .term in
     let p = asPlace (start .args .place) in
-    let F = found-at nv (environmentOf env) p (judgePlace nv (environmentOf env) i p) (at-judge-place .judge-place .ensures) (at-enum-told .enum-told .given .1) in
-    (start .pre, root-live env nv (start .pre) i p F _ (c .index-of .ensures))
+    let F = named-at nv (environmentOf env) i p (at-judge-named .judge-named .ensures) (at-enum-told .enum-told .given .1) in
+    (start .pre, named-live env nv (start .pre) i p F _ (c .index-of .ensures))
 
 returns-2 : tie.Need-returns-2
 returns-2 c =
     let at-value-whole = c .before in
     let at-index-of = at-value-whole .before in
     let at-enum-told = at-index-of .before in
-    let at-judge-place = at-enum-told .before .before in
-    let start = at-judge-place .before .before in
+    let at-judge-named = at-enum-told .before .before in
+    let start = at-judge-named .before .before in
     let env = start .args .env .now in
     let nv = start .args .variables in
     let i = start .args .term in
     let p = asPlace (start .args .place) in
-    let F = found-at nv (environmentOf env) p (judgePlace nv (environmentOf env) i p) (at-judge-place .judge-place .ensures) (at-enum-told .enum-told .given .1) in
+    let F = named-at nv (environmentOf env) i p (at-judge-named .judge-named .ensures) (at-enum-told .enum-told .given .1) in
     readable-moved env nv (start .pre) i p F _ (at-index-of .index-of .ensures) _ (at-value-whole .value-whole .ensures) (not-true (at-value-whole .value-whole .result) (c .if1 .taken))
 
 read-barred-requires : tie.Need-read-barred-requires
 read-barred-requires c κs =
     let at-index-of = c .before .before in
     let at-enum-told = at-index-of .before in
-    let at-judge-place = at-enum-told .before .before in
-    let start = at-judge-place .before .before in
+    let at-judge-named = at-enum-told .before .before in
+    let start = at-judge-named .before .before in
     let env = start .args .env .now in
     let nv = start .args .variables in
     let i = start .args .term in
     let p = asPlace (start .args .place) in
-    let F = found-at nv (environmentOf env) p (judgePlace nv (environmentOf env) i p) (at-judge-place .judge-place .ensures) (at-enum-told .enum-told .given .1) in
-    (start .pre .0, root-inside env nv (start .pre) i p F _ (at-index-of .index-of .ensures))
+    let F = named-at nv (environmentOf env) i p (at-judge-named .judge-named .ensures) (at-enum-told .enum-told .given .1) in
+    (start .pre .0, named-inside env nv (start .pre) i p F _ (at-index-of .index-of .ensures))
 
 returns-3 : tie.Need-returns-3
 returns-3 c =
@@ -78,13 +79,13 @@ returns-3 c =
     let at-value-whole = at-if1 .before in
     let at-index-of = at-value-whole .before in
     let at-enum-told = at-index-of .before in
-    let at-judge-place = at-enum-told .before .before in
-    let start = at-judge-place .before .before in
+    let at-judge-named = at-enum-told .before .before in
+    let start = at-judge-named .before .before in
     let env = start .args .env .now in
     let nv = start .args .variables in
     let i = start .args .term in
     let p = asPlace (start .args .place) in
-    let F = found-at nv (environmentOf env) p (judgePlace nv (environmentOf env) i p) (at-judge-place .judge-place .ensures) (at-enum-told .enum-told .given .1) in
+    let F = named-at nv (environmentOf env) i p (at-judge-named .judge-named .ensures) (at-enum-told .enum-told .given .1) in
     readable-barred env nv (start .pre) i p F _ (at-index-of .index-of .ensures) _ (at-value-whole .value-whole .ensures) (not-false (at-value-whole .value-whole .result) (at-if1 .if1 .left)) _ (at-read-barred .read-barred .ensures) (c .if2 .taken)
 
 returns-4 : tie.Need-returns-4
@@ -94,15 +95,15 @@ returns-4 c =
     let at-value-whole = at-if1 .before in
     let at-index-of = at-value-whole .before in
     let at-enum-told = at-index-of .before in
-    let at-judge-place = at-enum-told .before .before in
-    let start = at-judge-place .before .before in
+    let at-judge-named = at-enum-told .before .before in
+    let start = at-judge-named .before .before in
     let env = start .args .env .now in
     let nv = start .args .variables in
     let i = start .args .term in
     let p = asPlace (start .args .place) in
-    let F = found-at nv (environmentOf env) p (judgePlace nv (environmentOf env) i p) (at-judge-place .judge-place .ensures) (at-enum-told .enum-told .given .1) in
+    let F = named-at nv (environmentOf env) i p (at-judge-named .judge-named .ensures) (at-enum-told .enum-told .given .1) in
     let found = readable-there env nv (start .pre) i p F _ (at-index-of .index-of .ensures) _ (at-value-whole .value-whole .ensures) (not-false (at-value-whole .value-whole .result) (at-if1 .if1 .left)) _ (at-read-barred .read-barred .ensures) (c .if2 .left) in
-    subst (λ (k : Located). LocatedIs nv (environmentOf env) p (judgeReadable nv (environmentOf env) i p) k) (sym (at-enum-told .enum-told .given .1)) found
+    subst (λ (k : Readable). ReadableIs nv (environmentOf env) i p k) (sym (at-enum-told .enum-told .given .1)) found
 
 pub judge-readable-spec : {M : Type 1} → statement M
-judge-readable-spec = tie.close (tie.spec judge-place-requires enum-told enum-told-2 returns index-of-requires value-whole-requires returns-2 read-barred-requires returns-3 returns-4)
+judge-readable-spec = tie.close (tie.spec judge-named-requires enum-told enum-told-2 returns index-of-requires value-whole-requires returns-2 read-barred-requires returns-3 returns-4)
