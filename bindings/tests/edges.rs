@@ -22,6 +22,10 @@ mod calling;
 mod cells;
 #[path = "edges/checked.rs"]
 mod checked;
+#[path = "edges/choices.rs"]
+mod choices;
+#[path = "edges/choosing.rs"]
+mod choosing;
 #[path = "edges/examples.rs"]
 mod examples;
 #[path = "edges/extremes.rs"]
@@ -34,6 +38,8 @@ mod full;
 mod given;
 #[path = "edges/hand.rs"]
 mod hand;
+#[path = "edges/joins.rs"]
+mod joins;
 #[path = "edges/larger.rs"]
 mod larger;
 #[path = "edges/lengths.rs"]

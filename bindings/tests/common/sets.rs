@@ -63,7 +63,7 @@ pub fn fitting_rows(rows: &[Row]) -> Limits {
 /// How many variables there must be for the operands of a row.
 fn variables(row: &Row) -> u32 {
     match row[0] {
-        0x03..=0x06 | 0x08 | 0x09 => row[1] + 1,
+        0x03..=0x06 | 0x08 | 0x09 | 0x0C => row[1] + 1,
         0x0A | 0x0D => row[1].max(row[3]) + 1,
         _ => 0,
     }
@@ -74,6 +74,7 @@ fn levels<'a>(rows: &mut impl Iterator<Item = &'a Row>) -> u32 {
     let row = rows.next().expect("the row of a term");
     let inner = match row[0] {
         0x0B => row[1],
+        0x0C => 2,
         0x07..=0x09 => 1,
         _ => 0,
     };

@@ -59,6 +59,12 @@ pub fn sum(first: Place, second: Place) -> Term {
     vec![[0x0D, first.0, first.1, second.0, second.1]]
 }
 
+/// A choice on a place, with two blocks of these terms.
+pub fn choice(place: Place, first: &[Term], second: &[Term]) -> Term {
+    let first_row = vec![[0x0C, place.0, place.1, 0, 0]];
+    [first_row, block(first), block(second)].concat()
+}
+
 pub fn block(terms: &[Term]) -> Term {
     [vec![[0x0B, terms.len() as u32, 0, 0, 0]], terms.concat()].concat()
 }
@@ -82,9 +88,14 @@ pub fn rows_of(terms: &[Term]) -> Vec<u32> {
     rows_under(Limits::BASE, terms)
 }
 
+/// Whether a kind is one that version 2 adds.
+pub fn of_version_2(kind: u32) -> bool {
+    kind == 0x0C || kind == 0x0D
+}
+
 /// The first version that has the kinds of these rows, all fields in one.
 pub fn version_of(rows: &[u32]) -> u32 {
-    match rows.chunks(FIELDS).any(|row| row[0] == 0x0D) {
+    match rows.chunks(FIELDS).any(|row| of_version_2(row[0])) {
         true => 2,
         false => 1,
     }

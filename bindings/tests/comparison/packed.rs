@@ -33,7 +33,7 @@ fn part(generator: &mut Generator, first: u32, damaged: bool) -> Term {
     let rows = rows.chunks(FIELDS).map(|row| {
         let mut row: Row = row.try_into().expect("a whole row");
         match row[0] {
-            0x03..=0x06 | 0x08 | 0x09 => row[1] += first,
+            0x03..=0x06 | 0x08 | 0x09 | 0x0C => row[1] += first,
             0x0A | 0x0D => {
                 row[1] += first;
                 row[3] += first;

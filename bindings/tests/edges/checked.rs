@@ -57,7 +57,7 @@ fn the_form_before_the_author() {
         both_refuse(BASE, &rows, &READINGS, STORE)
     };
     assert_eq!(with(20, 0), refused(12, 4));
-    assert_eq!(with(20, 12), refused(13, 4));
+    assert_eq!(with(20, 14), refused(13, 4));
     assert_eq!(with(21, 64), refused(14, 4));
     assert_eq!(with(24, 1), refused(14, 4));
     assert_eq!(with(0, 8), refused(18, 0));

@@ -4,7 +4,7 @@
 use crate::asked::{judge_rows, read, write};
 use crate::common::case::{hex_bytes, hex_rows};
 use crate::common::guarded::Guarded;
-use crate::common::terms::header;
+use crate::common::terms::{header, of_version_2};
 use crate::common::{refused, Answer, ReadAnswer};
 use roomscript::{Limits, Script, FIELDS, MAX_BYTES, NEWEST};
 
@@ -29,6 +29,9 @@ pub const E1_ROWS: [Row; 8] = [
 
 pub const BOX: Row = [0x07, 0, 0, 0, 0];
 pub const READING: Row = [0x02, 3, 0, 0, 0];
+
+/// A kind that no version has.
+pub const UNKNOWN: u32 = 0x0E;
 
 /// A block's row.
 pub fn block(count: u32) -> Row {
@@ -147,15 +150,16 @@ pub fn reads_in_each(body: &[u8]) -> [Answer; 2] {
 /// Judges rows. Where they are refused the writer of the newest version must
 /// refuse them alike, whatever its output, and leave that as it was; where they
 /// are accepted, reading what is written must give them back. For the writer of
-/// version 1 a sum is an unknown kind, and there are no other versions.
+/// version 1 the kinds of version 2 are unknown, and there are no other
+/// versions.
 #[track_caller]
 pub fn judges_under(limits: Limits, rows: &[u32]) -> Answer {
     let answer = judge_rows(limits, rows);
     writes_as_judged(2, limits, rows, answer);
     let mut without = rows.to_vec();
     for row in without.chunks_mut(FIELDS) {
-        if row[0] == 0x0D {
-            row[0] = 0x0C;
+        if of_version_2(row[0]) {
+            row[0] = UNKNOWN;
         }
     }
     writes_as_judged(1, limits, rows, judge_rows(limits, &without));

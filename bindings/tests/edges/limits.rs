@@ -51,7 +51,7 @@ fn levels_16_and_17_of_bytes() {
         refused(14, 36)
     );
     assert_eq!(
-        reads_body(&[&blocks(17)[..], &[0x0C]].concat()),
+        reads_body(&[&blocks(17)[..], &[0x0E]].concat()),
         refused(13, 37)
     );
     // After a term on level 16 the next one beside it is on level 16 too.
@@ -100,7 +100,7 @@ fn terms_512_and_513_of_bytes() {
     // The last of 513 terms begins at 5 + 3 * 2 + 509 * 2.
     let mut beyond = two_blocks(255, 255);
     assert_eq!(reads_body(&beyond), refused(16, 1029));
-    beyond[1029 - 5] = 0x0C;
+    beyond[1029 - 5] = 0x0E;
     assert_eq!(reads_body(&beyond), refused(13, 1029));
     beyond.truncate(1029 - 5);
     assert_eq!(reads_body(&beyond), refused(12, 1029));

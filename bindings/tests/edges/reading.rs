@@ -96,7 +96,7 @@ fn an_ended_script_is_refused_at_its_length() {
 
 #[test]
 fn unknown_kinds() {
-    for kind in (0x0E..=0xFF).chain([0x00, 0x0C]) {
+    for kind in (0x0E..=0xFF).chain([0x00]) {
         // Also before 18.
         assert_eq!(reads_body(&[kind]), refused(13, 5));
         assert_eq!(reads_body(&[0x0B, 2, 0x02, 0, kind]), refused(13, 9));

@@ -4,7 +4,7 @@
 use crate::asked::{judge_rows, read, write};
 use crate::common::guarded::Guarded;
 use crate::common::sets::{LEAST, SMALL, UNEVEN};
-use crate::common::terms::{self, below, boxed, let_, number, reading, sum, Term};
+use crate::common::terms::{self, below, boxed, choice, let_, number, reading, sum, Term};
 use crate::common::{read_as, refused, Answer};
 use crate::given::*;
 use roomscript::{Limits, NEWEST};
@@ -119,7 +119,7 @@ fn kinds_of_a_later_version_13() {
     let nested = [block(1), block(1), [0x08, 5, 0, 0, 0], SUM];
     assert_eq!(in_each(&nested), [refused(13, 3), Ok(16)]);
     assert_eq!(in_each(&[SUM]), [refused(13, 0), refused(18, 0)]);
-    for kind in [0x0C, 0x0E, 0x10D, 0x0D00, 0x0D00_0000, 0x8000_000D] {
+    for kind in [0x0E, 0x10C, 0x10D, 0x0D00, 0x0D00_0000, 0x8000_000D] {
         let unknown = [block(1), [kind, 0, 0, 0, 0]];
         assert_eq!(in_each(&unknown), [refused(13, 1); 2]);
         assert_eq!(in_each(&unknown[1..]), [refused(13, 0); 2]);
@@ -187,6 +187,7 @@ fn scripts() -> Vec<(Vec<Term>, &'static [u32])> {
         (vec![number(-1), number(i32::MIN)], &[1, 2]),
         (vec![one(), sum((0, 1), (0, 1))], &[2]),
         (vec![one(), let_(63, boxed(sum((0, 1), (0, 1))))], &[2]),
+        (vec![one(), choice((0, 1), &[number(1)], &[one()])], &[2]),
     ]
 }
 

@@ -8,7 +8,7 @@ use crate::given::*;
 const ANY: u32 = u32::MAX;
 
 /// Each kind with its largest operands, an unused field having 0.
-const LARGEST: [Row; 12] = [
+const LARGEST: [Row; 13] = [
     [0x01, ANY, 0, 0, 0],
     [0x02, 7, 0, 0, 0],
     [0x03, 63, 8, 0, 0],
@@ -20,6 +20,7 @@ const LARGEST: [Row; 12] = [
     [0x09, 63, 8, 0, 0],
     [0x0A, 63, 8, 63, 8],
     [0x0B, 255, 0, 0, 0],
+    [0x0C, 63, 8, 0, 0],
     [0x0D, 63, 8, 63, 8],
 ];
 
@@ -59,13 +60,15 @@ fn ended_rows() {
 #[test]
 fn unknown_kinds() {
     for kind in [
-        0x0C,
         0x0E,
         0xFF,
         0x100,
         0x10B,
+        0x10C,
         0x10D,
+        0x0C00,
         0x0D00,
+        0x8000_000C,
         0x8000_000D,
         0x0B00,
         0x0B00_0000,
@@ -80,16 +83,15 @@ fn unknown_kinds() {
     }
 }
 
-/// A row in a block, with an inner term where it takes one.
+/// A row in a block, with inner terms where it takes some.
 fn in_block(row: Row) -> Vec<Row> {
-    let mut rows = vec![block(1), row];
     let inner = match row[0] {
-        0x07..=0x09 => 1,
-        0x0B => row[1] as usize,
-        _ => 0,
+        0x07..=0x09 => vec![READING],
+        0x0B => vec![READING; row[1] as usize],
+        0x0C => [block(1), READING].repeat(2),
+        _ => vec![],
     };
-    rows.extend(vec![READING; inner]);
-    rows
+    [vec![block(1), row], inner].concat()
 }
 
 #[test]
@@ -134,7 +136,7 @@ fn operands_come_before_later_rows() {
 
 #[test]
 fn the_outermost_row_is_a_block() {
-    for kind in (0x01..=0x0A).chain([0x0D]) {
+    for kind in (0x01..=0x0A).chain([0x0C, 0x0D]) {
         assert_eq!(judges_first(&[[kind, 0, 0, 0, 0]]), refused(18, 0));
         // Before the operands.
         assert_eq!(judges_first(&[[kind, ANY, ANY, ANY, ANY]]), refused(18, 0));

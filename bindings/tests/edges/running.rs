@@ -52,7 +52,7 @@ fn refusals_by_the_rows() {
         refuses(&rows, &READINGS, STORE)
     };
     assert_eq!(with(15, 0), refused(12, 3));
-    assert_eq!(with(15, 12), refused(13, 3));
+    assert_eq!(with(15, 14), refused(13, 3));
     assert_eq!(with(16, 64), refused(14, 3));
     assert_eq!(with(19, 1), refused(14, 3));
     assert_eq!(with(1, 0), refused(14, 0));

@@ -27,7 +27,7 @@ fn rows_are_judged_first() {
         asked::check(BASE, &rows)
     };
     assert_eq!(with(5, 0), refused(12, 1));
-    assert_eq!(with(5, 12), refused(13, 1));
+    assert_eq!(with(5, 14), refused(13, 1));
     assert_eq!(with(6, 64), refused(14, 1));
     assert_eq!(with(8, 1), refused(14, 1));
     assert_eq!(with(0, 10), refused(18, 0));

@@ -62,15 +62,19 @@ fn in_rows() {
             0x8000_0000,
             u32::MAX,
         ];
-        for kind in [0x03, 0x04, 0x05, 0x06, 0x08, 0x09, 0x0A, 0x0D] {
+        for kind in [0x03, 0x04, 0x05, 0x06, 0x08, 0x09, 0x0A, 0x0C, 0x0D] {
             let rows = |first, second| {
                 let row = match kind {
                     0x08 => [kind, first, 0, 0, 0],
                     0x0A | 0x0D => [kind, first, 8, second, 8],
                     _ => [kind, first, 8, 0, 0],
                 };
-                let inner = if kind == 0x08 || kind == 0x09 { 1 } else { 0 };
-                [&[block(1), row], &[READING][..inner]].concat()
+                let inner = match kind {
+                    0x08 | 0x09 => vec![READING],
+                    0x0C => [block(1), READING].repeat(2),
+                    _ => vec![],
+                };
+                [vec![block(1), row], inner].concat()
             };
             let right = rows(last, last);
             assert_eq!(judges_first_under(limits, &right), Ok(right.len() as u32));

@@ -194,11 +194,9 @@ fn sums_at_each_place() {
             let ended = refused(12, place + length as u32);
             unknown_or(&[before, &sum[..length]].concat(), place, ended);
         }
-        // Neither version has these.
-        for kind in [0x0C, 0x0E] {
-            let other = [before, &[kind, 0, 0, 63, 8]].concat();
-            assert_eq!(reads_in_each(&other), [refused(13, place); 2]);
-        }
+        // Neither version has this.
+        let other = [before, &[0x0E, 0, 0, 63, 8]].concat();
+        assert_eq!(reads_in_each(&other), [refused(13, place); 2]);
         // Nothing is inside a sum, and nothing comes after the block.
         for more in [0x00, 0x02, 0x0D] {
             let left = refused(19, place + 5);
@@ -226,7 +224,7 @@ fn a_sum_as_the_outermost_term() {
     unknown_or(&[0x0D], 5, refused(18, 5));
     unknown_or(&[0x0D, 0, 0, 0, 0], 5, refused(18, 5));
     unknown_or(&[0x0D, 255, 255, 255, 255], 5, refused(18, 5));
-    for kind in [0x0C, 0x0E, 0xFF] {
+    for kind in [0x0E, 0xFF] {
         assert_eq!(reads_in_each(&[kind, 0, 0, 0, 0]), [refused(13, 5); 2]);
     }
 }

@@ -56,7 +56,7 @@ fn one_term_too_many_of_the_largest_set() {
     assert_eq!(answer, refused(12, 4096));
     // 13 and 12 come before 16.
     let mut other = bytes.clone();
-    other[place as usize] = 0x0C;
+    other[place as usize] = 0x0E;
     assert_eq!(reads_under(Limits::LARGEST, &other), refused(13, place));
     other.truncate(place as usize);
     assert_eq!(reads_under(Limits::LARGEST, &other), refused(12, place));

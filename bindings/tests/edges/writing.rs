@@ -93,6 +93,10 @@ fn each_kind_gives_its_bytes() {
     }
     let added = written(2, &[block(1), [0x0D, 6, 7, 9, 8]]);
     assert_eq!(added, script_in(2, &[0x0B, 1, 0x0D, 6, 7, 9, 8]));
+    let branches = [block(1), READING, block(1), READING];
+    let chosen = [&[block(1), [0x0C, 6, 7, 0, 0]], &branches[..]].concat();
+    let body = [0x0B, 1, 0x0C, 6, 7, 0x0B, 1, 0x02, 3, 0x0B, 1, 0x02, 3];
+    assert_eq!(written(2, &chosen), script_in(2, &body));
     let around: [(Row, &[u8]); 4] = [
         ([0x07, 0, 0, 0, 0], &[0x07]),
         ([0x08, 63, 0, 0, 0], &[0x08, 63]),

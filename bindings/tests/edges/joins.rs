@@ -1,0 +1,361 @@
+//! What is known after a choice: the scripts of LANGUAGE 8.9 and those that
+//! tell the decisions on choices apart, and then variables that one branch
+//! moved away, borrows of several places, and writes that may land in several.
+
+use crate::choosing::{by_reading, runs_either_way};
+use crate::common::terms::*;
+use crate::common::{ran, refused};
+use crate::hand::*;
+use roomscript::Refusal;
+
+/// Accepted after `let v0=reading 0`, with these answers for a reading that is
+/// not 0 and for 0, and so many cells with either.
+#[track_caller]
+fn gives(terms: &[Term], answers: [i32; 2], cells: u32) {
+    let due = answers.map(|answer| ran(answer, cells));
+    assert_eq!(runs_either_way(&by_reading(terms)), due);
+}
+
+/// Refused after `let v0=reading 0`, which is terms 1 and 2.
+#[track_caller]
+fn refuses(terms: &[Term], number: u32, term: u32) {
+    assert_eq!(checks(&by_reading(terms)), refused(number, term));
+}
+
+/// A choice on v0.
+fn choose(first: &[Term], second: &[Term]) -> Term {
+    choice((0, 0), first, second)
+}
+
+fn one() -> Term {
+    number(1)
+}
+
+/// `let v1=1; let v2=2`.
+fn two_numbers() -> [Term; 2] {
+    [let_(1, number(1)), let_(2, number(2))]
+}
+
+/// `let v1=box 1; let v2=box 2`.
+fn two_boxes() -> [Term; 2] {
+    [let_(1, boxed(number(1))), let_(2, boxed(number(2)))]
+}
+
+/// The first terms, and then others.
+fn then(first: &[Term], more: &[Term]) -> Vec<Term> {
+    [first, more].concat()
+}
+
+#[test]
+fn listed_choices_by_themselves() {
+    gives(&[choose(&[number(7)], &[number(8)])], [7, 8], 0);
+    let outside = choice((9, 0), &[copy((8, 0))], &[copy((8, 0))]);
+    refuses(&[outside], 31, 3);
+    let differ = choose(&[boxed(one())], &[number(2)]);
+    refuses(&[differ, number(0)], 39, 3);
+    let later = choose(&[boxed(one())], &[copy((9, 0))]);
+    refuses(&[later, number(0)], 31, 8);
+    let local = |value| [let_(1, number(value)), number(0)];
+    refuses(&[choose(&local(1), &local(2))], 30, 9);
+    let none = choose(&[one()], &[let_(1, one())]);
+    refuses(&[none, number(0)], 39, 3);
+}
+
+#[test]
+fn listed_moves() {
+    let moved = [
+        let_(1, boxed(one())),
+        choose(&[mov((1, 0)), number(0)], &[number(0)]),
+        copy((1, 1)),
+    ];
+    refuses(&moved, 33, 12);
+    let holder = [
+        let_(1, one()),
+        let_(2, one()),
+        let_(3, exclusive((1, 0))),
+        choose(&[mov((3, 0)), one()], &[one()]),
+        mov((1, 0)),
+        one(),
+    ];
+    gives(&holder, [1, 1], 0);
+    let elsewhere = [assign((3, 0), exclusive((2, 1))), mov((1, 0)), one()];
+    let beyond = [
+        let_(3, exclusive((1, 1))),
+        choose(&elsewhere, &[one()]),
+        assign((3, 1), number(5)),
+        one(),
+    ];
+    refuses(&then(&two_boxes(), &beyond), 33, 19);
+    let elsewhere = [assign((3, 0), exclusive((2, 0))), mov((1, 0)), one()];
+    let filled = [
+        let_(3, exclusive((1, 0))),
+        choose(&elsewhere, &[one()]),
+        assign((3, 1), boxed(number(3))),
+        mov((3, 0)),
+        copy((1, 1)),
+    ];
+    refuses(&then(&two_boxes(), &filled), 33, 22);
+}
+
+#[test]
+fn listed_borrows() {
+    let of_two = || let_(3, choose(&[shared((1, 0))], &[shared((2, 0))]));
+    let with = |more: &[Term]| [&two_numbers()[..], &[of_two()], more].concat();
+    gives(&with(&[copy((3, 1))]), [1, 2], 0);
+    refuses(&with(&[assign((2, 0), number(3)), copy((3, 1))]), 35, 13);
+    let replaced = [
+        assign((3, 0), shared((1, 0))),
+        assign((2, 0), number(5)),
+        copy((3, 1)),
+    ];
+    gives(&with(&replaced), [1, 1], 0);
+    let written = [
+        let_(3, choose(&[exclusive((1, 1))], &[exclusive((2, 1))])),
+        assign((3, 1), number(7)),
+        copy((3, 1)),
+    ];
+    gives(&then(&two_boxes(), &written), [7, 7], 2);
+    let references = || [let_(3, shared((1, 0))), let_(4, shared((2, 0)))];
+    let circle = [
+        choose(
+            &[assign((3, 0), shared((4, 1))), one()],
+            &[assign((4, 0), shared((3, 1))), one()],
+        ),
+        copy((3, 1)),
+    ];
+    let terms = [&two_numbers()[..], &references(), &circle].concat();
+    gives(&terms, [2, 1], 0);
+    let copied = [
+        let_(5, choose(&[shared((3, 0))], &[shared((4, 0))])),
+        let_(6, copy((5, 1))),
+        mov((5, 0)),
+        mov((3, 0)),
+        mov((4, 0)),
+        assign((2, 0), number(7)),
+        copy((6, 1)),
+    ];
+    let terms = [&two_numbers()[..], &references(), &copied].concat();
+    refuses(&terms, 35, 22);
+}
+
+#[test]
+fn listed_lives() {
+    let inner = block(&[
+        let_(3, number(2)),
+        let_(4, shared((1, 0))),
+        let_(5, choose(&[exclusive((2, 0))], &[exclusive((4, 0))])),
+        assign((5, 1), shared((3, 0))),
+        number(0),
+    ]);
+    let terms = [let_(1, one()), let_(2, shared((1, 0))), inner, number(0)];
+    refuses(&terms, 40, 18);
+}
+
+/// What the check answers of a choice on v0 with these terms and a 1 in its
+/// branches, and of terms after it. Where these are refused the term is counted
+/// from the first of them. Both orders of the branches are answered alike.
+#[track_caller]
+fn after(before: &[Term], branches: [&[Term]; 2], more: &[Term]) -> Result<(), Refusal> {
+    let [first, second] = branches.map(|terms| then(terms, &[one()]));
+    let answers = [choose(&first, &second), choose(&second, &first)].map(|choice| {
+        let until = by_reading(&then(before, &[choice]));
+        let count = block(&until).len() as u32;
+        let all = [&until[..], more, &[one()]].concat();
+        accepts(&all).map_err(|Refusal { number, place }| Refusal {
+            number,
+            place: place.checked_sub(count).expect("after the choice"),
+        })
+    });
+    assert_eq!(answers[0], answers[1]);
+    answers[0]
+}
+
+#[test]
+fn moved_away_from_the_earlier_position() {
+    let before = [let_(1, boxes(2, one()))];
+    let moves = [mov((1, 0)), mov((1, 1)), mov((1, 2))].map(|term| vec![term]);
+    let branches = [&[][..], &moves[0], &moves[1], &moves[2]];
+    // From which position on something is moved away, 3 for none.
+    let from = |at: usize| (at + 3) % 4;
+    for first in 0..4 {
+        for second in 0..4 {
+            let earlier = from(first).min(from(second));
+            for follows in 0..3 {
+                let more = [
+                    assign((1, follows as u32), boxes(2 - follows, number(5))),
+                    copy((1, 2)),
+                ];
+                let due = match follows <= earlier {
+                    true => Ok(()),
+                    false => refused(33, 0),
+                };
+                let both = [branches[first], branches[second]];
+                assert_eq!(after(&before, both, &more), due);
+            }
+        }
+    }
+}
+
+/// What is filled in one branch alone is still moved away.
+#[test]
+fn filled_again() {
+    let before = then(&two_boxes(), &[mov((1, 1))]);
+    let fill = [assign((1, 1), number(5))];
+    let read = [copy((1, 1))];
+    assert_eq!(after(&before, [&fill, &[]], &read), refused(33, 0));
+    assert_eq!(after(&before, [&fill, &fill], &read), Ok(()));
+    assert_eq!(after(&before, [&[], &[]], &fill), Ok(()));
+    let within = [mov((2, 0)), assign((2, 0), boxed(number(6)))];
+    assert_eq!(after(&before, [&within, &[]], &[copy((2, 1))]), Ok(()));
+}
+
+/// v3 borrows v1 before, and v2 after one of the branches.
+#[test]
+fn lent_in_either_branch() {
+    for (borrow, reads) in [
+        (shared as fn(Place) -> Term, Ok(())),
+        (exclusive, refused(34, 0)),
+    ] {
+        let before = then(&two_numbers(), &[let_(3, borrow((1, 0)))]);
+        let again = [assign((3, 0), borrow((2, 0)))];
+        let more = |terms: &[Term]| after(&before, [&again, &[]], terms);
+        for root in [1, 2] {
+            let place = (root, 0);
+            assert_eq!(more(&[copy(place)]), reads);
+            assert_eq!(more(&[shared(place)]), reads);
+            assert_eq!(more(&[choice(place, &[one()], &[one()])]), reads);
+            assert_eq!(more(&[sum((0, 0), place)]), reads);
+            assert_eq!(more(&[mov(place)]), refused(35, 0));
+            assert_eq!(more(&[exclusive(place)]), refused(35, 0));
+            assert_eq!(more(&[assign(place, one())]), refused(35, 0));
+            // Over once it borrows something else, or is moved away.
+            let other = assign((3, 0), borrow((0, 0)));
+            assert_eq!(more(&[other, mov(place)]), Ok(()));
+            assert_eq!(more(&[mov((3, 0)), mov(place)]), Ok(()));
+        }
+        // After both branches it borrows v2 alone.
+        let both = |place| after(&before, [&again, &again], &[mov(place)]);
+        assert_eq!(both((1, 0)), Ok(()));
+        assert_eq!(both((2, 0)), refused(35, 0));
+    }
+}
+
+/// v1 is moved away in the branch in which v3 does not borrow it, so nothing is
+/// done by way of v3, but to let it borrow something else.
+#[test]
+fn the_own_path_of_each_borrowed_place() {
+    let before = then(&two_boxes(), &[let_(3, exclusive((1, 1)))]);
+    let leave = [assign((3, 0), exclusive((2, 1))), mov((1, 0))];
+    let uses = [
+        assign((3, 1), number(5)),
+        copy((3, 1)),
+        shared((3, 1)),
+        exclusive((3, 1)),
+        below((3, 1), (0, 0)),
+        sum((0, 0), (3, 1)),
+        choice((3, 1), &[one()], &[one()]),
+        shared((3, 0)),
+        mov((3, 0)),
+    ];
+    for term in uses {
+        assert_eq!(after(&before, [&leave, &[]], &[term]), refused(33, 0));
+    }
+    let other = [assign((3, 0), exclusive((0, 0))), assign((3, 1), one())];
+    assert_eq!(after(&before, [&leave, &[]], &other), Ok(()));
+    // A mark at the place itself is not on the path, so it can be filled.
+    let leave = [assign((3, 0), exclusive((2, 1))), mov((1, 1))];
+    let write = [assign((3, 1), number(5))];
+    assert_eq!(after(&before, [&leave, &[]], &write), Ok(()));
+    let read = [copy((3, 1))];
+    assert_eq!(after(&before, [&leave, &[]], &read), refused(33, 0));
+}
+
+/// v5 borrows v3 or v4, which borrow v1 and v2.
+fn of_two_references() -> Vec<Term> {
+    let references = [
+        let_(3, shared((1, 0))),
+        let_(4, shared((2, 0))),
+        let_(5, exclusive((3, 0))),
+    ];
+    then(&two_numbers(), &references)
+}
+
+#[test]
+fn a_write_that_may_land_in_several() {
+    let before = of_two_references();
+    let other = [assign((5, 0), exclusive((4, 0)))];
+    let write = || [assign((5, 1), shared((0, 0))), mov((5, 0))];
+    let more = |terms: &[Term]| after(&before, [&other, &[]], &then(&write(), terms));
+    // Each of v3 and v4 may borrow v0 now, and still what it did.
+    for root in [0, 1, 2] {
+        assert_eq!(more(&[assign((root, 0), one())]), refused(35, 3));
+        let reads = [copy((root, 0)), copy((3, 1)), copy((4, 1))];
+        assert_eq!(more(&reads), Ok(()));
+    }
+    assert_eq!(more(&[mov((4, 0)), mov((2, 0))]), Ok(()));
+    assert_eq!(more(&[mov((4, 0)), mov((1, 0))]), refused(35, 4));
+    assert_eq!(more(&[mov((4, 0)), mov((0, 0))]), refused(35, 4));
+    assert_eq!(more(&[mov((3, 0)), mov((4, 0)), mov((0, 0))]), Ok(()));
+    // In one variable whichever branch runs, it replaces what v3 borrowed.
+    let certain = then(&write(), &[mov((1, 0))]);
+    assert_eq!(after(&before, [&[], &[]], &certain), Ok(()));
+    // Still no way through a shared link, and no move through a borrow.
+    let through = |term: Term| after(&before, [&other, &[]], &[term]);
+    assert_eq!(through(assign((5, 2), one())), refused(36, 0));
+    assert_eq!(through(exclusive((5, 2))), refused(36, 0));
+    assert_eq!(through(mov((5, 1))), refused(38, 0));
+    assert_eq!(through(copy((5, 2))), Ok(()));
+}
+
+/// v3 and v4 borrow through each other, one after each branch.
+#[test]
+fn a_circle() {
+    let before = |borrow: fn(Place) -> Term| {
+        let both = [let_(3, borrow((1, 0))), let_(4, borrow((2, 0)))];
+        then(&two_numbers(), &both)
+    };
+    for (borrow, reads, writes) in [
+        (shared as fn(Place) -> Term, Ok(()), 36),
+        (exclusive, refused(34, 0), 35),
+    ] {
+        let first = [assign((3, 0), borrow((4, 1)))];
+        let second = [assign((4, 0), borrow((3, 1)))];
+        let more = |term: Term| after(&before(borrow), [&first, &second], &[term]);
+        for root in [3, 4] {
+            assert_eq!(more(copy((root, 1))), reads);
+            assert_eq!(more(shared((root, 1))), reads);
+            assert_eq!(more(mov((root, 0))), refused(35, 0));
+            assert_eq!(more(assign((root, 1), one())), refused(writes, 0));
+        }
+    }
+    // With v2 moved away in it neither can be used.
+    let first = [assign((3, 0), shared((4, 1)))];
+    let second = [assign((4, 0), shared((3, 1))), mov((2, 0))];
+    for root in [3, 4] {
+        let more = [copy((root, 1))];
+        let answer = after(&before(shared), [&first, &second], &more);
+        assert_eq!(answer, refused(33, 0));
+    }
+}
+
+/// v1 borrows all others at last, each after one of as many choices.
+#[test]
+fn as_many_borrowed_places_as_variables() {
+    for count in [3, 40] {
+        let others = 2..count;
+        let mut terms: Vec<Term> = others.clone().map(|v| let_(v, number(v as i32))).collect();
+        terms.push(let_(1, shared((0, 0))));
+        let bound = |v| choose(&[assign((1, 0), shared((v, 0))), one()], &[one()]);
+        terms.extend(others.clone().map(bound));
+        let last = count as i32 - 1;
+        gives(&then(&terms, &[copy((1, 1))]), [last, 0], 0);
+        let until = block(&by_reading(&terms)).len() as u32;
+        for root in [0, 2, count - 1] {
+            let write = assign((root, 0), one());
+            refuses(&then(&terms, &[write, one()]), 35, until);
+        }
+        // One of them moved away in a branch.
+        let moved = choose(&[mov((1, 0)), mov((count - 1, 0)), one()], &[one()]);
+        refuses(&then(&terms, &[moved, copy((1, 1))]), 33, until + 7);
+    }
+}
