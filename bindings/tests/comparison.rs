@@ -8,13 +8,16 @@
 //! buffers: scripts read, with every version known and with others; rows judged,
 //! and written in each version; rows checked, run and run unchecked that were
 //! steered to be accepted, near misses of those, wild ones and any ones; scripts
-//! of each kind called; the same of scripts that all have a sum; full scripts of
-//! the largest set; and all small scripts over a small alphabet. Of some scripts
-//! with sums plain arithmetic tells the answer too. It also compares the library
-//! with itself: a run with the check and the unchecked run, a call with read
-//! and then run, one set with a larger one, and sums with belows. A longer run,
-//! or one with other cases, takes its seed and its number of cases from the
-//! environment:
+//! of each kind called; the same of scripts that all have a sum, and of scripts
+//! that all have a choice whose branches leave variables differently, with
+//! readings for both branches; full scripts of the largest set; all small
+//! scripts over a small alphabet, all small ones with a choice, and all short
+//! sequences of rows with choices. Of some scripts with sums and choices plain
+//! arithmetic tells the answer too. It also compares the library with itself: a
+//! run with the check and the unchecked run, a call with read and then run, one
+//! set with a larger one, sums with belows, a choice with the branch that runs,
+//! and with its branches in the other order. A longer run, or one with other
+//! cases, takes its seed and its number of cases from the environment:
 //!
 //! ```text
 //! ROOMSCRIPT_SEED=7 ROOMSCRIPT_CASES=5000000 \
@@ -36,17 +39,25 @@ mod alphabet;
 mod arithmetic;
 #[path = "comparison/beyond.rs"]
 mod beyond;
+#[path = "comparison/branches.rs"]
+mod branches;
 #[path = "comparison/calling.rs"]
 mod calling;
+#[path = "comparison/choices.rs"]
+mod choices;
 mod common;
 #[path = "comparison/exhaustive.rs"]
 mod exhaustive;
 #[path = "comparison/generated.rs"]
 mod generated;
+#[path = "comparison/joins.rs"]
+mod joins;
 #[path = "comparison/larger.rs"]
 mod larger;
 #[path = "comparison/layers.rs"]
 mod layers;
+#[path = "comparison/outlines.rs"]
+mod outlines;
 #[path = "comparison/packed.rs"]
 mod packed;
 #[path = "comparison/reached.rs"]

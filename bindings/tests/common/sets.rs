@@ -1,6 +1,6 @@
 //! Sets of limits that the tests hand in.
 
-use super::terms::{block, Row, Term};
+use super::terms::{block, inner_terms, Row, Term};
 use roomscript::Limits;
 
 pub const fn set(terms: u32, variables: u32, boxes: u32, levels: u32) -> Limits {
@@ -72,11 +72,6 @@ fn variables(row: &Row) -> u32 {
 /// The levels of the next term.
 fn levels<'a>(rows: &mut impl Iterator<Item = &'a Row>) -> u32 {
     let row = rows.next().expect("the row of a term");
-    let inner = match row[0] {
-        0x0B => row[1],
-        0x0C => 2,
-        0x07..=0x09 => 1,
-        _ => 0,
-    };
-    1 + (0..inner).map(|_| levels(rows)).max().unwrap_or(0)
+    let inner = (0..inner_terms(row)).map(|_| levels(rows));
+    1 + inner.max().unwrap_or(0)
 }

@@ -69,6 +69,16 @@ pub fn block(terms: &[Term]) -> Term {
     [vec![[0x0B, terms.len() as u32, 0, 0, 0]], terms.concat()].concat()
 }
 
+/// How many terms stand directly inside a term with this row.
+pub fn inner_terms(row: &[u32]) -> u32 {
+    match row[0] {
+        0x0B => row[1],
+        0x0C => 2,
+        0x07..=0x09 => 1,
+        _ => 0,
+    }
+}
+
 /// Mark and version.
 pub fn header(version: u32) -> [u8; 5] {
     [b'R', b'C', b'S', (version >> 8) as u8, version as u8]

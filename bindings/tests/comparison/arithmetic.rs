@@ -1,5 +1,5 @@
-//! Scripts of numbers, readings, boxes, borrows, assigns and sums, whose answer
-//! plain arithmetic in 64 bits tells: by both programs.
+//! Scripts of numbers, readings, boxes, borrows, assigns, sums and choices, whose
+//! answer plain arithmetic in 64 bits tells: by both programs.
 
 use crate::common::case::{Case, Input};
 use crate::common::due;
@@ -34,6 +34,8 @@ struct Sheet {
     /// How often a sum was within the range, held to its upper end, and to its
     /// lower one.
     sums: [u64; 3],
+    /// How often a choice took its first branch, and its second.
+    choices: [u64; 2],
 }
 
 fn value(random: &mut Random) -> i32 {
@@ -56,6 +58,7 @@ impl Sheet {
             readings: [(); READINGS_LEN].map(|()| value(random)),
             variables: 0,
             sums: [0; 3],
+            choices: [0; 2],
         };
         for _ in 0..random.between(2, 14) {
             sheet.statement(random);
@@ -81,35 +84,62 @@ impl Sheet {
         kept
     }
 
+    /// A number of the script, a reading or a copy, and the number.
+    fn leaf(&self, random: &mut Random) -> (Term, i32) {
+        match random.below(5) {
+            2 | 3 => {
+                let index = random.below(READINGS_LEN as u32);
+                (reading(index), self.readings[index as usize])
+            }
+            4 if !self.known.is_empty() => {
+                let known = self.any(random);
+                (copy(known.place), self.values[known.value])
+            }
+            _ => {
+                let number_of = value(random);
+                (number(number_of), number_of)
+            }
+        }
+    }
+
+    /// Which of two branches a choice on a place takes: the first if the number
+    /// there is not 0.
+    fn take<T>(&mut self, by: Known, first: T, second: T) -> T {
+        let taken = self.values[by.value] != 0;
+        self.choices[usize::from(!taken)] += 1;
+        match taken {
+            true => first,
+            false => second,
+        }
+    }
+
     /// A term that gives a number, and the number.
     fn term(&mut self, random: &mut Random) -> (Term, i32) {
-        let choice = random.below(10);
-        if self.known.is_empty() || choice < 2 {
-            let number_of = value(random);
-            return (number(number_of), number_of);
-        }
-        if choice < 4 {
-            let index = random.below(READINGS_LEN as u32);
-            return (reading(index), self.readings[index as usize]);
-        }
-        if choice < 5 {
-            let known = self.any(random);
-            return (copy(known.place), self.values[known.value]);
+        let kind = random.below(11);
+        if self.known.is_empty() || kind < 5 {
+            return self.leaf(random);
         }
         let (first, second) = (self.any(random), self.any(random));
+        if kind == 10 {
+            let branches = [self.leaf(random), self.leaf(random)];
+            let [(a, of_a), (b, of_b)] = branches;
+            let chosen = choice(first.place, &[number(3), a], &[b]);
+            return (chosen, self.take(first, of_a, of_b));
+        }
         let kept = self.add(first.value, second.value);
         let added = sum(first.place, second.place);
-        match choice {
+        match kind {
             5 => (block(&[number(3), added]), kept),
             _ => (added, kept),
         }
     }
 
     fn statement(&mut self, random: &mut Random) {
-        match random.below(10) {
+        match random.below(11) {
             _ if self.known.is_empty() => self.declare(random),
             0..=4 => self.declare(random),
             5 | 6 => self.borrow(random),
+            7 => self.choose(random),
             _ => self.assign(random),
         }
     }
@@ -165,6 +195,27 @@ impl Sheet {
         self.values[known.value] = number;
     }
 
+    /// A choice that assigns in one branch, and does nothing in the other or
+    /// assigns there too.
+    fn choose(&mut self, random: &mut Random) {
+        let (by, known) = (self.any(random), self.any(random));
+        if !known.writable || self.held.contains(&known.place.0) {
+            return self.declare(random);
+        }
+        let before = self.values[known.value];
+        let (term, of_first) = self.leaf(random);
+        let first = [assign(known.place, term), number(1)];
+        let (second, of_second) = match random.below(2) {
+            0 => (vec![number(2)], before),
+            _ => {
+                let (term, of_second) = self.leaf(random);
+                (vec![assign(known.place, term), number(2)], of_second)
+            }
+        };
+        self.terms.push(choice(by.place, &first, &second));
+        self.values[known.value] = self.take(by, of_first, of_second);
+    }
+
     /// The answer: a sum of two numbers.
     fn end(&mut self, random: &mut Random) -> i32 {
         let (first, second) = (self.any(random), self.any(random));
@@ -174,12 +225,13 @@ impl Sheet {
 }
 
 #[test]
-fn sums_are_those_of_plain_arithmetic() {
+fn sums_and_choices_are_those_of_plain_arithmetic() {
     let settings = Settings::from_environment();
     let mut random = Random::new(settings.seed);
     let mut layers = Layers::new("plain arithmetic");
     let mut whole = Whole::new();
     let mut sums = [0; 3];
+    let mut choices = [0; 2];
     for number in 0..settings.cases {
         let mut sheet = Sheet::new(&mut random);
         let answer = sheet.end(&mut random);
@@ -214,19 +266,30 @@ fn sums_are_those_of_plain_arithmetic() {
             cells,
         };
         case.equal(called, Ok(all), "answer of call");
-        sums.iter_mut()
-            .zip(sheet.sums)
-            .for_each(|(all, some)| *all += some);
+        add_each(&mut sums, sheet.sums);
+        add_each(&mut choices, sheet.choices);
     }
     for tally in [&layers.checked, &layers.ran, &layers.ran_unchecked] {
         tally.report(&settings, &[0]);
     }
-    let [inside, high, low] = sums;
+    report(&settings, sums, choices);
+}
+
+fn add_each<const COUNT: usize>(all: &mut [u64; COUNT], some: [u64; COUNT]) {
+    all.iter_mut()
+        .zip(some)
+        .for_each(|(all, some)| *all += some);
+}
+
+fn report(settings: &Settings, sums: [u64; 3], choices: [u64; 2]) {
+    let ([inside, high, low], [first, second]) = (sums, choices);
     let _ = writeln!(
         io::stdout(),
         "occurred in plain arithmetic (seed {}): sums inside the range: {inside}, held to the \
-         upper end: {high}, to the lower: {low}",
+         upper end: {high}, to the lower: {low}; choices of the first branch: {first}, of the \
+         second: {second}",
         settings.seed
     );
-    assert!(inside > 0 && high > 0 && low > 0 || !settings.whole);
+    let each = sums.iter().chain(&choices).all(|count| *count > 0);
+    assert!(each || !settings.whole);
 }

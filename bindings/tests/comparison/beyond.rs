@@ -73,8 +73,8 @@ impl Beyond {
     }
 
     fn under_each_set(&mut self, number: u64, terms: &[Row]) {
-        // In both versions in turn, but a sum in both at once: in version 1 it
-        // is refused.
+        // In both versions in turn, but a kind of version 2 in both at once: in
+        // version 1 it is refused.
         let versions = match version_of(terms.as_flattened()) {
             1 => vec![1 + number as u32 % 2],
             _ => vec![1, 2],

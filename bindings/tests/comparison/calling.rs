@@ -149,7 +149,7 @@ fn compare(make: Make, name: &str, sets: Sets, expected: &[u32], rare: &[u32]) {
 
 /// The bytes of rows that the generator makes, under its set or, where no
 /// script is within that, under the least one above it that has room. Those
-/// without a sum are in either version.
+/// without a kind of version 2 are in either version.
 fn written(
     generator: &mut Generator,
     make: fn(&mut Generator, &mut Vec<u32>),

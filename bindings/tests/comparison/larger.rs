@@ -40,7 +40,7 @@ fn ask(case: &Case, rows: &[u32], given: &[i32], junk: u32) -> Answers {
     let ran_unchecked = roomscript::run_unchecked(limits, rows, given, store.lent_mut());
     case.guarded(&store, "store after run_unchecked");
     let mut script = vec![0; MAX_BYTES];
-    // In either version where the rows have no sum.
+    // In either version where both have the kinds of the rows.
     let version = version_of(rows).max(1 + junk % 2);
     let length = roomscript::write(limits, version, rows, &mut script).expect("rows of a script");
     script.truncate(length as usize);

@@ -1,5 +1,6 @@
 //! Rows checked, run and run unchecked by both programs.
 
+use crate::branches::boxes;
 use crate::common::case::Case;
 use crate::common::guarded::Guarded;
 use crate::common::store::tidy_or_unchanged;
@@ -7,10 +8,8 @@ use crate::common::tally::Tally;
 use crate::common::{due, Answer, Run, RunAnswer, UncheckedAnswer};
 use crate::reached::Reached;
 use crate::written::Written;
-use roomscript::{Ran, Refusal, Stop, FIELDS, READINGS_LEN};
+use roomscript::{Ran, Refusal, Stop, READINGS_LEN};
 use std::fmt::Debug;
-
-const BOX: u32 = 7;
 
 /// The numbers that the check, and a run, can answer rows of the right form.
 pub const AUTHOR: [u32; 15] = [0, 30, 31, 32, 33, 34, 35, 36, 37, 38, 39, 40, 41, 42, 43];
@@ -140,11 +139,11 @@ impl Layers {
     }
 
     /// What ran meets no fault (LANGUAGE 7.4), also unchecked, and leaves the
-    /// same store then. It has a cell for every box term: each of those runs,
-    /// since nothing is left out of a run that ends.
+    /// same store then. It has a cell for every box term but those of branches
+    /// that did not run, since nothing else is left out of a run that ends.
     fn as_demanded(&self, case: &Case, rows: &[u32], ran: Ran, unchecked: UncheckedAnswer) {
-        let boxes = rows.chunks(FIELDS).filter(|row| row[0] == BOX).count();
-        case.equal(ran.cells, boxes as u32, "cells of an accepted script");
+        let cells = boxes(rows).contains(&ran.cells);
+        case.expect(cells, "cells of an accepted script");
         case.equal(unchecked, Ok(ran), "answer of run_unchecked beside run");
         case.same(
             self.unchecked.ours.lent(),

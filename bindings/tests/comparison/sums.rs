@@ -13,6 +13,7 @@ use reference::Generator;
 use roomscript::{Limits, FIELDS, READINGS_LEN, STORE_FIELDS};
 
 const BELOW: u32 = 0x0A;
+const CHOICE: u32 = 0x0C;
 const SUM: u32 = 0x0D;
 /// The value kind of a number.
 const NUMBER: u32 = 1;
@@ -74,12 +75,15 @@ fn without_numbers(store: &[u32]) -> Vec<StoreRow> {
 }
 
 /// With belows in place of the sums the check answers the same, and an unchecked
-/// run does the same but for the numbers.
+/// run does the same but for the numbers, where it does not choose by them.
 fn as_with_belows(case: &Case, rows: &[u32], given: &[i32]) {
     let compared = with_kinds(rows, |kind| if kind == SUM { BELOW } else { kind });
     let (checked, ran, store) = answers(case.limits, rows, given);
     let (due, other, other_store) = answers(case.limits, &compared, given);
     case.equal(checked, due, "answer of check beside belows");
+    if rows.chunks(FIELDS).any(|row| row[0] == CHOICE) {
+        return;
+    }
     let cells = |answer: UncheckedAnswer| answer.map(|ran| ran.cells);
     case.equal(cells(ran), cells(other), "unchecked run beside belows");
     case.equal(

@@ -1,0 +1,71 @@
+//! All small scripts with a choice whose branches leave something differently,
+//! by both programs, and beside the branch that runs alone.
+
+use crate::branches::alone;
+use crate::common::case::{Case, Input};
+use crate::common::sets::set;
+use crate::common::UncheckedAnswer;
+use crate::layers::{Layers, Room};
+use roomscript::{Limits, Stop};
+
+/// All of the scripts are within it.
+const LIMITS: Limits = set(64, 6, 8, 8);
+
+/// The number that a run without a check answers, in place of the term that a
+/// fault names, which another script counts differently.
+fn without_term(answer: UncheckedAnswer) -> Result<(i32, u32), u32> {
+    answer
+        .map(|ran| (ran.answer, ran.cells))
+        .map_err(|stop| match stop {
+            Stop::Refused(refusal) => refusal.number,
+            Stop::Fault(fault) => fault.number,
+        })
+}
+
+/// The library runs a script unchecked as it runs the branch that is taken in
+/// place of the choice, with the same store left.
+fn as_the_branch_alone(case: &Case, rows: &[u32], given: &[i32], taken: usize) {
+    let run = |rows: &[u32]| {
+        let mut store = [9; LIMITS.store_numbers()];
+        let answer = roomscript::run_unchecked(LIMITS, rows, given, &mut store);
+        (without_term(answer), store)
+    };
+    let (due, store) = run(&alone(rows, taken));
+    let (answer, left) = run(rows);
+    case.equal(answer, due, "unchecked run beside that of the branch");
+    case.same(&left, &store, "store beside that of the branch");
+}
+
+/// The choice is on a variable that has the first reading.
+#[test]
+fn all_small_choices_are_checked_and_run_alike() {
+    let mut layers = Layers::new("small choices");
+    let mut rows = vec![0; LIMITS.row_numbers()];
+    let mut number = 0;
+    let count = reference::small_choices(&mut |terms| {
+        let used = terms.as_flattened();
+        rows[..used.len()].copy_from_slice(used);
+        rows[used.len()..].fill(0);
+        for (taken, first) in [1, 0].into_iter().enumerate() {
+            let given = [first, 2, 3, 4, 5, 6, 7, 8];
+            let case = Case {
+                seed: None,
+                number,
+                limits: LIMITS,
+                input: Input::Run(&rows, &given),
+            };
+            let room = Room {
+                length: LIMITS.store_numbers(),
+                junk: number as u32,
+            };
+            layers.check_and_run(&case, &rows, &given, room);
+            as_the_branch_alone(&case, &rows, &given, taken);
+        }
+        number += 1;
+    });
+    assert_eq!((count, number), (980_452, 980_452));
+    let checked = [0, 33, 34, 35, 36];
+    layers.checked.report_all(&checked);
+    layers.ran.report_all(&checked);
+    layers.ran_unchecked.report_all(&[0, 60]);
+}
