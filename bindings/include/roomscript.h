@@ -8,10 +8,12 @@
  * order.
  *
  * Scripts have a version. Version 1 has the kinds 1 to 11, and version 2 adds
- * kind 13: the sum of the numbers at two places, held to the ends of the range
- * of an int32_t. Kind 12 is in neither. The bytes of a script tell its version,
- * and its rows do not: reading answers it, and writing is told it. All others
- * that take rows take those of every version.
+ * two. Kind 12 is the choice on the number at a place: of the two blocks in it,
+ * its branches, the first runs if the number is not 0, and otherwise the
+ * second. Kind 13 is the sum of the numbers at two places, held to the ends of
+ * the range of an int32_t. The bytes of a script tell its version, and its rows
+ * do not: reading answers it, and writing is told it. All others that take rows
+ * take those of every version.
  *
  * Every function takes a set of limits first, and the lengths of rows and store
  * follow from it. It answers on every input, without allocation, and changes no
@@ -142,8 +144,8 @@ typedef struct roomscript_script {
  *   12: the script ended, at its length;
  *   13: an unknown kind, one of a later version than the script's among them;
  *   14: an operand out of range, a variable from the set's number on; 15: too
- *   deep; 16: too many terms; 17: too many boxes; 18: the outermost term is no
- *   block; all at the byte judged;
+ *   deep; 16: too many terms; 17: too many boxes; 18: the outermost term or a
+ *   branch of a choice is no block; all at the byte judged;
  *   19: bytes are left, at the first of them.
  * They are met as the bytes come, the version once both its bytes are there;
  * at a kind byte the order is 12, 13, 18, 16, 15, 17.
@@ -166,7 +168,7 @@ roomscript_script roomscript_read(roomscript_limits limits, uint32_t newest,
  *   the set's number of terms);
  *   13: an unknown kind; 14: an operand out of range, a variable from the set's
  *   number on, or an unused field that is not 0; 15: too deep; 17: too many
- *   boxes; 18: the outermost term is no block;
+ *   boxes; 18: the outermost term or a branch of a choice is no block;
  *   19: a row after the end is not all 0, at the first such row.
  * The order is that of reading. 16 is never met: the rows are used up first.
  */
@@ -213,14 +215,16 @@ roomscript_answer roomscript_write(roomscript_limits limits, uint32_t version,
  *   36: a shared link is passed where only box and exclusive links may be;
  *   37: a copy of neither a number nor a shared borrow; 38: a move passes a
  *   borrow link;
- *   39: other link kinds than the assigned place has, or no number in a below
- *   or a sum;
- *   40: a borrowed root does not live in the block of the variable finally
- *   written or in one around it, or lives in the block that ends;
+ *   39: other link kinds than the assigned place has, no number in a below, a
+ *   sum or a choice, or other link kinds in one branch of a choice than in the
+ *   other;
+ *   40: a borrowed root does not live in the block of a variable that may be
+ *   finally written or in one around it, or lives in the block that ends;
  *   41: no value where one is needed; 42: more than 8 links;
  *   43: the answer is no number, at term 0.
- * Terms are judged in the order of a run (LANGUAGE 3.1). A term whose inner
- * term is refused is refused with the inner number and term.
+ * Terms are judged in the order of a run, and of a choice both branches
+ * (LANGUAGE 3.1). A term whose inner term is refused is refused with the inner
+ * number and term.
  */
 roomscript_answer roomscript_check(roomscript_limits limits,
                                    const uint32_t *rows, size_t rows_len);
@@ -248,9 +252,10 @@ typedef struct roomscript_ran {
  * a reference to a row (4.3). A run first sets all of it to 0, whatever it
  * held.
  *
- * Only rows that roomscript_check accepts run. They meet no fault, take a cell
- * for every box term that runs and give each back: afterwards store is all 0 but the
- * cells taken, which are 2, 0, 0 (LANGUAGE 7.4).
+ * Only rows that roomscript_check accepts run. They meet no fault, whichever
+ * branches they take, take a cell for every box term that runs and give each
+ * back: afterwards store is all 0 but the cells taken, which are 2, 0, 0
+ * (LANGUAGE 7.4).
  *
  * Every refusal leaves store unchanged. By the caller, at place 0, in this
  * order:

@@ -59,8 +59,8 @@ pub struct Script {
 /// - 12: the script ended, at its length;
 /// - 13: an unknown kind, one of a later version than the script's among them;
 ///   14: an operand out of range, a variable from the set's number on; 15: too
-///   deep; 16: too many terms; 17: too many boxes; 18: the outermost term is no
-///   block; all at the byte judged;
+///   deep; 16: too many terms; 17: too many boxes; 18: the outermost term or a
+///   branch of a choice is no block; all at the byte judged;
 /// - 19: bytes are left, at the first of them.
 ///
 /// They are met as the bytes come, the version once both its bytes are there;
@@ -90,7 +90,7 @@ pub fn read(
 ///   then the set's number of terms);
 /// - 13: an unknown kind; 14: an operand out of range, a variable from the
 ///   set's number on, or an unused field that is not 0; 15: too deep; 17: too
-///   many boxes; 18: the outermost term is no block;
+///   many boxes; 18: the outermost term or a branch of a choice is no block;
 /// - 19: a row after the end is not all 0, at the first such row.
 ///
 /// The order is that of reading. 16 is never met: the rows are used up first.

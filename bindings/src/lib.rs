@@ -8,10 +8,12 @@
 //! come from elsewhere, and [`write()`] goes from rows to bytes.
 //!
 //! Scripts have a version. Version 1 has the kinds 1 to 11, and version 2 adds
-//! kind 13: the sum of the numbers at two places, held to the ends of the range
-//! of an `i32`. Kind 12 is in neither. The bytes of a script tell its version,
-//! and its rows do not: [`read`] answers it, and [`write()`] is told it. All
-//! others that take rows take those of every version.
+//! two. Kind 12 is the choice on the number at a place: of the two blocks in it,
+//! its branches, the first runs if the number is not 0, and otherwise the
+//! second. Kind 13 is the sum of the numbers at two places, held to the ends of
+//! the range of an `i32`. The bytes of a script tell its version, and its rows
+//! do not: [`read`] answers it, and [`write()`] is told it. All others that take
+//! rows take those of every version.
 //!
 //! [`run`] checks rows and runs them on a store, and [`call`] reads a script
 //! and runs it so. They are the ways to run scripts: neither runs what the

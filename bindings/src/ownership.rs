@@ -25,15 +25,34 @@ use crate::{Limits, Refusal};
 /// - 36: a shared link is passed where only box and exclusive links may be;
 /// - 37: a copy of neither a number nor a shared borrow; 38: a move passes a
 ///   borrow link;
-/// - 39: other link kinds than the assigned place has, or no number in a below
-///   or a sum;
-/// - 40: a borrowed root does not live in the block of the variable finally
-///   written or in one around it, or lives in the block that ends;
+/// - 39: other link kinds than the assigned place has, no number in a below, a
+///   sum or a choice, or other link kinds in one branch of a choice than in the
+///   other;
+/// - 40: a borrowed root does not live in the block of a variable that may be
+///   finally written or in one around it, or lives in the block that ends;
 /// - 41: no value where one is needed; 42: more than 8 links;
 /// - 43: the answer is no number, at term 0.
 ///
-/// Terms are judged in the order of a run (LANGUAGE 3.1). A term whose inner
-/// term is refused is refused with the inner number and term.
+/// Terms are judged in the order of a run, and of a choice both branches
+/// (LANGUAGE 3.1). A term whose inner term is refused is refused with the inner
+/// number and term.
+///
+/// A box is moved away in one branch of a choice, and so counts as moved away
+/// after it, whichever branch would run:
+///
+/// ```
+/// use roomscript::{check, read, Limits, Refusal, NEWEST};
+///
+/// // let v0=reading 0; let v1=box 1; choice v0 {move v1; 0} {0}; copy *v1
+/// let script = b"RCS\x00\x02\x0B\x04\x08\x00\x02\x00\x08\x01\x07\x01\x00\x00\x00\x01\
+///     \x0C\x00\x00\x0B\x02\x04\x01\x00\x01\x00\x00\x00\x00\
+///     \x0B\x01\x01\x00\x00\x00\x00\x03\x01\x01";
+/// let mut rows = [0; Limits::BASE.row_numbers()];
+/// read(Limits::BASE, NEWEST, script, &mut rows)?;
+/// let checked = check(Limits::BASE, &rows);
+/// assert_eq!(checked, Err(Refusal { number: 33, place: 12 }));
+/// # Ok::<(), Refusal>(())
+/// ```
 pub fn check(limits: Limits, rows: &[u32]) -> Result<u32, Refusal> {
     foreign::check(limits, rows).count()
 }

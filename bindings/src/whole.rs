@@ -13,9 +13,10 @@ use crate::{Limits, Ran, Refusal};
 /// of a cell, 3 a reference to a row (4.3). A run first sets all of it to 0,
 /// whatever it held.
 ///
-/// Only rows that [`check`](crate::check) accepts run. They meet no fault, take
-/// a cell for every box term that runs and give each back: afterwards `store` is all 0
-/// but the cells taken, which are 2, 0, 0 (LANGUAGE 7.4).
+/// Only rows that [`check`](crate::check) accepts run. They meet no fault,
+/// whichever branches they take, take a cell for every box term that runs and
+/// give each back: afterwards `store` is all 0 but the cells taken, which are 2,
+/// 0, 0 (LANGUAGE 7.4).
 ///
 /// # Refusals
 ///

@@ -180,6 +180,17 @@ static void versions(void) {
                             called.place == 0 && called.terms == 6 && called.cells == 0);
 }
 
+/* let v0=reading 0; choice v0 {box 7; 7} {8}, with each branch. */
+static void choices(void) {
+    static const uint8_t CHOICE[34] = {0x52, 0x43, 0x53, 0, 2, 0x0B, 2, 8, 0, 2, 0, 0x0C, 0, 0,
+                                       0x0B, 2, 7, 1, 0, 0, 0, 7, 1, 0, 0, 0, 7,
+                                       0x0B, 1, 1, 0, 0, 0, 8};
+    static const int32_t zeros[READINGS];
+    expect_script("read CHOICE", roomscript_read(BASE, 2, CHOICE, 34, rows, ROWS), 2, 10);
+    expect_ran("first", roomscript_run(BASE, rows, ROWS, GIVEN, READINGS, store, STORE), 7, 1);
+    expect_ran("second", roomscript_run(BASE, rows, ROWS, zeros, READINGS, store, STORE), 8, 0);
+}
+
 /* The structs that reading and the two runs answer. */
 static void layout(void) {
     note("roomscript_script",
@@ -370,6 +381,7 @@ static void outside(void) {
 int main(void) {
     form();
     versions();
+    choices();
     layout();
     check_and_run();
     run_unchecked();
