@@ -187,10 +187,42 @@ pub fn sums() -> Vec<Example> {
     inputs.map(example).into()
 }
 
+/// A choice between two borrows, with each branch, and one after which what may
+/// be borrowed is moved away (LANGUAGE 8.9).
+pub fn choices() -> Vec<Example> {
+    let one = || number(1);
+    let of_two = [
+        let_(0, reading(0)),
+        let_(1, one()),
+        let_(2, number(2)),
+        let_(3, choice((0, 0), &[shared((1, 0))], &[shared((2, 0))])),
+        copy((3, 1)),
+    ];
+    let elsewhere = [assign((3, 0), exclusive((2, 1))), mov((1, 0)), one()];
+    let moved = [
+        let_(0, reading(0)),
+        let_(1, boxed(one())),
+        let_(2, boxed(number(2))),
+        let_(3, exclusive((1, 1))),
+        choice((0, 0), &elsewhere, &[one()]),
+        assign((3, 1), number(5)),
+        one(),
+    ];
+    let (of_two, moved) = (script_of(&of_two), script_of(&moved));
+    let mut choices = vec![
+        example("choice-first", &of_two, "accepted 14 call 1 cells 0"),
+        example("choice-second", &of_two, "accepted 14 call 2 cells 0"),
+        example("choice-moved", &moved, "refused 33 at 19"),
+    ];
+    choices[0].input[..4].copy_from_slice(&(-3i32).to_be_bytes());
+    choices
+}
+
 pub fn all() -> Vec<Example> {
     let mut all = listed();
     all.extend(edges());
     all.extend(answers());
     all.extend(sums());
+    all.extend(choices());
     all
 }
