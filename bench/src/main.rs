@@ -6,6 +6,7 @@
 
 #![forbid(unsafe_code)]
 
+mod choices;
 mod large;
 mod measure;
 mod operations;

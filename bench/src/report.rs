@@ -1,5 +1,6 @@
 //! What is measured, and the tables that come of it.
 
+use crate::choices;
 use crate::large;
 use crate::measure::{measure, Measured, BATCH, PAIRS};
 use crate::operations::{Stage, OPERATIONS};
@@ -24,8 +25,9 @@ pub fn conditions() -> String {
 }
 
 /// Three scripts from small to full under the language's own set, a mixture of
-/// all terms under the largest, and two scripts with sums, as large as the
-/// second and the third.
+/// all terms under the largest, two scripts with sums, as large as the second
+/// and the third, and such scripts with choices: small, as large as the second
+/// and the third, nested, and with many variables that borrow.
 pub fn sizes() -> Table {
     let scripts = [
         ("small", Limits::BASE, E1.to_vec()),
@@ -34,6 +36,29 @@ pub fn sizes() -> Table {
         ("largest", Limits::LARGEST, large::mixed(4096)),
         ("sums, middling", Limits::BASE, with_sums(60)),
         ("sums, full", Limits::BASE, with_sums(512)),
+        ("choice, small", Limits::BASE, choices::small()),
+        ("choices, middling", Limits::BASE, choices::mixed(60)),
+        ("choices, full", Limits::BASE, choices::mixed(512)),
+        (
+            "choices, nested",
+            Limits::BASE,
+            choices::nested(Limits::BASE),
+        ),
+        (
+            "choices, 4 borrowers",
+            Limits::LARGEST,
+            choices::borrowers(4),
+        ),
+        (
+            "choices, 60 borrowers",
+            Limits::LARGEST,
+            choices::borrowers(60),
+        ),
+        (
+            "choices, 120 borrowers",
+            Limits::LARGEST,
+            choices::borrowers(120),
+        ),
     ];
     let mut lines = Vec::new();
     for operation in &OPERATIONS {

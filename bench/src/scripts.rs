@@ -19,7 +19,7 @@ pub const READING: &[u8] = &[0x02, 1];
 const VARIABLES: u8 = 64;
 
 /// A statement's bytes, and how many terms it has.
-type Statement = (usize, Vec<u8>);
+pub type Statement = (usize, Vec<u8>);
 
 /// Statements of every kind of version 1, 24 terms in all. They declare three
 /// variables and have two boxes, so that 512 terms of them are within the
@@ -73,7 +73,8 @@ pub fn script(statements: &[Vec<u8>]) -> Vec<u8> {
     script_in(1, statements)
 }
 
-fn script_in(version: u32, statements: &[Vec<u8>]) -> Vec<u8> {
+/// The same as a script of a version.
+pub fn script_in(version: u32, statements: &[Vec<u8>]) -> Vec<u8> {
     let count = statements.len() as u8;
     [&header(version), &[0x0B, count][..], &statements.concat()].concat()
 }
@@ -89,7 +90,8 @@ pub fn with_sums(terms: usize) -> Vec<u8> {
     script_in(2, &mixture(terms, statements_with_sums))
 }
 
-fn mixture(terms: usize, statements: fn(u8) -> Vec<Statement>) -> Vec<Vec<u8>> {
+/// Statements of a script of exactly so many terms.
+pub fn mixture(terms: usize, statements: fn(u8) -> Vec<Statement>) -> Vec<Vec<u8>> {
     // The outermost block and the answer are there at every size.
     let mut left = terms - 2;
     let mut chosen = Vec::new();

@@ -1,6 +1,7 @@
 //! How much stack the library takes, measured by a C program on a painted
 //! stack.
 
+use crate::choices;
 use crate::large;
 use crate::operations::OPERATIONS;
 use crate::scripts::{chain, full, mixed, with_sums, E1};
@@ -56,8 +57,9 @@ fn bytes(program: &Path, operation: &str, limits: Limits, script: &[u8]) -> Resu
 }
 
 /// Every operation on each script, first under the language's own set and then
-/// under the largest. The last one for each is not accepted: its unchecked run
-/// drops the longest chain of cells that there can be.
+/// under the largest. Of each set one has as many choices in each other as there
+/// can be, and the last is not accepted: its unchecked run drops the longest
+/// chain of cells that there can be.
 pub fn table() -> Result<Table> {
     let program = build()?;
     let scripts = [
@@ -65,9 +67,19 @@ pub fn table() -> Result<Table> {
         ("middling", Limits::BASE, mixed(60)),
         ("full", Limits::BASE, full()),
         ("sums, full", Limits::BASE, with_sums(512)),
+        (
+            "7 choices in each other",
+            Limits::BASE,
+            choices::nested(Limits::BASE),
+        ),
         ("64 cells in a chain", Limits::BASE, chain()),
         ("small, largest set", Limits::LARGEST, E1.to_vec()),
         ("full, largest set", Limits::LARGEST, large::full()),
+        (
+            "15 choices in each other",
+            Limits::LARGEST,
+            choices::nested(Limits::LARGEST),
+        ),
         ("128 cells in a chain", Limits::LARGEST, large::chain()),
     ];
     let mut lines = Vec::new();

@@ -1,6 +1,6 @@
 //! How large a script is, for the tests of the scripts that are timed.
 
-use reference::form::{BLOCK, BOX, FIELDS, LET};
+use reference::form::{BLOCK, BOX, CHOICE, FIELDS, LET};
 use reference::{read, Limits, NEWEST};
 
 /// The terms of a script and its rows.
@@ -30,6 +30,7 @@ fn levels(rows: &[&[u32]], at: &mut usize) -> usize {
     *at += 1;
     let inner = match row[0] {
         BLOCK => row[1],
+        CHOICE => 2,
         7..=9 => 1,
         _ => 0,
     };
