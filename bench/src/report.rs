@@ -28,8 +28,8 @@ pub fn conditions() -> String {
 /// all terms under the largest, two scripts with sums, as large as the second
 /// and the third, and such scripts with choices: small, as large as the second
 /// and the third, nested, and with many variables that borrow.
-pub fn sizes() -> Table {
-    let scripts = [
+fn scripts() -> Vec<(&'static str, Limits, Vec<u8>)> {
+    vec![
         ("small", Limits::BASE, E1.to_vec()),
         ("middling", Limits::BASE, mixed(60)),
         ("full", Limits::BASE, full()),
@@ -59,7 +59,12 @@ pub fn sizes() -> Table {
             Limits::LARGEST,
             choices::borrowers(120),
         ),
-    ];
+    ]
+}
+
+/// Every operation on each of these scripts.
+pub fn sizes() -> Table {
+    let scripts = scripts();
     let mut lines = Vec::new();
     for operation in &OPERATIONS {
         for (name, limits, script) in &scripts {

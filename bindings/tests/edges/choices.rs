@@ -286,7 +286,11 @@ fn written_in_each_version() {
             assert!(output.junk_from(script.len()) && output.guards_hold());
         }
     }
-    // In version 1 its kind comes before its operands and its branches.
+}
+
+/// In version 1 its kind comes before its operands and its branches.
+#[test]
+fn the_order_of_refusals_in_each_version() {
     let writes = |first: &[Row]| {
         let rows = rows_of(first);
         [1, 2].map(|version| write(BASE, version, &rows, &mut []))

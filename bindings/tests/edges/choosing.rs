@@ -226,9 +226,9 @@ fn as_inner_terms_and_nested() {
     assert_eq!(two(&[deep]), [ran(1, 0), ran(0, 0)]);
 }
 
-/// A box that does not run takes no cell, and an assign changes nothing.
-#[test]
-fn the_other_branch_does_nothing() {
+/// `let v1=box 4`, a choice of which each branch has boxes and an assign, and
+/// `let v3=box 7`.
+fn with_boxes(last: Term) -> Vec<Term> {
     let first = [
         let_(2, boxes(3, number(1))),
         assign((1, 1), number(5)),
@@ -236,16 +236,22 @@ fn the_other_branch_does_nothing() {
         number(1),
     ];
     let second = [assign((1, 0), boxed(number(6))), number(2)];
-    let terms = by_reading(&[
+    by_reading(&[
         let_(1, boxed(number(4))),
         choice((0, 0), &first, &second),
         let_(3, boxed(number(7))),
-        copy((1, 1)),
-    ]);
-    assert_eq!(runs_either_way(&terms), [ran(5, 5), ran(6, 3)]);
-    // In the store, which a fault after it shows.
-    let terms = [&terms[..terms.len() - 1], &[copy((9, 0))]].concat();
-    let left = |readings: &Readings| unchecked_given(&terms, readings);
+        last,
+    ])
+}
+
+/// A box that does not run takes no cell, and an assign changes nothing. A
+/// fault after the choice shows it in the store.
+#[test]
+fn the_other_branch_does_nothing() {
+    let answers = runs_either_way(&with_boxes(copy((1, 1))));
+    assert_eq!(answers, [ran(5, 5), ran(6, 3)]);
+    let faulty = with_boxes(copy((9, 0)));
+    let left = |readings: &Readings| unchecked_given(&faulty, readings);
     let after_first: [(usize, StoreRow); 8] = [
         (0, [1, 1, 185]),
         (1, [1, 2, 0]),

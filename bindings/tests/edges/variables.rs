@@ -48,6 +48,21 @@ fn in_bytes() {
     }
 }
 
+/// A term of a kind on one variable, or on two, in a block.
+fn rows_with(kind: u32, first: u32, second: u32) -> Vec<Row> {
+    let row = match kind {
+        0x08 => [kind, first, 0, 0, 0],
+        0x0A | 0x0D => [kind, first, 8, second, 8],
+        _ => [kind, first, 8, 0, 0],
+    };
+    let inner = match kind {
+        0x08 | 0x09 => vec![READING],
+        0x0C => [block(1), READING].repeat(2),
+        _ => vec![],
+    };
+    [vec![block(1), row], inner].concat()
+}
+
 #[test]
 fn in_rows() {
     for count in COUNTS {
@@ -63,19 +78,7 @@ fn in_rows() {
             u32::MAX,
         ];
         for kind in [0x03, 0x04, 0x05, 0x06, 0x08, 0x09, 0x0A, 0x0C, 0x0D] {
-            let rows = |first, second| {
-                let row = match kind {
-                    0x08 => [kind, first, 0, 0, 0],
-                    0x0A | 0x0D => [kind, first, 8, second, 8],
-                    _ => [kind, first, 8, 0, 0],
-                };
-                let inner = match kind {
-                    0x08 | 0x09 => vec![READING],
-                    0x0C => [block(1), READING].repeat(2),
-                    _ => vec![],
-                };
-                [vec![block(1), row], inner].concat()
-            };
+            let rows = |first, second| rows_with(kind, first, second);
             let right = rows(last, last);
             assert_eq!(judges_first_under(limits, &right), Ok(right.len() as u32));
             for beyond in beyond {
