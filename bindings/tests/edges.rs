@@ -48,6 +48,8 @@ mod lengths;
 mod limits;
 #[path = "edges/listed.rs"]
 mod listed;
+#[path = "edges/listed_choices.rs"]
+mod listed_choices;
 #[path = "edges/places.rs"]
 mod places;
 #[path = "edges/ranges.rs"]

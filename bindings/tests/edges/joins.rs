@@ -1,154 +1,50 @@
-//! What is known after a choice: the scripts of LANGUAGE 8.9 and those that
-//! tell the decisions on choices apart, and then variables that one branch
-//! moved away, borrows of several places, and writes that may land in several.
+//! What is known after a choice: of variables that one branch moved away, of
+//! borrows of several places, and of writes that may land in several.
 
-use crate::choosing::{by_reading, runs_either_way};
+use crate::choosing::by_reading;
+use crate::common::refused;
 use crate::common::terms::*;
-use crate::common::{ran, refused};
 use crate::hand::*;
+use crate::listed_choices::{choose, gives, one, refuses, then, two_boxes, two_numbers};
 use roomscript::Refusal;
 
-/// Accepted after `let v0=reading 0`, with these answers for a reading that is
-/// not 0 and for 0, and so many cells with either.
-#[track_caller]
-fn gives(terms: &[Term], answers: [i32; 2], cells: u32) {
-    let due = answers.map(|answer| ran(answer, cells));
-    assert_eq!(runs_either_way(&by_reading(terms)), due);
-}
-
-/// Refused after `let v0=reading 0`, which is terms 1 and 2.
-#[track_caller]
-fn refuses(terms: &[Term], number: u32, term: u32) {
-    assert_eq!(checks(&by_reading(terms)), refused(number, term));
-}
-
-/// A choice on v0.
-fn choose(first: &[Term], second: &[Term]) -> Term {
-    choice((0, 0), first, second)
-}
-
-fn one() -> Term {
-    number(1)
-}
-
-/// `let v1=1; let v2=2`.
-fn two_numbers() -> [Term; 2] {
-    [let_(1, number(1)), let_(2, number(2))]
-}
-
-/// `let v1=box 1; let v2=box 2`.
-fn two_boxes() -> [Term; 2] {
-    [let_(1, boxed(number(1))), let_(2, boxed(number(2)))]
-}
-
-/// The first terms, and then others.
-fn then(first: &[Term], more: &[Term]) -> Vec<Term> {
-    [first, more].concat()
-}
-
+/// v2 lives outside, and v3 and v4 in the block in which v5 writes.
 #[test]
-fn listed_choices_by_themselves() {
-    gives(&[choose(&[number(7)], &[number(8)])], [7, 8], 0);
-    let outside = choice((9, 0), &[copy((8, 0))], &[copy((8, 0))]);
-    refuses(&[outside], 31, 3);
-    let differ = choose(&[boxed(one())], &[number(2)]);
-    refuses(&[differ, number(0)], 39, 3);
-    let later = choose(&[boxed(one())], &[copy((9, 0))]);
-    refuses(&[later, number(0)], 31, 8);
-    let local = |value| [let_(1, number(value)), number(0)];
-    refuses(&[choose(&local(1), &local(2))], 30, 9);
-    let none = choose(&[one()], &[let_(1, one())]);
-    refuses(&[none, number(0)], 39, 3);
-}
-
-#[test]
-fn listed_moves() {
-    let moved = [
-        let_(1, boxed(one())),
-        choose(&[mov((1, 0)), number(0)], &[number(0)]),
-        copy((1, 1)),
-    ];
-    refuses(&moved, 33, 12);
-    let holder = [
-        let_(1, one()),
-        let_(2, one()),
-        let_(3, exclusive((1, 0))),
-        choose(&[mov((3, 0)), one()], &[one()]),
-        mov((1, 0)),
-        one(),
-    ];
-    gives(&holder, [1, 1], 0);
-    let elsewhere = [assign((3, 0), exclusive((2, 1))), mov((1, 0)), one()];
-    let beyond = [
-        let_(3, exclusive((1, 1))),
-        choose(&elsewhere, &[one()]),
-        assign((3, 1), number(5)),
-        one(),
-    ];
-    refuses(&then(&two_boxes(), &beyond), 33, 19);
-    let elsewhere = [assign((3, 0), exclusive((2, 0))), mov((1, 0)), one()];
-    let filled = [
-        let_(3, exclusive((1, 0))),
-        choose(&elsewhere, &[one()]),
-        assign((3, 1), boxed(number(3))),
-        mov((3, 0)),
-        copy((1, 1)),
-    ];
-    refuses(&then(&two_boxes(), &filled), 33, 22);
-}
-
-#[test]
-fn listed_borrows() {
-    let of_two = || let_(3, choose(&[shared((1, 0))], &[shared((2, 0))]));
-    let with = |more: &[Term]| [&two_numbers()[..], &[of_two()], more].concat();
-    gives(&with(&[copy((3, 1))]), [1, 2], 0);
-    refuses(&with(&[assign((2, 0), number(3)), copy((3, 1))]), 35, 13);
-    let replaced = [
-        assign((3, 0), shared((1, 0))),
-        assign((2, 0), number(5)),
-        copy((3, 1)),
-    ];
-    gives(&with(&replaced), [1, 1], 0);
-    let written = [
-        let_(3, choose(&[exclusive((1, 1))], &[exclusive((2, 1))])),
-        assign((3, 1), number(7)),
-        copy((3, 1)),
-    ];
-    gives(&then(&two_boxes(), &written), [7, 7], 2);
-    let references = || [let_(3, shared((1, 0))), let_(4, shared((2, 0)))];
-    let circle = [
-        choose(
-            &[assign((3, 0), shared((4, 1))), one()],
-            &[assign((4, 0), shared((3, 1))), one()],
-        ),
-        copy((3, 1)),
-    ];
-    let terms = [&two_numbers()[..], &references(), &circle].concat();
-    gives(&terms, [2, 1], 0);
-    let copied = [
-        let_(5, choose(&[shared((3, 0))], &[shared((4, 0))])),
-        let_(6, copy((5, 1))),
-        mov((5, 0)),
-        mov((3, 0)),
-        mov((4, 0)),
-        assign((2, 0), number(7)),
-        copy((6, 1)),
-    ];
-    let terms = [&two_numbers()[..], &references(), &copied].concat();
-    refuses(&terms, 35, 22);
-}
-
-#[test]
-fn listed_lives() {
-    let inner = block(&[
-        let_(3, number(2)),
-        let_(4, shared((1, 0))),
-        let_(5, choose(&[exclusive((2, 0))], &[exclusive((4, 0))])),
-        assign((5, 1), shared((3, 0))),
-        number(0),
-    ]);
-    let terms = [let_(1, one()), let_(2, shared((1, 0))), inner, number(0)];
-    refuses(&terms, 40, 18);
+fn each_lives_long_enough() {
+    let with = |of_two: Term, value: Term| {
+        let inner = block(&[
+            let_(3, number(2)),
+            let_(4, shared((1, 0))),
+            let_(5, of_two),
+            assign((5, 1), value),
+            number(0),
+        ]);
+        let terms = [let_(1, one()), let_(2, shared((1, 0))), inner, one()];
+        accepts(&by_reading(&terms))
+    };
+    let outer = || exclusive((2, 0));
+    let inner = || exclusive((4, 0));
+    let of = |first: Term, second: Term| choose(&[first], &[second]);
+    // Each variable that may be written.
+    let local = || shared((3, 0));
+    assert_eq!(with(of(outer(), inner()), local()), refused(40, 18));
+    assert_eq!(with(of(inner(), outer()), local()), refused(40, 18));
+    assert_eq!(with(of(inner(), inner()), local()), Ok(()));
+    assert_eq!(with(of(outer(), inner()), shared((0, 0))), Ok(()));
+    // Each place that may be borrowed.
+    let either = |first, second| of(shared((first, 0)), shared((second, 0)));
+    assert_eq!(with(outer(), either(0, 3)), refused(40, 14));
+    assert_eq!(with(outer(), either(3, 0)), refused(40, 14));
+    assert_eq!(with(outer(), either(0, 1)), Ok(()));
+    assert_eq!(with(inner(), either(0, 3)), Ok(()));
+    // And at the end of a block.
+    let leaves = |first, second| {
+        let inner = block(&[let_(3, number(2)), either(first, second)]);
+        accepts(&by_reading(&[let_(1, one()), let_(2, inner), one()]))
+    };
+    assert_eq!(leaves(0, 3), refused(40, 6));
+    assert_eq!(leaves(3, 1), refused(40, 6));
+    assert_eq!(leaves(0, 1), Ok(()));
 }
 
 /// What the check answers of a choice on v0 with these terms and a 1 in its
