@@ -1,4 +1,4 @@
--- The run of a term, of a block's terms, and of a whole script (LANGUAGE 4.9 to 4.20).
+-- The run of a term, of a block's terms, and of a whole script (LANGUAGE 4.9 to 4.20, 4.23).
 use Prim.Native.Nat.{ℕ, suc}
 use mathlib.Core.Bool.{not}
 use mathlib.Core.List.{List, [], _∷_}
@@ -82,7 +82,7 @@ begun earlier = record { store = cleared earlier; taken = 0; opened = [] }
 
 module _ (readings : ℕ → ℕ) where
   unfoldable mutual
-    -- A number is itself, and a reading the lent one (LANGUAGE 4.9); each other case is the run rule of its kind (4.10 to 4.17).
+    -- A number is itself, and a reading the lent one (LANGUAGE 4.9); each other case is the run rule of its kind (4.10 to 4.17, 4.23).
     pub run : Term → State → Ran Outcome
     run (number i n) s = ok (s, num n)
     run (reading i n) s = ok (s, num (readings n))

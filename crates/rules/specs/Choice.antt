@@ -20,7 +20,8 @@ carriedSlot (live v) a = live v
 unfoldable pub carried : Environment → Environment → Environment
 carried Γ Γ₁ = λ x. carriedSlot (Γ x) (Γ₁ x)
 
--- The link from which on a variable in scope is moved away (LANGUAGE 3.8).
+-- The link from which on a variable in scope is moved away (LANGUAGE 3.8). It is asked of no other number: who is in scope before a choice is so
+-- after either branch.
 abbrev pub movedFromOf : Slot → ℕ
 movedFromOf free = 0
 movedFromOf used = 0

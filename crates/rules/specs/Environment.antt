@@ -1,4 +1,5 @@
--- What is known of each variable number (LANGUAGE 3.6 to 3.9), and of a value (3.2, 3.3).
+-- What is known of each variable number (LANGUAGE 3.6 to 3.10), and of a value (3.2, 3.3), and what writing to a variable and leaving a block do to
+-- it (3.25, 3.28).
 use Prim.Native.Nat.{ℕ, suc}
 use mathlib.Core.Bool.{Bool, true, false}
 use mathlib.Core.List.{List, [], _∷_}
@@ -89,7 +90,8 @@ single [] = false
 single (q ∷ []) = true
 single (q ∷ r ∷ qs) = false
 
--- A value with this borrow end is written to one of these places (LANGUAGE 3.25).
+-- A value with this borrow end is written to one of these places (LANGUAGE 3.25). Places that are met have different roots (7.5), so several
+-- places are several variables.
 unfoldable pub write : Environment → List Place → Borrow → Environment
 write Γ qs b = λ x. pick (rooted qs x) (pick (single qs) (refilled (Γ x) b) (widened (Γ x) b)) (Γ x)
 

@@ -50,7 +50,7 @@ ownLink free r = false
 ownLink used r = false
 ownLink (live v) r = leb r (leadingBoxes (v .chain))
 
--- There is a borrow link.
+-- There is a borrow link. Once 32 is judged, a place that passes all boxes finds one.
 abbrev pub isBorrow : Borrow → Bool
 isBorrow noBorrow = false
 isBorrow (sharedOf ps) = true
@@ -68,7 +68,7 @@ wholeSlot free = false
 wholeSlot used = false
 wholeSlot (live v) = holding v
 
--- The same of all that was met (LANGUAGE 3.15).
+-- The same of all that was met (LANGUAGE 3.15); the bound never runs out (7.5).
 unfoldable pub wholeThere : Environment → Met → Bool
 wholeThere Γ none = false
 wholeThere Γ (some ps) = every (λ q. wholeSlot (Γ (q .root))) ps

@@ -1,5 +1,5 @@
--- Sets of places: after a choice a borrow link may stand for several (LANGUAGE 3.3). A list, in order, no place twice, so that equal sets are
--- equal lists.
+-- Sets of places: after a choice a borrow link may stand for several (LANGUAGE 3.3). What is recorded is a list in order, no place twice, so that
+-- equal sets are equal lists; what is met while following stands in the order of meeting.
 use Prim.Native.Nat.{ℕ}
 use mathlib.Core.Bool.{Bool, true, false}
 use mathlib.Core.List.{List, [], _∷_}
