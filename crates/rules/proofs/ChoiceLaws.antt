@@ -23,7 +23,8 @@ use Rattle.rules.specs.Kept.{keptMovedFrom, keptRoots, KeepsAll, Stays, 
 use Rattle.rules.proofs.Slots.{free≢live, used≢live, free≢used, carried-live, live-carried}
 use Rattle.rules.proofs.RootLaws.{or-true}
 use Rattle.rules.proofs.EntryLaws.{status-live, live-status}
-use Rattle.rules.proofs.EndRoots.{end-lengths, end-links, end-united}
+use Rattle.rules.proofs.EndRoots.{end-lengths, end-united}
+use Rattle.rules.proofs.TableLaws.{kept-end}
 use Rattle.rules.proofs.RowLaws.{SameRow, SameState, StatePut, moved-roots, state-put, fixed-links, dead-same}
 use Rattle.rules.proofs.KeptLaws.{KeptAs, keeps-all}
 
@@ -122,10 +123,10 @@ joining-round n env₀ kept x env env₁ env₂ env₃ k a b all e f g U W₁ W�
 -- ---- what the table says at the end
 
 -- The borrow end kept of a variable, in a table with the same lengths.
-kept-end : (n level : ℕ) (Γ : Environment) → Neat n Γ level → (kept : List ℕ) (count : ℕ) → KeepsAll kept count Γ → (env : List ℕ)
+kept-borrow : (n level : ℕ) (Γ : Environment) → Neat n Γ level → (kept : List ℕ) (count : ℕ) → KeepsAll kept count Γ → (env : List ℕ)
     → ((y : ℕ) (u : Variable) → Γ y ≡ live u → longAt env y ≡ length (u .chain)) → (x : ℕ) (w : Variable) → Γ x ≡ live w → endIn env (w .chain) (keptRoots kept x) ≡ w .borrow
 unfolding linksOf
-kept-end n level Γ N kept count K env long x w e =
+kept-borrow n level Γ N kept count K env long x w e =
     let b = K x w e .borrow in
     let H = N .holds x w e in
     sym (b ∙ end-lengths (w .chain) (keptRoots kept x) (lengths Γ) (longAt env) (left (w .chain)) (λ y i.
@@ -176,7 +177,7 @@ module _ (n level count : ℕ) (env₀ kept₀ env kept : List ℕ) (E : Exchang
       let k = K x v e in
       let D = E .done x (k .low) in
       live-as env x v (row-live env₀ env (E .fixed) x (w .0) (w .1)) (row-chain env₀ env (E .fixed) x (w .0) (w .1) ∙ w .2) (sym (D .0) ∙ sym (k .movedFrom))
-      (ap (λ (s : Roots). endIn env (v .chain) s) (sym (D .1)) ∙ kept-end n level Γ N kept₀ count K env long-before x v e)
+      (ap (λ (s : Roots). endIn env (v .chain) s) (sym (D .1)) ∙ kept-borrow n level Γ N kept₀ count K env long-before x v e)
       (row-level env₀ env (E .fixed) x (w .0) (w .1) ∙ w .3)
 
   -- The state before the choice again, but for the numbers taken since; that after the first block is kept.
@@ -230,9 +231,9 @@ module _ (n level count : ℕ) (env₀ kept env : List ℕ) (J : Joining env₀ 
       let D = J .done x (k .low) in
       let m = live-status env₀ x (w .0) (w .1) .1 in
       let first : endIn env (v .chain) (keptRoots kept x) ≡ borrowOf (Γ₁ x) =
-      ap (λ (ks : List Link). endIn env ks (keptRoots kept x)) (sym (a .2)) ∙ kept-end n level Γ₁ N₁ kept count K env long-after x (a .0) (a .1) ∙ ap borrowOf (sym (a .1)) in
+      ap (λ (ks : List Link). endIn env ks (keptRoots kept x)) (sym (a .2)) ∙ kept-borrow n level Γ₁ N₁ kept count K env long-after x (a .0) (a .1) ∙ ap borrowOf (sym (a .1)) in
       let second : endIn env (v .chain) (rootsAt env₀ x) ≡ borrowOf (environmentOf env₀ x) =
-      end-links env₀ env (v .chain) (rootsAt env₀ x) (fixed-links env₀ env (J .fixed))
+      kept-end env₀ env (fixed-links env₀ env (J .fixed)) (v .chain) (rootsAt env₀ x)
       ∙ ap (λ (ks : List Link). endIn env₀ ks (rootsAt env₀ x)) (sym (w .2))
       ∙ ap (λ (u : Variable). endIn env₀ (u .chain) (rootsAt env₀ x)) m
       ∙ ap (λ (u : Variable). u .borrow) (sym m)

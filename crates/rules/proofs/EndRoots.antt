@@ -12,10 +12,9 @@ use Rattle.rules.specs.Links.{Link, boxed, shared, exclusive}
 use Rattle.rules.specs.Places.{unite}
 use Rattle.rules.specs.Environment.{sharedOf, exclusiveOf, places, borrowEnd, Variable, live}
 use Rattle.rules.specs.Neat.{Among}
-use Rattle.rules.specs.Roots.{linksOf, lengths, placeAt, placesOf, left}
-use Rattle.rules.specs.Chains.{chainOf}
+use Rattle.rules.specs.Roots.{linksOf, lengths, placeAt, placesOf}
 use Rattle.rules.specs.Masks.{has}
-use Rattle.rules.specs.Table.{environmentOf, longAt, endIn, SameLinks}
+use Rattle.rules.specs.Table.{environmentOf, longAt}
 use Rattle.rules.proofs.RootLaws.{or, same-roots, from-in}
 use Rattle.rules.proofs.RootSets.{unite-places}
 use Rattle.rules.proofs.MaskLaws.{has-below}
@@ -45,10 +44,6 @@ live-length env y v e =
     let z = live-status env y v e .1 in
     let a : longAt env y ≡ length (v .chain) = ap (λ (u : Variable). length (u .chain)) (sym z) in
     (a, ap linksOf e ∙ sym a)
-
--- The links of the variables are all of the table that a borrow end asks for.
-pub end-links : (env env′ : List ℕ) (ks : List Link) (s : Roots) → SameLinks env env′ → endIn env′ ks s ≡ endIn env ks s
-end-links env env′ ks s h = ap (borrowEnd ks) (same-roots 128 (has s) (has s) (longAt env′) (longAt env) (left ks) (λ y. refl) (λ y i. ap (λ (n : ℕ). length (chainOf n)) (h y)))
 
 united-ends : (ks : List Link) (ps qs : List Place) → borrowEnd ks (unite (places (borrowEnd ks ps)) (places (borrowEnd ks qs))) ≡ borrowEnd ks (unite ps qs)
 unfolding borrowEnd

@@ -14,11 +14,14 @@ use Rattle.rules.specs.declared.roots.Roots.{Roots}
 use Rattle.rules.specs.Links.{leadingBoxes}
 use Rattle.rules.specs.Environment.{Borrow, Variable, Slot, free, used, live, levelOf, update, movedAwayAt, refilled, widened}
 use Rattle.rules.specs.Chains.{chainOf}
+use Rattle.rules.specs.Roots.{left}
 use Rattle.rules.specs.Masks.{has}
-use Rattle.rules.specs.Table.{entryWord, linksAt, rootsAt, holdersAt, endIn, variableOf, variableAt, slotAs, environmentOf, noteAt, TableFor, HolderNoted, SameLinks}
+use Rattle.rules.specs.Table.{entryWord, linksAt, longAt, rootsAt, holdersAt, endIn, variableOf, variableAt, slotAs, environmentOf, noteAt, TableFor, HolderNoted, SameLinks}
 use Rattle.rules.proofs.MaskLaws.{in-none}
 use Rattle.rules.proofs.RootLaws.{or, or-true}
-use Rattle.rules.proofs.WordLaws.{Put, put-at, put-off, PutSet, set-off, roots-put, holders-put, Raised, raised-off, raised-there, roots-same, holders-same, links-same, SameEntry, end-same, end-united, slot-same, updated, slot-changed, slot-level}
+use Rattle.rules.proofs.WordLaws.{Put, put-at, put-off, PutSet, set-off, roots-put, holders-put, Raised, raised-off, raised-there, roots-same, holders-same, links-same, end-same, slot-same, updated, slot-changed, slot-level}
+use Rattle.rules.proofs.TableLaws.{SameEntry}
+use Rattle.rules.proofs.EndRoots.{end-united}
 
 -- ---- while holders are noted
 
@@ -285,4 +288,4 @@ module _ (env : List ℕ) (n x : ℕ) (T : TableFor env n) (inside : x < n) wher
       (λ r h. or-true (has (rootsAt env x) r) (has s r) (sym (either r) ∙ h))
       (λ (z : Slot). widened z (endIn env (chainOf (linksAt env x)) s)) refl refl
       (ap (λ (b : Borrow). live (record { chain = chainOf (linksAt env x); movedFrom = entryWord env x 4; borrow = b; level = entryWord env x 5 }))
-      (end-united env (chainOf (linksAt env x)) (rootsAt env x) s all either))
+      (sym (end-united (chainOf (linksAt env x)) (longAt env) (left (chainOf (linksAt env x))) (rootsAt env x) s all either)))

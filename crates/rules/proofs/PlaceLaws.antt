@@ -17,7 +17,6 @@ use Rattle.rules.specs.declared.table.VariableState.{VariableState}
 use Rattle.rules.specs.declared.table.Entry.{Entry}
 use Rattle.rules.specs.declared.table.Entry.the-variants as entry
 use Rattle.rules.specs.declared.rules.Located.{Located}
-use Rattle.rules.specs.declared.rules.Located.the-variants as located
 use Rattle.rules.specs.declared.rules.Readable.{Readable}
 use Rattle.rules.specs.declared.rules.Readable.the-variants as readable
 use Rattle.rules.specs.declared.verdicts.Verdict.{Verdict}
@@ -34,7 +33,7 @@ use Rattle.rules.specs.Masks.{has}
 use Rattle.rules.specs.Chains.{chainOf}
 use Rattle.rules.specs.Steps.{passesSlot, passes, Searched, BorrowedAt}
 use Rattle.rules.specs.Table.{entryWord, linksAt, longAt, variableAt, stateAt, entryAt, endIn, environmentOf}
-use Rattle.rules.specs.Verdicts.{NeatTable, PlaceFound, LocatedIs, Named, NamedIs, Read, ReadableIs, typeOf, answered, Answers, atMost8}
+use Rattle.rules.specs.Verdicts.{NeatTable, PlaceFound, Named, NamedIs, Read, ReadableIs, typeOf, answered, Answers, atMost8}
 use Rattle.rules.proofs.NeatPaths.{Lies, led}
 use Rattle.rules.proofs.NeatTerms.{readable-place}
 use Rattle.rules.proofs.RootLaws.{same-roots}
@@ -45,13 +44,6 @@ use Rattle.rules.proofs.EntryLaws.{status-live, live-status, live-insid
 use Rattle.rules.proofs.ValueLaws.{number-type, copied-borrow, borrows-there}
 
 -- ---- the answer, by its case
-
-module _ (nv : ℕ) (Γ : Environment) (p : Place) (judged : Judged rules.Located) {r : Located} (answer : LocatedIs nv Γ p judged r) where
-  pub found-at : {links rest : ℕ} {s : Roots} → r ≡ located.At links rest s → PlaceFound nv Γ p links rest s judged
-  found-at e = subst (λ (k : Located). LocatedIs nv Γ p judged k) e answer
-
-  pub found-refused : {n at : ℕ} → r ≡ located.Refused n at → judged ≡ err (n, at)
-  found-refused e = subst (λ (k : Located). LocatedIs nv Γ p judged k) e answer
 
 module _ (nv : ℕ) (Γ : Environment) (i : ℕ) (p : Place) {r : Readable} where
   pub named-at : NamedIs nv Γ i p r → {rest : ℕ} → r ≡ readable.Rest rest → Named Γ p rest
@@ -142,11 +134,6 @@ module _ (env : List ℕ) (nv : ℕ) (T : NeatTable env nv) (i : ℕ) (p : Place
         (subst (λ (ps : List Place). SameSet (told .0) ps)
         (same-roots nv (endsOf (environmentOf env) m (S .met)) (has s) (lengths (environmentOf env)) (lengths (environmentOf env)) m (λ y. sym (S .to s e y)) (λ y h. refl)) (told .1));
   }
-
--- The root of a place found is a variable that the table has.
-pub root-inside : (env : List ℕ) (nv : ℕ) → NeatTable env nv → (i : ℕ) (p : Place) {links rest : ℕ} {s : Roots}
-    → PlaceFound nv (environmentOf env) p links rest s (judgePlace nv (environmentOf env) i p) → (x : ℕ) → x ≡ p .root → x < nv
-root-inside env nv T i p F x e = let z = live-inside env nv (T .0) (p .root) (F .located .root) (F .root) in omega arith
 
 -- ---- a place named
 

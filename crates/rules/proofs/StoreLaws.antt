@@ -15,7 +15,8 @@ use Rattle.rules.specs.Chains.{chainOf}
 use Rattle.rules.specs.Masks.{has}
 use Rattle.rules.specs.Table.{entryWord, linksAt, rootsAt, holdersAt, endIn, variableAt, environmentOf, noteAt, TableFor, HolderNoted, Unrecorded}
 use Rattle.rules.proofs.EntryLaws.{status-live}
-use Rattle.rules.proofs.WordLaws.{Put, put-at, put-off, PutSet, set-off, roots-put, Raised, raised-off, raised-there, roots-same, holders-same, links-same, SameEntry, end-same-but, slot-same, updated}
+use Rattle.rules.proofs.WordLaws.{Put, put-at, put-off, PutSet, set-off, roots-put, Raised, raised-off, raised-there, roots-same, holders-same, links-same, end-same-but, slot-same, updated}
+use Rattle.rules.proofs.TableLaws.{SameEntry}
 use Rattle.rules.proofs.NoteLaws.{still-noted}
 
 -- The words of x are put, the others and its note stay.

@@ -32,16 +32,13 @@ use Rattle.rules.proofs.SetLaws.{rooted-out, borrows-out, borrows-in}
 use Rattle.rules.proofs.SetOrder.{borrows-ordered, end-again}
 use Rattle.rules.proofs.SetEquality.{same-list}
 use Rattle.rules.proofs.NeatPaths.{Lies, own-link}
-use Rattle.rules.proofs.RootLaws.{same-roots, from-none, from-out, from-in}
+use Rattle.rules.proofs.RootLaws.{from-out, from-in}
 use Rattle.rules.proofs.RootSets.{from-ordered}
 use Rattle.rules.proofs.EntryLaws.{live-status}
+use Rattle.rules.proofs.TableLaws.{kept-end}
+use Rattle.rules.proofs.EndLaws.{no-places}
 
 -- ---- ends
-
--- No roots are no places.
-pub no-places : (n : ℕ) (f : ℕ → Bool) (long : ℕ → ℕ) (m : ℕ) → ((y : ℕ) → f y ≡ false) → placesOf n f long m ≡ []
-unfolding placesOf
-no-places n f long m h = from-none f long m 0 n h
 
 -- The type of a number says no places.
 pub number-type : (ks : List Link) (ps : List Place) → isNumber ks ≡ true → typeOf ks (borrowEnd ks ps) ≡ numberTy
@@ -82,16 +79,10 @@ value-lives env nv level v r b R h = let k = R env nv in ap (every (λ p. leb (l
 -- ---- a table in which all links are as before
 
 module _ (env env′ : List ℕ) (S : SameLinks env env′) where
-  pub places-kept : (f : ℕ → Bool) (m : ℕ) → placesOf 128 f (longAt env′) m ≡ placesOf 128 f (longAt env) m
-  places-kept f m = same-roots 128 f f (longAt env′) (longAt env) m (λ y. refl) (λ y h. ap (λ (n : ℕ). length (chainOf n)) (S y))
-
-  pub end-kept : (ks : List Link) (s : Roots) → endIn env′ ks s ≡ endIn env ks s
-  end-kept ks s = ap (borrowEnd ks) (places-kept (has s) (left ks))
-
   pub value-kept : (v : Value) → asValue env′ v ≡ asValue env v
   unfolding asValue
   value-kept value.None = refl
-  value-kept (value.Of t) = ap (λ (b : Borrow). some (typeOf (chainOf (t .links)) b)) (end-kept (chainOf (t .links)) (t .roots))
+  value-kept (value.Of t) = ap (λ (b : Borrow). some (typeOf (chainOf (t .links)) b)) (kept-end env env′ S (chainOf (t .links)) (t .roots))
 
   -- The end of a block (LANGUAGE 3.28).
   pub block-left : (nv level i : ℕ) (v : Value) → livesAt (environmentOf env) (borrowIn nv (asValue env v)) level ≡ true → environmentOf env′ ≡ leave level (environmentOf env)
@@ -108,7 +99,7 @@ module _ (env env′ : List ℕ) (S : SameLinks env env′) where
       let state : environmentOf env′ ≡ update (environmentOf env) y (live (movedAway (variableAt env y) f)) =
       e ∙ ap (λ (z : ℕ). update (environmentOf env) z (movedAwayAt (environmentOf env z) f)) at ∙ ap (λ (k : Slot). update (environmentOf env) y (movedAwayAt k f)) is in
       let same : endIn env′ (chainOf rest) s ≡ variableAt env y .borrow =
-      end-kept (chainOf rest) s ∙ ap (λ (ks : List Link). endIn env ks s) (sym after) ∙ end-drop env f (chainOf (linksAt env y)) s own ∙ ap (endIn env (chainOf (linksAt env y))) (r ∙ ap (rootsAt env) at) in
+      kept-end env env′ S (chainOf rest) s ∙ ap (λ (ks : List Link). endIn env ks s) (sym after) ∙ end-drop env f (chainOf (linksAt env y)) s own ∙ ap (endIn env (chainOf (linksAt env y))) (r ∙ ap (rootsAt env) at) in
       let type : typeOf (chainOf rest) (endIn env′ (chainOf rest) s) ≡ typeOf (drop f (chainOf (linksAt env y))) (variableAt env y .borrow) = ap₂ typeOf (sym after) same in
       ap₂ (λ (Δ : Environment) (t : Ty). ok (Δ, some t)) state type
 

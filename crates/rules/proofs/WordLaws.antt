@@ -13,14 +13,14 @@ use Rattle.reader.specs.Result.{pick}
 use Rattle.reader.specs.Script.{Place}
 use Rattle.rules.specs.declared.roots.Roots.{Roots}
 use Rattle.rules.specs.Links.{Link, boxed, shared, exclusive}
-use Rattle.rules.specs.Places.{unite, rooted}
+use Rattle.rules.specs.Places.{rooted}
 use Rattle.rules.specs.Environment.{places, borrowEnd, sharedOf, exclusiveOf, Variable, Slot, free, used, live, update, levelOf}
 use Rattle.rules.specs.Roots.{left}
 use Rattle.rules.specs.Chains.{chainOf}
 use Rattle.rules.specs.Masks.{has}
 use Rattle.rules.specs.Table.{entryWord, linksAt, longAt, rootsAt, holdersAt, placesIn, endIn, variableAt, slotAs, environmentOf, putAt, putSet, raised}
-use Rattle.rules.proofs.RootLaws.{or, same-roots, rooted-places}
-use Rattle.rules.proofs.RootSets.{unite-places}
+use Rattle.rules.proofs.RootLaws.{same-roots, rooted-places}
+use Rattle.rules.proofs.TableLaws.{put-there, SameEntry}
 
 -- ---- words put
 
@@ -28,10 +28,6 @@ abbrev setOf : ℕ → ℕ → Roots
 setOf l h = record { low = l; high = h }
 
 module _ (words : ℕ → ℕ → ℕ) (x k word : ℕ) where
-  pub put-there : putAt words x k word x k ≡ word
-  unfolding putAt
-  put-there = rw (eq-eqb x x refl, eq-eqb k k refl)
-
   pub put-elsewhere : (y j : ℕ) → (x ≡ y → k ≡ j → ⊥) → putAt words x k word y j ≡ words y j
   unfolding putAt
   put-elsewhere y j h = go (eqb x y) (eqb k j) refl refl
@@ -132,10 +128,6 @@ holders-same env env′ y l h = ap₂ setOf l h
 pub links-same : (env env′ : List ℕ) (y : ℕ) → entryWord env′ y 1 ≡ entryWord env y 1 → linksAt env′ y ≡ linksAt env y
 links-same env env′ y e = ap (λ (w : ℕ). w % 4294967296) e
 
--- The words of an entry, and not the note.
-abbrev pub SameEntry : List ℕ → List ℕ → ℕ → Type 0
-SameEntry env env′ y = (k : ℕ) → k < 8 → (k ≡ 3 → ⊥) → (k ≡ 7 → ⊥) → entryWord env′ y k ≡ entryWord env y k
-
 -- A borrow end does not change where the links of its roots do not.
 pub end-same : (env env′ : List ℕ) (ks : List Link) (s s′ : Roots) → ((y : ℕ) → has s′ y ≡ has s y) → ((y : ℕ) → has s y ≡ true → linksAt env′ y ≡ linksAt env y)
     → endIn env′ ks s′ ≡ endIn env ks s
@@ -158,21 +150,6 @@ end-same-but env env′ x l links ks s h =
     same-roots 128 (has s) (has s) (longAt env′) (longAt env) (left ks) (λ y. refl)
     (λ y m. ap (λ (l : ℕ). length (chainOf l)) (links y (λ q. true≢false (sym m ∙ ap (has s) (sym q) ∙ out)))))
 
--- Roots of either: the places of both.
-united-by : (ks : List Link) (ps qs rs : List Place) → unite ps qs ≡ rs → borrowEnd ks (unite (places (borrowEnd ks ps)) (places (borrowEnd ks qs))) ≡ borrowEnd ks rs
-unfolding borrowEnd
-united-by [] ps qs rs e = refl
-united-by (boxed ∷ ks) ps qs rs e = united-by ks ps qs rs e
-united-by (shared ∷ ks) ps qs rs e = ap sharedOf e
-united-by (exclusive ∷ ks) ps qs rs e = ap exclusiveOf e
-
-pub end-united : (env : List ℕ) (ks : List Link) (s t all : Roots) → ((y : ℕ) → has all y ≡ or (has s y) (has t y))
-    → borrowEnd ks (unite (places (endIn env ks s)) (places (endIn env ks t))) ≡ endIn env ks all
-end-united env ks s t all e =
-    united-by ks (placesIn env ks s) (placesIn env ks t) (placesIn env ks all)
-    (unite-places 128 (has s) (has t) (longAt env) (left ks)
-    ∙ same-roots 128 (λ y. or (has s y) (has t y)) (has all) (longAt env) (longAt env) (left ks) (λ y. sym (e y)) (λ y h. refl))
-
 -- Of what is not in scope the other words say nothing.
 slot-by : (s : ℕ) (v w : Variable) → (2 ≤ s → w ≡ v) → slotAs s w ≡ slotAs s v
 unfolding slotAs
@@ -194,11 +171,6 @@ slot-same env env′ y S e =
       roots-same env env′ y (S 2 (omega arith) (λ q. omega arith) (λ q. omega arith)) (S 6 (omega arith) (λ q. omega arith) (λ q. omega arith)),
       e h,
     ))
-
--- All entries agree.
-pub environment-same : (env env′ : List ℕ) → ((y : ℕ) → SameEntry env env′ y) → environmentOf env′ ≡ environmentOf env
-environment-same env env′ S =
-    fun-ext λ y. slot-same env env′ y (S y) (λ l. end-same env env′ (chainOf (linksAt env y)) (rootsAt env y) (rootsAt env y) (λ z. refl) (λ z h. links-same env env′ z (S z 1 (omega arith) (λ q. omega arith) (λ q. omega arith))))
 
 -- All but one say the same.
 pub updated : (env env′ : List ℕ) (x : ℕ) (s : Slot) → ((y : ℕ) → (x ≡ y → ⊥) → environmentOf env′ y ≡ environmentOf env y) → environmentOf env′ x ≡ s

@@ -25,7 +25,7 @@ use Rattle.rules.proofs.SetEquality.{all-pass}
 use Rattle.rules.proofs.RootLaws.{same-roots, from-out, from-in}
 use Rattle.rules.proofs.RootSets.{one-place}
 use Rattle.rules.proofs.MaskLaws.{none-in, some-in}
-use Rattle.rules.proofs.EndRoots.{end-links}
+use Rattle.rules.proofs.TableLaws.{kept-end}
 
 -- ---- a number taken out of a set
 
@@ -132,7 +132,7 @@ widening-next env₀ env env′ to left left′ s x h W E L I = record {
     here =
         ap (λ (Γ : Environment). Γ x) E
         ∙ update-same (environmentOf env) x (widened (environmentOf env x) (endIn env (chainOf (linksAt env x)) s))
-        ∙ ap₂ (λ (sl : Slot) (b : Borrow). widened sl b) (I .rest x h) (ap (λ (k : ℕ). endIn env (chainOf k) s) (I .links x) ∙ end-links env₀ env (chainOf (linksAt env₀ x)) s (I .links))
+        ∙ ap₂ (λ (sl : Slot) (b : Borrow). widened sl b) (I .rest x h) (ap (λ (k : ℕ). endIn env (chainOf k) s) (I .links x) ∙ kept-end env₀ env (I .links) (chainOf (linksAt env₀ x)) s)
 
     go : (y : ℕ) → has to y ≡ true → has left′ y ≡ false → Dec (x ≡ y) → environmentOf env′ y ≡ widened (environmentOf env₀ y) (endIn env₀ (chainOf (linksAt env₀ y)) s)
     go y k j (yes e) = subst (λ (z : ℕ). environmentOf env′ z ≡ widened (environmentOf env₀ z) (endIn env₀ (chainOf (linksAt env₀ z)) s)) e here
