@@ -17,16 +17,15 @@ use Rattle.rules.specs.declared.table.Place.{Place}
 use Rattle.rules.specs.declared.rules.Requirement.{Requirement}
 use Rattle.rules.specs.declared.rules.Requirement.the-variants as requirement
 use Rattle.rules.specs.declared.verdicts.Value.{Value}
-use Rattle.rules.specs.declared.verdicts.Verdict.{Verdict}
 use Rattle.rules.specs.declared.verdicts.Verdict.the-variants as verdict
 use Rattle.rules.specs.Environment.{used, Environment, update, isFree}
 use Rattle.rules.specs.Rules.{Judged, judgeBox, judgeLet, judgeAssign}
 use Rattle.rules.specs.Judge.{judge}
 use Rattle.rules.specs.Table.{environmentOf, asPlace}
-use Rattle.rules.specs.Verdicts.{begun, asValue, answered}
+use Rattle.rules.specs.Verdicts.{begun, asValue, verdictOf}
 use Rattle.ownership.specs.declared.judge.JudgedTerm.{JudgedTerm}
-use Rattle.ownership.specs.JudgeRows.{rowPlace, ended, judgedAt, judgeAt, Wraps, beginAt, ruleAfter, afterAt}
-use Rattle.ownership.proofs.JudgeLaws.{inner-step}
+use Rattle.ownership.specs.JudgeRows.{rowPlace, atRow, ended, judgedAt, judgeAt, Wraps, beginAt, ruleAfter, afterAt}
+use Rattle.ownership.proofs.JudgeLaws.{refused-ended, fine-ended, inner-step}
 
 -- What a let asks before its inner term.
 pub begin-ok : (b : Bool) (e : Refusal) (Γ Γ₀ : Environment) → (need b e >>= λ _. ok Γ) ≡ ok Γ₀ → (b ≡ true) × (Γ ≡ Γ₀)
@@ -76,26 +75,22 @@ module _ (nv level : ℕ) (rows : List ℕ) (i : ℕ) where
 
 -- The code's answer, after the inner term's.
 module _ (nv level : ℕ) (rows : List ℕ) (i : ℕ) (env : List ℕ) (inner : JudgedTerm) where
-  pub after-refused : (n at : ℕ) → inner .verdict ≡ verdict.Refused n at → ended env inner ≡ afterAt nv level rows i (ended env inner)
-  unfolding ended answered _>>=_
-  after-refused n at q = rw q
+  pub after-refused : (n : ℕ) → verdictOf (inner .told) ≡ verdict.Refused n → ended env inner ≡ afterAt nv level rows i (ended env inner)
+  unfolding _>>=_
+  after-refused n q = rw (refused-ended env inner n q)
 
-  module _ (v : Value) (fine : inner .verdict ≡ verdict.Fine v) (env′ : List ℕ) (out : Verdict) where
-    fine-ended : ended env inner ≡ ok ((environmentOf env, asValue env v), inner .next)
-    unfolding ended answered _>>=_
-    fine-ended = rw fine
+  module _ (v : Value) (fine : verdictOf (inner .told) ≡ verdict.Fine v) (env′ : List ℕ) (out : JudgedTerm) where
+    after-fine : ended env′ out ≡ atRow (inner .next) (ruleAfter nv level rows i (environmentOf env, asValue env v)) → ended env′ out ≡ afterAt nv level rows i (ended env inner)
+    unfolding _>>=_
+    after-fine w = rw (fine-ended env inner v fine) w
 
-    after-fine : answered env′ out ≡ ruleAfter nv level rows i (environmentOf env, asValue env v) → ended env′ (record { next = inner .next; verdict = out }) ≡ afterAt nv level rows i (ended env inner)
-    unfolding ended _>>=_
-    after-fine w = rw (fine-ended, w)
-
-    pub after-box : fieldAt rows i 0 ≡ 7 → answered env′ out ≡ judgeBox nv (environmentOf env) i (asValue env v) → ended env′ (record { next = inner .next; verdict = out }) ≡ afterAt nv level rows i (ended env inner)
+    pub after-box : fieldAt rows i 0 ≡ 7 → ended env′ out ≡ atRow (inner .next) (judgeBox nv (environmentOf env) i (asValue env v)) → ended env′ out ≡ afterAt nv level rows i (ended env inner)
     after-box k w = after-fine (rw (box-rule nv level rows i k) w)
 
-    pub after-let : fieldAt rows i 0 ≡ 8 → (x : ℕ) → x ≡ fieldAt rows i 1 → answered env′ out ≡ judgeLet nv level (environmentOf env) i x (asValue env v) → ended env′ (record { next = inner .next; verdict = out }) ≡ afterAt nv level rows i (ended env inner)
+    pub after-let : fieldAt rows i 0 ≡ 8 → (x : ℕ) → x ≡ fieldAt rows i 1 → ended env′ out ≡ atRow (inner .next) (judgeLet nv level (environmentOf env) i x (asValue env v)) → ended env′ out ≡ afterAt nv level rows i (ended env inner)
     after-let k x ex w = after-fine (rw (let-rule nv level rows i k, ← ex) w)
 
-    pub after-assign : Wraps nv rows i → (fieldAt rows i 0 ≡ 7 → ⊥) → (fieldAt rows i 0 ≡ 8 → ⊥) → (p : Place) → p ≡ rowPlace rows i 1 → answered env′ out ≡ judgeAssign nv (environmentOf env) i (asPlace p) (asValue env v) → ended env′ (record { next = inner .next; verdict = out }) ≡ afterAt nv level rows i (ended env inner)
+    pub after-assign : Wraps nv rows i → (fieldAt rows i 0 ≡ 7 → ⊥) → (fieldAt rows i 0 ≡ 8 → ⊥) → (p : Place) → p ≡ rowPlace rows i 1 → ended env′ out ≡ atRow (inner .next) (judgeAssign nv (environmentOf env) i (asPlace p) (asValue env v)) → ended env′ out ≡ afterAt nv level rows i (ended env inner)
     after-assign W a b p ep w = after-fine (rw (assign-rule nv level rows i (⊎-elim (λ k. absurd (a k)) (λ h. ⊎-elim (λ k. absurd (b k)) (λ k. k) h) (wrapping (fieldAt rows i 0) (W .kind)))) (rw ep at w))
 
 -- One term.

@@ -9,10 +9,10 @@ use Rattle.reader.specs.Script.{Term, Terms}
 use Rattle.reader.specs.RowParts.{fieldAt}
 use Rattle.reader.specs.RowTrees.{placeAt, RowTree, IsTree, around, blockAt, choiceOf, treeAt}
 use Rattle.rules.specs.declared.table.Place.{Place}
-use Rattle.rules.specs.declared.rules.Requirement.{Requirement}
-use Rattle.rules.specs.declared.rules.Requirement.the-variants as requirement
+use Rattle.rules.specs.declared.rules.Readable.{Readable}
+use Rattle.rules.specs.declared.rules.Readable.the-variants as readable
+use Rattle.rules.specs.declared.verdicts.Told.{Told}
 use Rattle.rules.specs.declared.verdicts.Value.{Value}
-use Rattle.rules.specs.declared.verdicts.Verdict.{Verdict}
 use Rattle.rules.specs.declared.verdicts.Verdict.the-variants as verdict
 use Rattle.ownership.specs.declared.judge.JudgedTerm.{JudgedTerm}
 use Rattle.rules.specs.Links.{Link}
@@ -23,11 +23,11 @@ use Rattle.rules.specs.Judge.{judge}
 use Rattle.rules.specs.Neat.{Neat, NeatValue, LetsBelow, LetsBelowAll}
 use Rattle.rules.specs.Met.{judgeBranch}
 use Rattle.rules.specs.Table.{environmentOf, SameLinks, asPlace}
-use Rattle.rules.specs.Verdicts.{asRequirement, asValue, answered, Joins}
+use Rattle.rules.specs.Verdicts.{asValue, verdictOf, answered, NumberIs, Joins}
 use Rattle.rules.specs.Kept.{Stays}
 use Rattle.ownership.specs.JudgeRows.{rowPlace, atRow, ended, judgedAt, judgeAt, judgeBranches, branchesAt}
 use Rattle.rules.proofs.Slots.{live-carried}
-use Rattle.ownership.proofs.JudgeLaws.{refused-is, fine-is}
+use Rattle.ownership.proofs.JudgeLaws.{refused-ended, told-ended, refused-is, fine-is}
 use Rattle.rules.proofs.NeatSteps.{Fine, Lived}
 use Rattle.rules.proofs.NeatBlocks.{neat-carried}
 use Rattle.rules.proofs.NeatJudged.{neat-after-all, branch}
@@ -57,13 +57,13 @@ module _ (nv l : ℕ) (rows : List ℕ) (j : ℕ) (good : IsTree (treeAt nv l ro
   unfolding LetsBelow
   block-lets = rw (here .tree) at (tree-lets nv l rows j)
 
-  pub accepted : (v : Value) → r .verdict ≡ verdict.Fine v → Accepted nv l rows j level Γ env r v
+  pub accepted : (v : Value) → verdictOf (r .told) ≡ verdict.Fine v → Accepted nv l rows j level Γ env r v
   accepted v fine =
       let z = fine-is (judgeBranch nv (here .terms) j level Γ) (here .after) env r block-ended v fine in
       record { terms = here .terms; stands = rw (z .1) (here .of-choice); judged = z .0; lets = block-lets }
 
-  pub not-accepted : (n at : ℕ) → r .verdict ≡ verdict.Refused n at → judgeBranch nv (here .terms) j level Γ ≡ err (n, at)
-  not-accepted n at q = refused-is (judgeBranch nv (here .terms) j level Γ) (here .after) env r block-ended n at q
+  pub not-accepted : (n : ℕ) → verdictOf (r .told) ≡ verdict.Refused n → judgeBranch nv (here .terms) j level Γ ≡ err (n, r .next)
+  not-accepted n q = refused-is (judgeBranch nv (here .terms) j level Γ) (here .after) env r block-ended n q
 
 module _ {nv l : ℕ} {rows : List ℕ} {j level : ℕ} {Γ : Environment} {env : List ℕ} {r : JudgedTerm} {v : Value} (N : Neat nv Γ level) (A : Accepted nv l rows j level Γ env r v) where
   both : Fine nv Γ (environmentOf env) (asValue env v) level × Lived Γ (environmentOf env)
@@ -97,18 +97,18 @@ module _ (nv l : ℕ) (rows : List ℕ) (i : ℕ) (good : IsTree (treeAt nv l ro
   first-ready = in-block inside rows (i + 1) (first-in inside rows i (choice-blocks nv l rows i good kind))
 
   module _ (level : ℕ) (Γ : Environment) (env₁ : List ℕ) (one : JudgedTerm) (e₁ : ended env₁ one ≡ judgeAt nv (inside (i + 1)) level Γ) where
-    pub first-refused : (n at : ℕ) → one .verdict ≡ verdict.Refused n at → ended env₁ one ≡ branchesAt nv l rows i level Γ
-    unfolding ended answered judgedAt judgeBranches _>>=_
-    first-refused n at q =
+    pub first-refused : (n : ℕ) → verdictOf (one .told) ≡ verdict.Refused n → ended env₁ one ≡ branchesAt nv l rows i level Γ
+    unfolding judgedAt judgeBranches _>>=_
+    first-refused n q =
         let B = block-stands nv (l - 1) rows (i + 1) (first-ready .0) (first-ready .1) in
-        let z = not-accepted nv (l - 1) rows (i + 1) (first-ready .0) (first-ready .1) level Γ env₁ one e₁ n at q in
-        rw (q, B .of-choice) (go (B .terms) z (blockAt inside rows (B .after)) (second-in inside rows i (choice-blocks nv l rows i good kind) (i + 1, B .terms) (B .after) (B .of-choice)))
+        let z = not-accepted nv (l - 1) rows (i + 1) (first-ready .0) (first-ready .1) level Γ env₁ one e₁ n q in
+        rw (refused-ended env₁ one n q, B .of-choice) (go (B .terms) z (blockAt inside rows (B .after)) (second-in inside rows i (choice-blocks nv l rows i good kind) (i + 1, B .terms) (B .after) (B .of-choice)))
       where
-        go : (ts : Terms) → judgeBranch nv ts (i + 1) level Γ ≡ err (n, at) → (d : RowTree (ℕ × Terms)) → IsTree d → err (n, at) ≡ judgedAt (judgeBranches nv level Γ i) (around (λ b. ((i + 1, ts), b)) d)
+        go : (ts : Terms) → judgeBranch nv ts (i + 1) level Γ ≡ err (n, one .next) → (d : RowTree (ℕ × Terms)) → IsTree d → err (n, one .next) ≡ judgedAt (judgeBranches nv level Γ i) (around (λ b. ((i + 1, ts), b)) d)
         go ts z none h = absurd h
         go ts z (some d) h = rw z
 
-    module _ (N : Neat nv Γ level) (v : Value) (fine₁ : one .verdict ≡ verdict.Fine v) where
+    module _ (N : Neat nv Γ level) (v : Value) (fine₁ : verdictOf (one .told) ≡ verdict.Fine v) where
       first : Accepted nv (l - 1) rows (i + 1) level Γ env₁ one v
       first = accepted nv (l - 1) rows (i + 1) (first-ready .0) (first-ready .1) level Γ env₁ one e₁ v fine₁
 
@@ -127,14 +127,14 @@ module _ (nv l : ℕ) (rows : List ℕ) (i : ℕ) (good : IsTree (treeAt nv l ro
         second-start = subst (λ (Δ : Environment). Neat nv Δ level) (sym from) (neat-carried (environmentOf env₁) N)
 
         module _ (env₂ : List ℕ) (two : JudgedTerm) (e₂ : ended env₂ two ≡ judgeAt nv (inside (one .next)) level Γ₂) where
-          pub second-refused : (n at : ℕ) → two .verdict ≡ verdict.Refused n at → ended env₂ two ≡ branchesAt nv l rows i level Γ
-          unfolding ended answered judgedAt judgeBranches _>>=_
-          second-refused n at q =
+          pub second-refused : (n : ℕ) → verdictOf (two .told) ≡ verdict.Refused n → ended env₂ two ≡ branchesAt nv l rows i level Γ
+          unfolding judgedAt judgeBranches _>>=_
+          second-refused n q =
               let B = block-stands nv (l - 1) rows (one .next) (second-ready .0) (second-ready .1) in
-              let z = not-accepted nv (l - 1) rows (one .next) (second-ready .0) (second-ready .1) level Γ₂ env₂ two e₂ n at q in
-              rw (q, first .stands, B .of-choice, first .judged, ← from, z)
+              let z = not-accepted nv (l - 1) rows (one .next) (second-ready .0) (second-ready .1) level Γ₂ env₂ two e₂ n q in
+              rw (refused-ended env₂ two n q, first .stands, B .of-choice, first .judged, ← from, z)
 
-          module _ (w : Value) (fine₂ : two .verdict ≡ verdict.Fine w) where
+          module _ (w : Value) (fine₂ : verdictOf (two .told) ≡ verdict.Fine w) where
             second : Accepted nv (l - 1) rows (one .next) level Γ₂ env₂ two w
             second = accepted nv (l - 1) rows (one .next) (second-ready .0) (second-ready .1) level Γ₂ env₂ two e₂ w fine₂
 
@@ -148,31 +148,33 @@ module _ (nv l : ℕ) (rows : List ℕ) (i : ℕ) (good : IsTree (treeAt nv l ro
               first-value : asValue env₃ v ≡ asValue env₁ v
               first-value = links-value env₂ env₃ same v ∙ same-value env₁ env₂ (as-long Γ env₁ env₂ first-stays second-stays) v level (accepted-value N first)
 
-              pub branches-fine : environmentOf env₃ ≡ joined Γ (environmentOf env₁) (environmentOf env₂) → (out : Verdict) → Joins i v w out → ended env₃ (record { next = two .next; verdict = out }) ≡ branchesAt nv l rows i level Γ
-              unfolding ended judgedAt judgeBranches judgeChoice _>>=_
-              branches-fine j out J = rw (first .stands, second .stands, first .judged, ← from, second .judged, J env₃, first-value, links-value env₂ env₃ same w, j)
+              pub branches-fine : environmentOf env₃ ≡ joined Γ (environmentOf env₁) (environmentOf env₂) → (t : Told) → Joins v w t → (out : JudgedTerm) → ((env : List ℕ) → ended env out ≡ atRow (two .next) (answered env i t)) → ended env₃ out ≡ branchesAt nv l rows i level Γ
+              unfolding judgedAt judgeBranches judgeChoice _>>=_
+              branches-fine j t J out E = told-ended _ _ _ _ _ E env₃ (J env₃ i) ∙ rw (first .stands, second .stands, first .judged, ← from, second .judged, first-value, links-value env₂ env₃ same w, j)
 
   -- ---- the choice
 
   -- Its place is judged first.
-  module _ (p : Place) (is : p ≡ rowPlace rows i 1) (level : ℕ) (Γ : Environment) (r : Requirement) (e : asRequirement r ≡ judgeNumber nv Γ i (asPlace p)) where
-    place-judged : asRequirement r ≡ judgeNumber nv Γ i (placeAt rows i 1)
+  module _ (p : Place) (is : p ≡ rowPlace rows i 1) (level : ℕ) (Γ : Environment) (r : Readable) (e : NumberIs (judgeNumber nv Γ i (asPlace p)) i r) where
+    place-judged : NumberIs (judgeNumber nv Γ i (placeAt rows i 1)) i r
     place-judged = rw is at e
 
     abbrev blocks : RowTree ((ℕ × Terms) × (ℕ × Terms))
     blocks = blocksAt inside rows i
 
-    pub choice-refused : (n at : ℕ) → r ≡ requirement.Refused n at → err (n, at) ≡ judgeAt nv (treeAt nv l rows i) level Γ
-    unfolding asRequirement judgedAt judge _>>=_
-    choice-refused n at q = rw (choice-is nv l rows i good kind) (go blocks (choice-blocks nv l rows i good kind) (sym (rw q at place-judged)))
+    pub choice-refused : (n : ℕ) → r ≡ readable.Refused n → (t : Told) → verdictOf t ≡ verdict.Refused n → (env : List ℕ) → ended env (record { next = i; told = t }) ≡ judgeAt nv (treeAt nv l rows i) level Γ
+    unfolding judgedAt judge _>>=_
+    choice-refused n q t h env =
+        refused-ended env (record { next = i; told = t }) n h
+        ∙ rw (choice-is nv l rows i good kind) (go blocks (choice-blocks nv l rows i good kind) (rw q at place-judged))
       where
-        go : (d : RowTree ((ℕ × Terms) × (ℕ × Terms))) → IsTree d → judgeNumber nv Γ i (placeAt rows i 1) ≡ err (n, at) → err (n, at) ≡ judgeAt nv (around (choiceOf i (placeAt rows i 1)) d) level Γ
+        go : (d : RowTree ((ℕ × Terms) × (ℕ × Terms))) → IsTree d → judgeNumber nv Γ i (placeAt rows i 1) ≡ err (n, i) → err (n, i) ≡ judgeAt nv (around (choiceOf i (placeAt rows i 1)) d) level Γ
         go none h z = absurd h
         go (some b) h z = rw z
 
-    pub choice-met : r ≡ requirement.Met → (env : List ℕ) (out : JudgedTerm) → ended env out ≡ branchesAt nv l rows i level Γ → ended env out ≡ judgeAt nv (treeAt nv l rows i) level Γ
-    unfolding asRequirement judgedAt judge judgeBranches _>>=_
-    choice-met q env out w = w ∙ rw (choice-is nv l rows i good kind) (go blocks (choice-blocks nv l rows i good kind) (sym (rw q at place-judged)))
+    pub choice-met : (m : ℕ) → r ≡ readable.Rest m → (env : List ℕ) (out : JudgedTerm) → ended env out ≡ branchesAt nv l rows i level Γ → ended env out ≡ judgeAt nv (treeAt nv l rows i) level Γ
+    unfolding judgedAt judge judgeBranches _>>=_
+    choice-met m q env out w = w ∙ rw (choice-is nv l rows i good kind) (go blocks (choice-blocks nv l rows i good kind) (rw q at place-judged))
       where
         go : (d : RowTree ((ℕ × Terms) × (ℕ × Terms))) → IsTree d → judgeNumber nv Γ i (placeAt rows i 1) ≡ ok tt → judgedAt (judgeBranches nv level Γ i) d ≡ judgeAt nv (around (choiceOf i (placeAt rows i 1)) d) level Γ
         go none h z = absurd h

@@ -20,7 +20,7 @@ use Rattle.rules.specs.Environment.{used, Environment, update, isFree}
 use Rattle.rules.specs.Rules.{Judged}
 use Rattle.rules.specs.Neat.{Neat}
 use Rattle.rules.specs.Table.{environmentOf}
-use Rattle.rules.specs.Verdicts.{asValue}
+use Rattle.rules.specs.Verdicts.{asValue, verdictOf}
 use Rattle.ownership.specs.JudgeRows.{ended, judgeAt, Wraps, beginAt, AfterReady, afterAt}
 use Rattle.rules.proofs.Answers.{was-free}
 use Rattle.rules.proofs.Slots.{update-same}
@@ -152,5 +152,5 @@ module _ (nv levels : ℕ) (rows : List ℕ) (i : ℕ) where
               taken = λ v f k. after v f .taken (fieldAt rows (i + n) 1) (begun-taken rows (i + n) (I .0) (O .0) (I .2) k);
             })
           where
-            after : (v : Value) → judged .verdict ≡ verdict.Fine v → Fine nv (O .0) (environmentOf env) (asValue env v) level
+            after : (v : Value) → verdictOf (judged .told) ≡ verdict.Fine v → Fine nv (O .0) (environmentOf env) (asValue env v) level
             after v f = fine-tree nv level (O .0) (inwards-neat rows i nv level Γ₀ N (suc n) (O .0) (O .1)) env judged v f (levels - suc n) rows (i + suc n) (inwards-tree Γ₀ (suc n) (O .0) (O .1)) (O .2)

@@ -1,33 +1,47 @@
 -- A term with an inner term: refused as the inner term is, or else judged by the rule that follows it.
 use Prim.Native.Nat.{ℕ}
 use native.Mathlib.Omega.{arith}
-use mathlib.Core.Path.{_≡_, refl, sym, ap}
+use mathlib.Core.Path.{_≡_, refl, sym, ap, _∙_}
 use mathlib.Core.Option.{none, some}
 use mathlib.Core.List.{List}
 use Rattle.reader.specs.Result.{ok, err, Refusal, _>>=_}
 use Rattle.reader.specs.RowTrees.{RowTree, IsTree, around}
+use Rattle.rules.specs.declared.verdicts.Told.{Told}
 use Rattle.rules.specs.declared.verdicts.Value.{Value}
-use Rattle.rules.specs.declared.verdicts.Verdict.{Verdict}
 use Rattle.rules.specs.declared.verdicts.Verdict.the-variants as verdict
 use Rattle.rules.specs.Table.{environmentOf}
 use Rattle.rules.specs.Rules.{Judged, Out}
-use Rattle.rules.specs.Verdicts.{asValue, answered}
+use Rattle.rules.specs.Verdicts.{asValue, verdictOf, answeredAs, answered}
 use Rattle.ownership.specs.declared.judge.JudgedTerm.{JudgedTerm}
 use Rattle.ownership.specs.JudgeRows.{atRow, ended, judgedAt}
 
+-- The code's answer, by its case.
+module _ (env : List ℕ) (r : JudgedTerm) where
+  pub refused-ended : (n : ℕ) → verdictOf (r .told) ≡ verdict.Refused n → ended env r ≡ err (n, r .next)
+  unfolding ended answeredAs _>>=_
+  refused-ended n q = rw q
+
+  pub fine-ended : (v : Value) → verdictOf (r .told) ≡ verdict.Fine v → ended env r ≡ ok ((environmentOf env, asValue env v), r .next)
+  unfolding ended answeredAs _>>=_
+  fine-ended v q = rw q
+
+-- What `judged_term` makes of what was told, where that is the definition's answer.
+pub told-ended : (i j : ℕ) (t : Told) (r : JudgedTerm) (R : Judged Out) → ((env : List ℕ) → ended env r ≡ atRow j (answered env i t)) → (env : List ℕ) → answered env i t ≡ R → ended env r ≡ atRow j R
+told-ended i j t r R J env w = J env ∙ ap (atRow j) w
+
 -- What the code's verdict says of the definition's answer R, which ends at row j.
 module _ (R : Judged Out) (j : ℕ) (env : List ℕ) (r : JudgedTerm) (e : ended env r ≡ atRow j R) where
-  pub refused-is : (n at : ℕ) → r .verdict ≡ verdict.Refused n at → R ≡ err (n, at)
-  unfolding ended answered _>>=_
-  refused-is n at q = go R (rw q at e)
+  pub refused-is : (n : ℕ) → verdictOf (r .told) ≡ verdict.Refused n → R ≡ err (n, r .next)
+  unfolding _>>=_
+  refused-is n q = go R (sym (refused-ended env r n q) ∙ e)
     where
-      go : (R : Judged Out) → err (n, at) ≡ atRow j R → R ≡ err (n, at)
+      go : (R : Judged Out) → err (n, r .next) ≡ atRow j R → R ≡ err (n, r .next)
       go (ok o) z = let y : _≡_ {A = ℕ} 0 1 = cc in absurd (omega arith)
-      go (err x) z = let y : _≡_ {A = Refusal} (n, at) x = cc in ap (λ (x : Refusal). err x) (sym y)
+      go (err x) z = let y : _≡_ {A = Refusal} (n, r .next) x = cc in ap (λ (x : Refusal). err x) (sym y)
 
-  pub fine-is : (v : Value) → r .verdict ≡ verdict.Fine v → (R ≡ ok (environmentOf env, asValue env v)) × (r .next ≡ j)
-  unfolding ended answered _>>=_
-  fine-is v q = go R (rw q at e)
+  pub fine-is : (v : Value) → verdictOf (r .told) ≡ verdict.Fine v → (R ≡ ok (environmentOf env, asValue env v)) × (r .next ≡ j)
+  unfolding _>>=_
+  fine-is v q = go R (sym (fine-ended env r v q) ∙ e)
     where
       go : (R : Judged Out) → ok ((environmentOf env, asValue env v), r .next) ≡ atRow j R → (R ≡ ok (environmentOf env, asValue env v)) × (r .next ≡ j)
       go (ok o) z =
@@ -37,17 +51,17 @@ module _ (R : Judged Out) (j : ℕ) (env : List ℕ) (r : JudgedTerm) (e : ended
 
 -- f makes the term, K is the rule that follows its inner term.
 module _ {A B : Type 0} (f : A → B) (J : A → Judged Out) (J′ : B → Judged Out) (K : Out → Judged Out) (rule : (a : A) → J′ (f a) ≡ (J a >>= K)) (env : List ℕ) (inner : JudgedTerm) where
-  pub inner-refused : (d : RowTree A) → IsTree d → ended env inner ≡ judgedAt J d → (n at : ℕ) → inner .verdict ≡ verdict.Refused n at → ended env inner ≡ judgedAt J′ (around f d)
-  unfolding ended answered judgedAt _>>=_
-  inner-refused none h e n at q = absurd h
-  inner-refused (some r) h e n at q = rw (q, rule (r .0), refused-is (J (r .0)) (r .1) env inner e n at q)
+  pub inner-refused : (d : RowTree A) → IsTree d → ended env inner ≡ judgedAt J d → (n : ℕ) → verdictOf (inner .told) ≡ verdict.Refused n → ended env inner ≡ judgedAt J′ (around f d)
+  unfolding judgedAt _>>=_
+  inner-refused none h e n q = absurd h
+  inner-refused (some r) h e n q = rw (refused-ended env inner n q, rule (r .0), refused-is (J (r .0)) (r .1) env inner e n q)
 
-  pub inner-fine : (d : RowTree A) → IsTree d → ended env inner ≡ judgedAt J d → (v : Value) → inner .verdict ≡ verdict.Fine v → (env′ : List ℕ) (out : Verdict) → answered env′ out ≡ K (environmentOf env, asValue env v) → ended env′ (record { next = inner .next; verdict = out }) ≡ judgedAt J′ (around f d)
-  unfolding ended judgedAt _>>=_
+  pub inner-fine : (d : RowTree A) → IsTree d → ended env inner ≡ judgedAt J d → (v : Value) → verdictOf (inner .told) ≡ verdict.Fine v → (env′ : List ℕ) (out : JudgedTerm) → ended env′ out ≡ atRow (inner .next) (K (environmentOf env, asValue env v)) → ended env′ out ≡ judgedAt J′ (around f d)
+  unfolding judgedAt _>>=_
   inner-fine none h e v q env′ out w = absurd h
   inner-fine (some r) h e v q env′ out w =
       let z = fine-is (J (r .0)) (r .1) env inner e v q in
-      rw (w, z .1, rule (r .0), z .0)
+      w ∙ rw (z .1, rule (r .0), z .0)
 
 -- The same, whatever the inner term's answer.
 bind-row : (R : Judged Out) (j : ℕ) (K : Out → Judged Out) → atRow j (R >>= K) ≡ (atRow j R >>= λ o. atRow (o .1) (K (o .0)))

@@ -1,6 +1,6 @@
 -- The terms that have no inner term.
 use Prim.Native.Nat.{ℕ, _+_, _-_}
-use mathlib.Core.Path.{_≡_, refl, sym}
+use mathlib.Core.Path.{_≡_, refl, sym, _∙_}
 use mathlib.Core.Option.{Option, none, some}
 use mathlib.Core.List.{List}
 use lib.Dec.{ltb}
@@ -13,12 +13,11 @@ use Rattle.reader.specs.RowTrees.{placeAt, RowTree, IsTree, kindAt, treeAt}
 use Rattle.reader.proofs.KindBytes.{found}
 use Rattle.reader.proofs.RowTreeLaws.{only-in, only-is, tree-kind}
 use Rattle.rules.specs.declared.table.Place.{Place}
-use Rattle.rules.specs.declared.verdicts.Verdict.{Verdict}
 use Rattle.rules.specs.Environment.{Environment}
 use Rattle.rules.specs.Rules.{numberTy}
 use Rattle.rules.specs.Judge.{judge}
 use Rattle.rules.specs.Table.{asPlace}
-use Rattle.rules.specs.Verdicts.{answered}
+use Rattle.ownership.specs.declared.judge.JudgedTerm.{JudgedTerm}
 use Rattle.ownership.specs.JudgeRows.{rowPlace, atRow, ended, judgedAt, judgeAt, judgeLeaf}
 
 -- Number and reading, and what the term judge never hands on.
@@ -42,11 +41,11 @@ leaf-number nv k i p q Γ a b c d e f = go (kindOf newest k) refl
     go (some kChoice) h = refl
     go (some kSum) h = absurd (f (sym (found newest k kSum h)))
 
-pub leaf-judged : (nv l : ℕ) (rows : List ℕ) (i : ℕ) → IsTree (treeAt nv l rows i) → (level : ℕ) (Γ : Environment) (k : ℕ) → k ≡ fieldAt rows i 0 → (k ≡ 7 → ⊥) × (k ≡ 8 → ⊥) × (k ≡ 9 → ⊥) → (k ≡ 11 → ⊥) → (k ≡ 12 → ⊥) → (p q : Place) → p ≡ rowPlace rows i 1 → q ≡ rowPlace rows i 3 → (env : List ℕ) (out : Verdict) → answered env out ≡ judgeLeaf nv (kindOf newest k) i (asPlace p) (asPlace q) Γ → ended env (record { next = i + 1; verdict = out }) ≡ judgeAt nv (treeAt nv l rows i) level Γ
-unfolding ended judgedAt judge kindAt judgeLeaf byteOf
+pub leaf-judged : (nv l : ℕ) (rows : List ℕ) (i : ℕ) → IsTree (treeAt nv l rows i) → (level : ℕ) (Γ : Environment) (k : ℕ) → k ≡ fieldAt rows i 0 → (k ≡ 7 → ⊥) × (k ≡ 8 → ⊥) × (k ≡ 9 → ⊥) → (k ≡ 11 → ⊥) → (k ≡ 12 → ⊥) → (p q : Place) → p ≡ rowPlace rows i 1 → q ≡ rowPlace rows i 3 → (env : List ℕ) (out : JudgedTerm) → ended env out ≡ atRow (i + 1) (judgeLeaf nv (kindOf newest k) i (asPlace p) (asPlace q) Γ) → ended env out ≡ judgeAt nv (treeAt nv l rows i) level Γ
+unfolding judgedAt judge kindAt judgeLeaf byteOf
 leaf-judged nv l rows i good level Γ k ek n d c p q ep eq env out w =
     let z : treeAt nv l rows i ≡ kindAt (kindOf newest k) nv (treeAt nv (l - 1) rows) rows i = tree-kind nv l rows i (kindOf newest k) good (rw ek) in
-    rw (w, ep, eq, z) (go (treeAt nv (l - 1) rows) (kindOf newest k) refl (rw z at good))
+    w ∙ rw (ep, eq, z) (go (treeAt nv (l - 1) rows) (kindOf newest k) refl (rw z at good))
   where
     go : (f : ℕ → RowTree Term) (o : Option Kind) → kindOf newest k ≡ o → IsTree (kindAt o nv f rows i) → atRow (i + 1) (judgeLeaf nv o i (placeAt rows i 1) (placeAt rows i 3) Γ) ≡ judgeAt nv (kindAt o nv f rows i) level Γ
     go f none h t = absurd t

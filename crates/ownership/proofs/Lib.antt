@@ -5,6 +5,7 @@ pub mod TreeLets
 pub mod TreeStates
 pub mod InwardsLaws
 pub mod BlockTerm
+pub mod ScopeLaws
 pub mod ChoiceTrees
 pub mod ChoiceValues
 pub mod BranchLaws

@@ -11,7 +11,7 @@ use Rattle.rules.specs.declared.verdicts.Value.{Value}
 use Rattle.rules.specs.declared.verdicts.Verdict.the-variants as verdict
 use Rattle.rules.specs.Environment.{Environment}
 use Rattle.rules.specs.Judge.{judge, nothingTaken, judgeScript}
-use Rattle.rules.specs.Verdicts.{asRequirement, judgeAnswer, asValue}
+use Rattle.rules.specs.Verdicts.{asRequirement, judgeAnswer, asValue, verdictOf}
 use Rattle.ownership.specs.declared.judge.JudgedTerm.{JudgedTerm}
 use Rattle.ownership.specs.JudgeRows.{ended, judgedAt, judgeAt, restAt, scriptAt}
 use Rattle.ownership.proofs.JudgeLaws.{refused-is, fine-is}
@@ -21,15 +21,15 @@ module _ (nv : ℕ) (f : ℕ → RowTree Term) (i : ℕ) (good : IsTree (f i)) (
   script-judged : ended env r ≡ judgeAt nv (f i) 0 Γ
   script-judged = e ∙ one-judged nv f 0 i none Γ
 
-  pub script-refused : (n at : ℕ) → r .verdict ≡ verdict.Refused n at → err (n, at) ≡ scriptAt nv (f i)
+  pub script-refused : (n : ℕ) → verdictOf (r .told) ≡ verdict.Refused n → err (n, r .next) ≡ scriptAt nv (f i)
   unfolding judgedAt scriptAt judgeScript _>>=_
-  script-refused n at q = go (f i) good script-judged
+  script-refused n q = go (f i) good script-judged
     where
-      go : (d : RowTree Term) → IsTree d → ended env r ≡ judgeAt nv d 0 Γ → err (n, at) ≡ scriptAt nv d
+      go : (d : RowTree Term) → IsTree d → ended env r ≡ judgeAt nv d 0 Γ → err (n, r .next) ≡ scriptAt nv d
       go none h w = absurd h
-      go (some t) h w = let z = refused-is (judge nv (t .0) 0 Γ) (t .1) env r w n at q in rw (← start, z)
+      go (some t) h w = let z = refused-is (judge nv (t .0) 0 Γ) (t .1) env r w n q in rw (← start, z)
 
-  pub script-fine : (v : Value) → r .verdict ≡ verdict.Fine v → (s : Requirement) → ((nv : ℕ) (env : List ℕ) → asRequirement s ≡ judgeAnswer nv (asValue env v)) → asRequirement s ≡ scriptAt nv (f i)
+  pub script-fine : (v : Value) → verdictOf (r .told) ≡ verdict.Fine v → (s : Requirement) → ((nv : ℕ) (env : List ℕ) → asRequirement s ≡ judgeAnswer nv (asValue env v)) → asRequirement s ≡ scriptAt nv (f i)
   unfolding judgedAt scriptAt judgeScript _>>=_
   script-fine v q s y = y nv env ∙ go (f i) good script-judged
     where

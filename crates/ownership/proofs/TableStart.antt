@@ -1,13 +1,14 @@
 -- The table with which the judge starts: its words are all 0, so nothing is taken, and its notes are right.
 use Prim.Native.Nat.{ℕ, zero, suc, _+_, _*_, _≤_}
 use native.Mathlib.Omega.{arith}
-use mathlib.Core.Path.{_≡_, refl, ap, fun-ext}
+use mathlib.Core.Path.{_≡_, refl, ap, _∙_, fun-ext}
 use mathlib.Core.List.{List}
 use lib.ListN.{length, getD, take, replicate, length-replicate}
 use lib.Seq.{length-take-le}
-use Rattle.rules.specs.Environment.{levelOf}
 use Rattle.rules.specs.Judge.{nothingTaken}
-use Rattle.rules.specs.Table.{variableAt, slotAs, environmentOf, Noted, TableFor}
+use Rattle.rules.specs.Masks.{isEmpty}
+use Rattle.rules.specs.Table.{rootsAt, variableAt, slotAs, environmentOf, Noted, TableFor}
+use Rattle.rules.proofs.MaskLaws.{none-in}
 
 module _ (l : List ℕ) (zeros : (k : ℕ) → _≡_ {A = ℕ} (getD l k 0) 0) where
   all-free : (nv : ℕ) → environmentOf l ≡ nothingTaken nv
@@ -15,10 +16,11 @@ module _ (l : List ℕ) (zeros : (k : ℕ) → _≡_ {A = ℕ} (getD l k 0) 0) w
   all-free nv = fun-ext λ x. ap (λ (s : ℕ). slotAs s (variableAt l x)) (zeros (x * 8 + 0))
 
   all-noted : (n : ℕ) → Noted l n
-  unfolding levelOf
+  unfolding isEmpty
   all-noted n = record {
     held = λ y r a b h e. (let z = zeros (y * 8 + 0) in absurd (omega arith));
-    levels = λ x. rw (all-free n) (omega arith);
+    exclusives = λ y h e. (let z = zeros (y * 8 + 0) in absurd (omega arith));
+    scope = λ y. none-in (rootsAt l (suc n)) (rw (zeros (suc n * 8 + 2), zeros (suc n * 8 + 6)) refl) y ∙ rw (zeros (y * 8 + 0)) refl;
     most = rw (zeros (suc n * 8 + 7)) (omega arith);
     untaken = λ x h. zeros (x * 8 + 0);
   }

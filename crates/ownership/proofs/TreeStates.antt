@@ -12,14 +12,14 @@ use Rattle.rules.specs.Environment.{Environment}
 use Rattle.rules.specs.Judge.{judge}
 use Rattle.rules.specs.Neat.{Neat}
 use Rattle.rules.specs.Table.{environmentOf}
-use Rattle.rules.specs.Verdicts.{asValue}
+use Rattle.rules.specs.Verdicts.{asValue, verdictOf}
 use Rattle.ownership.specs.JudgeRows.{ended, judgedAt, judgeAt}
 use Rattle.ownership.proofs.JudgeLaws.{fine-is}
 use Rattle.rules.proofs.NeatSteps.{Fine}
 use Rattle.rules.proofs.NeatJudged.{NeatAfter, neat-after}
 use Rattle.ownership.proofs.TreeLets.{Lets, tree-lets}
 
-module _ (nv level : ℕ) (Γ : Environment) (N : Neat nv Γ level) (env : List ℕ) (r : JudgedTerm) (v : Value) (fine : r .verdict ≡ verdict.Fine v) where
+module _ (nv level : ℕ) (Γ : Environment) (N : Neat nv Γ level) (env : List ℕ) (r : JudgedTerm) (v : Value) (fine : verdictOf (r .told) ≡ verdict.Fine v) where
   fine-lets : (d : RowTree Term) → IsTree d → Lets nv d → ended env r ≡ judgeAt nv d level Γ → Fine nv Γ (environmentOf env) (asValue env v) level
   unfolding judgedAt NeatAfter
   fine-lets none h w e = absurd h

@@ -21,7 +21,7 @@ use Rattle.rules.specs.Judge.{judge, judges, judgeScript}
 use Rattle.rules.specs.Neat.{Neat, NeatValue}
 use Rattle.rules.specs.Met.{judgeBranch}
 use Rattle.rules.specs.Table.{environmentOf}
-use Rattle.rules.specs.Verdicts.{beginLet, asValue, answered}
+use Rattle.rules.specs.Verdicts.{verdictOf, beginLet, asValue, answered}
 use Rattle.ownership.specs.declared.judge.JudgedTerm.{JudgedTerm}
 
 -- The place in fields k and k + 1 of row i, as the code has it.
@@ -34,9 +34,9 @@ Ended = Judged (Out × ℕ)
 abbrev pub atRow : ℕ → Judged Out → Ended
 atRow j r = r >>= λ o. ok (o, j)
 
--- The code's answer. A refusal has no row after it.
+-- The code's answer. After a refusal, `next` is the term that is refused.
 unfoldable pub ended : List ℕ → JudgedTerm → Ended
-ended env r = atRow (r .next) (answered env (r .verdict))
+ended env r = atRow (r .next) (answered env (r .next) (r .told))
 
 -- Where no tree stands the answer does not matter: the code asks that one does.
 unfoldable pub judgedAt : {A : Type 0} → (A → Judged Out) → RowTree A → Ended
@@ -71,9 +71,9 @@ afterAt nv level rows i inner = inner >>= λ o. atRow (o .1) (ruleAfter nv level
 
 -- What is asked of the table after the inner term: its state and the value are neat, and the number of a let is taken.
 pub record AfterReady (nv level : ℕ) (rows : List ℕ) (i : ℕ) (env : List ℕ) (inner : JudgedTerm) : Type 0 where
-  pub neat : (v : Value) → inner .verdict ≡ verdict.Fine v → Neat nv (environmentOf env) level
-  pub value : (v : Value) → inner .verdict ≡ verdict.Fine v → NeatValue (environmentOf env) level (asValue env v)
-  pub taken : (v : Value) → inner .verdict ≡ verdict.Fine v → fieldAt rows i 0 ≡ 8 → environmentOf env (fieldAt rows i 1) ≡ used
+  pub neat : (v : Value) → verdictOf (inner .told) ≡ verdict.Fine v → Neat nv (environmentOf env) level
+  pub value : (v : Value) → verdictOf (inner .told) ≡ verdict.Fine v → NeatValue (environmentOf env) level (asValue env v)
+  pub taken : (v : Value) → verdictOf (inner .told) ≡ verdict.Fine v → fieldAt rows i 0 ≡ 8 → environmentOf env (fieldAt rows i 1) ≡ used
 
 -- What is left of a block: n terms from row i on, after one with this value.
 unfoldable pub restAt : ℕ → (ℕ → RowTree Term) → ℕ → ℕ → ℕ → Option Ty → Environment → Ended

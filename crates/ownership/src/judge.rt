@@ -3,7 +3,8 @@
 ghost use mathlib.Core.Path.{_≡_};
 ghost use mathlib.Core.Bool.{false};
 ghost use mathlib.Core.Option.{none};
-ghost use Prim.Native.Nat.{suc, _<_, _≤_, _+_, _*_};
+ghost use mathlib.Core.List.{List};
+ghost use Prim.Native.Nat.{ℕ, suc, _<_, _≤_, _+_, _*_};
 ghost use lib.ListN.{length};
 ghost use Rattle.reader.specs.Kinds.{newest, kindOf, wrapsOf};
 ghost use Rattle.reader.specs.RowParts.{fieldAt};
@@ -12,7 +13,7 @@ ghost use Rattle.rules.specs.Judge.{nothingTaken};
 ghost use Rattle.rules.specs.Neat.{Neat};
 ghost use Rattle.rules.specs.Table.{TableFor, environmentOf, noteAt, asPlace};
 ghost use Rattle.rules.specs.Verdicts.{NeatTable, asRequirement, begun, answered};
-ghost use Rattle.ownership.specs.JudgeRows.{judgeLeaf, ended, judgeAt, Wraps, beginAt, AfterReady, afterAt, restAt, branchesAt, scriptAt};
+ghost use Rattle.ownership.specs.JudgeRows.{judgeLeaf, atRow, ended, judgeAt, Wraps, beginAt, AfterReady, afterAt, restAt, branchesAt, scriptAt};
 use crate::row::place_at;
 use reader::fields::field_at;
 use reader::fields::index_at;
@@ -20,11 +21,15 @@ use reader::kinds;
 use reader::kinds::wraps;
 use rules::KEPT;
 use rules::Place;
+use rules::Readable;
 use rules::Requirement;
+use rules::Told;
 use rules::Value;
 use rules::Verdict;
 use rules::begin_let;
 use rules::exchange;
+use rules::fine;
+use rules::in_scope;
 use rules::join;
 use rules::judge_answer;
 use rules::judge_assign;
@@ -41,11 +46,30 @@ use rules::judge_shared;
 use rules::keep;
 use rules::number_value;
 use rules::numbers_taken;
+use rules::refused;
+use rules::verdict_of;
 
-// The verdict, and the row after the term. After a refusal `next` says nothing.
+// What judging told, and the row after the term; after a refusal, the term that is refused (LANGUAGE 3.17).
 pub struct JudgedTerm {
     pub next: usize,
-    pub verdict: Verdict,
+    pub told: Told,
+}
+
+// What judging the term at row i told; the row after it is `next`.
+fn judged_term(i: usize, next: usize, told: Told) -> JudgedTerm
+    ensures { λ r. ⌜ ((env : List ℕ) → ended env r ≡ atRow next (answered env i told)) ⌝ }
+{
+    let verdict = verdict_of(told);
+    let Verdict::Fine(_) = verdict else {
+        return JudgedTerm {
+            next: i,
+            told: told,
+        };
+    };
+    JudgedTerm {
+        next: next,
+        told: told,
+    }
 }
 
 // How many numbers' state a choice keeps in the smaller of two places, and in the larger, for the most variables that a
@@ -55,23 +79,16 @@ const FEW: usize = 16;
 const MANY: usize = 128;
 
 // The terms that have no inner term: the rule of each kind (LANGUAGE 3.18 to 3.22, 3.27).
-fn judge_leaf(
-    env: &mut [u64],
-    variables: usize,
-    i: usize,
-    kind: u32,
-    first: Place,
-    second: Place,
-) -> Verdict
+fn judge_leaf(env: &mut [u64], variables: usize, kind: u32, first: Place, second: Place) -> Told
     requires { ⌜ NeatTable (now env) variables ⌝ }
-    ensures { λ r. ⌜ (answered (now (env .exit)) r ≡ judgeLeaf variables (kindOf newest kind) i (asPlace first) (asPlace second) (environmentOf (now (env .entry)))) × TableFor (now (env .exit)) variables ⌝ }
+    ensures { λ r. ⌜ ((i : ℕ) → answered (now (env .exit)) i r ≡ judgeLeaf variables (kindOf newest kind) i (asPlace first) (asPlace second) (environmentOf (now (env .entry)))) × TableFor (now (env .exit)) variables ⌝ }
 {
     match kind {
-        kinds::COPY => judge_copy(env, variables, i, first),
-        kinds::MOVE => judge_move(env, variables, i, first),
-        kinds::SHARED => judge_shared(env, variables, i, first),
-        kinds::EXCLUSIVE => judge_exclusive(env, variables, i, first),
-        kinds::BELOW | kinds::SUM => judge_below(env, variables, i, first, second),
+        kinds::COPY => judge_copy(env, variables, first),
+        kinds::MOVE => judge_move(env, variables, first),
+        kinds::SHARED => judge_shared(env, variables, first),
+        kinds::EXCLUSIVE => judge_exclusive(env, variables, first),
+        kinds::BELOW | kinds::SUM => judge_below(env, variables, first, second),
         _ => number_value(),
     }
 }
@@ -102,29 +119,20 @@ fn judge_after(
     requires { ⌜ Wraps variables (now rows) i × TableFor (now env) variables × AfterReady variables level (now rows) i (now env) inner ⌝ }
     ensures { λ r. ⌜ (ended (now (env .exit)) r ≡ afterAt variables level (now (rows .entry)) i (ended (now (env .entry)) inner)) × TableFor (now (env .exit)) variables ⌝ }
 {
-    let verdict = inner.verdict;
+    let verdict = verdict_of(inner.told);
     let Verdict::Fine(value) = verdict else {
         return inner;
     };
     let kind = field_at(rows, i, 0);
     match kind {
-        kinds::BOX => JudgedTerm {
-            next: inner.next,
-            verdict: judge_box(i, value),
-        },
+        kinds::BOX => judged_term(i, inner.next, judge_box(value)),
         kinds::LET => {
             let x = index_at(rows, i, 1);
-            JudgedTerm {
-                next: inner.next,
-                verdict: judge_let(env, variables, level, i, x, value),
-            }
+            judged_term(i, inner.next, judge_let(env, variables, level, x, value))
         }
         _ => {
             let place = place_at(rows, i, 1);
-            JudgedTerm {
-                next: inner.next,
-                verdict: judge_assign(env, variables, i, place, value),
-            }
+            judged_term(i, inner.next, judge_assign(env, variables, place, value))
         }
     }
 }
@@ -142,15 +150,17 @@ fn judge_block(
     ensures { λ r. ⌜ (ended (now (env .exit)) r ≡ judgeAt variables (treeAt variables levels (now (rows .entry)) i) level (environmentOf (now (env .entry)))) × TableFor (now (env .exit)) variables ⌝ }
 {
     let count = index_at(rows, i, 1);
+    let before = in_scope(env, variables);
     let inner = judge_terms(rows, i + 1, count, levels - 1, env, variables, level + 1);
-    let verdict = inner.verdict;
+    let verdict = verdict_of(inner.told);
     let Verdict::Fine(value) = verdict else {
         return inner;
     };
-    JudgedTerm {
-        next: inner.next,
-        verdict: judge_block_end(env, variables, level, i, value),
-    }
+    judged_term(
+        i,
+        inner.next,
+        judge_block_end(env, variables, level, before, value),
+    )
 }
 
 // The two blocks of the choice at row i, one after the other, and what is known after either (LANGUAGE 3.31). The state of
@@ -169,22 +179,19 @@ fn judge_branches(
     ensures { λ r. ⌜ (ended (now (env .exit)) r ≡ branchesAt variables levels (now (rows .entry)) i level (environmentOf (now (env .entry)))) × TableFor (now (env .exit)) variables ⌝ }
 {
     keep(env, variables, kept, count);
-    let first = judge_block(rows, i + 1, levels - 1, env, variables, level);
-    let verdict = first.verdict;
+    let first = judge_terms(rows, i + 1, 1, levels - 1, env, variables, level);
+    let verdict = verdict_of(first.told);
     let Verdict::Fine(value) = verdict else {
         return first;
     };
     exchange(env, variables, kept, count);
-    let second = judge_block(rows, first.next, levels - 1, env, variables, level);
-    let other_verdict = second.verdict;
+    let second = judge_terms(rows, first.next, 1, levels - 1, env, variables, level);
+    let other_verdict = verdict_of(second.told);
     let Verdict::Fine(other_value) = other_verdict else {
         return second;
     };
     join(env, variables, kept, count);
-    JudgedTerm {
-        next: second.next,
-        verdict: judge_either(i, value, other_value),
-    }
+    judged_term(i, second.next, judge_either(value, other_value))
 }
 
 // The same with room for as many numbers as FEW.
@@ -240,11 +247,11 @@ fn judge_inmost(
     }
     let first = place_at(rows, i, 1);
     if kind == kinds::CHOICE {
-        let number = judge_number(env, variables, i, first);
-        if let Requirement::Refused(refusal, term) = number {
+        let number = judge_number(env, variables, first);
+        if let Readable::Refused(refusal) = number {
             return JudgedTerm {
                 next: i,
-                verdict: Verdict::Refused(refusal, term),
+                told: refused(refusal),
             };
         }
         let count = numbers_taken(env, variables);
@@ -254,10 +261,7 @@ fn judge_inmost(
         return judge_many_kept(rows, i, levels, env, variables, level, count);
     }
     let second = place_at(rows, i, 3);
-    JudgedTerm {
-        next: i + 1,
-        verdict: judge_leaf(env, variables, i, kind, first, second),
-    }
+    judged_term(i, i + 1, judge_leaf(env, variables, kind, first, second))
 }
 
 // The term at row i, with the levels that are left, inner terms where its rule says so (LANGUAGE 3.1). `level` is that
@@ -279,8 +283,8 @@ fn judge_term(
         let begun = judge_before(rows, i + around, env, variables);
         if let Requirement::Refused(number, term) = begun {
             return JudgedTerm {
-                next: i,
-                verdict: Verdict::Refused(number, term),
+                next: term,
+                told: refused(number),
             };
         }
         around += 1;
@@ -308,12 +312,12 @@ fn judge_terms(
 {
     let mut judged = JudgedTerm {
         next: i,
-        verdict: Verdict::Fine(Value::None),
+        told: fine(Value::None),
     };
     let mut left = count;
     while 0 < left {
         judged = judge_term(rows, judged.next, levels, env, variables, level);
-        let verdict = judged.verdict;
+        let verdict = verdict_of(judged.told);
         let Verdict::Fine(_) = verdict else {
             return judged;
         };
@@ -328,9 +332,9 @@ pub fn judge_script(rows: &[u32], levels: usize, env: &mut [u64], variables: usi
     ensures { λ r. ⌜ asRequirement r ≡ scriptAt variables (treeAt variables levels (now (rows .entry)) 0) ⌝ }
 {
     let judged = judge_terms(rows, 0, 1, levels, env, variables, 0);
-    let verdict = judged.verdict;
+    let verdict = verdict_of(judged.told);
     match verdict {
-        Verdict::Refused(number, term) => Requirement::Refused(number, term),
+        Verdict::Refused(number) => Requirement::Refused(number, judged.next),
         Verdict::Fine(answer) => judge_answer(answer),
     }
 }

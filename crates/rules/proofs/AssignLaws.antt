@@ -13,7 +13,6 @@ use Rattle.reader.specs.Result.{ok, err, need, _>>=_}
 use Rattle.reader.specs.Script.{Place}
 use Rattle.rules.specs.declared.roots.Roots.{Roots}
 use Rattle.rules.specs.declared.rules.Located.{Located}
-use Rattle.rules.specs.declared.rules.Located.the-variants as located
 use Rattle.rules.specs.declared.verdicts.Value.the-variants as value
 use Rattle.rules.specs.declared.verdicts.ValueType.{ValueType}
 use Rattle.rules.specs.Links.{Link, leadingBoxes, noShared}
@@ -38,13 +37,8 @@ use Rattle.rules.proofs.EntryLaws.{live-status}
 
 -- ---- what the parts answered
 
-pub found-as : (nv : ℕ) (Γ : Environment) (p : Place) (judged : Judged rules.Located) (r : Located) (links rest : ℕ) (s : Roots) → LocatedIs nv Γ p judged r → r ≡ located.At links rest s
-    → PlaceFound nv Γ p links rest s judged
-found-as nv Γ p judged r links rest s L e = subst (λ (l : Located). LocatedIs nv Γ p judged l) e L
-
-pub refused-as : (nv : ℕ) (Γ : Environment) (p : Place) (judged : Judged rules.Located) (r : Located) (number at : ℕ) → LocatedIs nv Γ p judged r → r ≡ located.Refused number at
-    → judged ≡ err (number, at)
-refused-as nv Γ p judged r number at L e = subst (λ (l : Located). LocatedIs nv Γ p judged l) e L
+pub located-as : (nv : ℕ) (Γ : Environment) (i : ℕ) (p : Place) (r l : Located) → LocatedIs nv Γ i p r → r ≡ l → LocatedIs nv Γ i p l
+located-as nv Γ i p r l L e = subst (λ (k : Located). LocatedIs nv Γ i p k) e L
 
 pub passes-as : (follows k links : ℕ) (r b : Bool) → k ≡ follows → r ≡ noShared (take k (chainOf links)) → r ≡ b → noShared (take follows (chainOf links)) ≡ b
 passes-as follows k links r b e f h = ap (λ (j : ℕ). noShared (take j (chainOf links))) (sym e) ∙ sym f ∙ h

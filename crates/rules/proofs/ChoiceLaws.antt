@@ -4,7 +4,6 @@ use Prim.Native.Nat.{ℕ, _+_, _≤_, _<_}
 use native.Mathlib.Omega.{arith}
 use native.Mathlib.Decide.{decLt}
 use mathlib.Core.Path.{_≡_, refl, sym, ap, ap₂, fun-ext, _∙_, subst}
-use mathlib.Core.Logic.{inr}
 use mathlib.Core.Bool.{Bool, true, false}
 use mathlib.Core.List.{List}
 use lib.ListN.{length}
@@ -18,14 +17,14 @@ use Rattle.rules.specs.Neat.{Among, Neat}
 use Rattle.rules.specs.Roots.{linksOf, lengths, placeAt, left}
 use Rattle.rules.specs.Chains.{chainOf}
 use Rattle.rules.specs.Masks.{has}
-use Rattle.rules.specs.Table.{entryWord, linksAt, rootsAt, longAt, endIn, variableAt, environmentOf, Noted, HolderNoted, putAt, putSet}
-use Rattle.rules.specs.Kept.{keptMovedFrom, keptRoots, KeepsAll, Stays, PutKept}
+use Rattle.rules.specs.Table.{entryWord, linksAt, rootsAt, longAt, endIn, variableAt, environmentOf, Noted}
+use Rattle.rules.specs.Kept.{keptMovedFrom, keptRoots, KeepsAll, Stays, Exchanged, RootsAdded}
 use Rattle.rules.proofs.Slots.{free≢live, used≢live, free≢used, carried-live, live-carried}
-use Rattle.rules.proofs.RootLaws.{or-true}
 use Rattle.rules.proofs.EntryLaws.{status-live, live-status}
 use Rattle.rules.proofs.EndRoots.{end-lengths, end-united}
 use Rattle.rules.proofs.TableLaws.{kept-end}
-use Rattle.rules.proofs.RowLaws.{SameRow, SameState, StatePut, moved-roots, state-put, fixed-links, dead-same}
+use Rattle.rules.proofs.WordLaws.{Put, put-at}
+use Rattle.rules.proofs.RowLaws.{SameRow, SameState, RowPut, row-fixed, row-there, row-then, moved-row, moved-roots, moved-noted, exchanged-row, exchanged-here, exchanged-noted, added-row, added-noted, fixed-links, dead-same}
 use Rattle.rules.proofs.KeptLaws.{KeptAs, keeps-all}
 
 -- ---- the rounds of the loops
@@ -34,46 +33,45 @@ same-row : (env env₁ env₂ : List ℕ) (y : ℕ) → SameRow env env₁ y →
 same-row env env₁ env₂ y a b = (b .0 ∙ a .0, b .1 ∙ a .1, b .2 ∙ a .2)
 
 -- Rows before x have the state that was kept, and theirs is kept; from x on all is as at first.
-pub record Exchanged (env₀ kept₀ : List ℕ) (x : ℕ) (env kept : List ℕ) : Type 0 where
+pub record Exchanging (env₀ kept₀ : List ℕ) (x : ℕ) (env kept : List ℕ) : Type 0 where
   pub fixed : (y : ℕ) → SameRow env₀ env y
   pub done : (y : ℕ) → y < x → (keptMovedFrom kept₀ y ≡ entryWord env y 4) × (keptRoots kept₀ y ≡ rootsAt env y) × (KeptAs kept env₀ y)
   pub rest : (y : ℕ) → x ≤ y → (SameState env₀ env y) × (keptMovedFrom kept y ≡ keptMovedFrom kept₀ y) × (keptRoots kept y ≡ keptRoots kept₀ y)
 
-pub exchanged-first : (env kept : List ℕ) → Exchanged env kept 0 env kept
-exchanged-first env kept = record { fixed = λ y. (refl, refl, refl); done = λ y l. absurd (omega arith); rest = λ y l. ((refl, refl), refl, refl) }
+pub exchanging-first : (env kept : List ℕ) → Exchanging env kept 0 env kept
+exchanging-first env kept = record { fixed = λ y. (refl, refl, refl); done = λ y l. absurd (omega arith); rest = λ y l. ((refl, refl), refl, refl) }
 
-exchanged-next : (n : ℕ) (env₀ kept₀ : List ℕ) (x : ℕ) (env kept env′ kept′ : List ℕ) (d w : ℕ) (s u : Roots) → d ≡ keptMovedFrom kept x → s ≡ keptRoots kept x
-    → w ≡ entryWord env x 4 → u ≡ rootsAt env x → PutKept kept x w u kept′ → StatePut n env x d s env′ → Exchanged env₀ kept₀ x env kept → Exchanged env₀ kept₀ (x + 1) env′ kept′
-exchanged-next n env₀ kept₀ x env kept env′ kept′ d w s u e f g h P S E = record {
-  fixed = λ y. same-row env₀ env env′ y (E .fixed y) (S .fixed y);
-  done = λ y l. go y l (decLt y x);
-  rest = λ y l.
-      let T = S .there y (λ e. omega arith) in
-      let R = E .rest y (omega arith) in
-      let K = P .there y (λ e. omega arith) in
-      ((T .0 ∙ R .0 .0, T .1 ∙ R .0 .1), K .0 ∙ R .1, K .1 ∙ R .2);
-}
-  where
-    here : (keptMovedFrom kept₀ x ≡ entryWord env′ x 4) × (keptRoots kept₀ x ≡ rootsAt env′ x) × (KeptAs kept′ env₀ x)
-    here =
-        let R = E .rest x (omega arith) in
-        (sym (R .1) ∙ sym e ∙ sym (S .here .0), sym (R .2) ∙ sym f ∙ sym (S .here .1), (P .here .0 ∙ g ∙ R .0 .0, P .here .1 ∙ h ∙ R .0 .1))
+module _ (n : ℕ) (env₀ kept₀ : List ℕ) (x : ℕ) (env kept env′ kept′ : List ℕ) (S : Exchanged n env kept x env′ kept′) (E : Exchanging env₀ kept₀ x env kept) where
+  exchanged-there : (y : ℕ) → (x ≡ y → ⊥) → SameState env env′ y
+  exchanged-there = row-there n env x env′ (exchanged-row n env kept x env′ kept′ S)
 
-    go : (y : ℕ) → y < x + 1 → Dec (y < x) → (keptMovedFrom kept₀ y ≡ entryWord env′ y 4) × (keptRoots kept₀ y ≡ rootsAt env′ y) × (KeptAs kept′ env₀ y)
-    go y l (yes k) =
-        let D = E .done y k in
-        let T = S .there y (λ e. omega arith) in
-        let K = P .there y (λ e. omega arith) in
-        (D .0 ∙ sym (T .0), D .1 ∙ sym (T .1), (K .0 ∙ D .2 .0, K .1 ∙ D .2 .1))
-    go y l (no k) = let q : x ≡ y = omega arith in subst (λ (z : ℕ). (keptMovedFrom kept₀ z ≡ entryWord env′ z 4) × (keptRoots kept₀ z ≡ rootsAt env′ z) × (KeptAs kept′ env₀ z)) q here
+  exchanging-next : Exchanging env₀ kept₀ (x + 1) env′ kept′
+  exchanging-next = record {
+    fixed = λ y. same-row env₀ env env′ y (E .fixed y) (row-fixed n env x env′ (exchanged-row n env kept x env′ kept′ S) y);
+    done = λ y l. go y l (decLt y x);
+    rest = λ y l.
+        let T = exchanged-there y (λ e. omega arith) in
+        let R = E .rest y (omega arith) in
+        let K = S .put .there y (λ e. omega arith) in
+        ((T .0 ∙ R .0 .0, T .1 ∙ R .0 .1), K .0 ∙ R .1, K .1 ∙ R .2);
+  }
+    where
+      here : (keptMovedFrom kept₀ x ≡ entryWord env′ x 4) × (keptRoots kept₀ x ≡ rootsAt env′ x) × (KeptAs kept′ env₀ x)
+      here =
+          let R = E .rest x (omega arith) in
+          let H = exchanged-here n env kept x env′ kept′ S in
+          (sym (R .1) ∙ sym (H .0), sym (R .2) ∙ sym (H .1), (S .put .here .0 ∙ R .0 .0, S .put .here .1 ∙ R .0 .1))
 
-pub exchanged-round : (n : ℕ) (env₀ kept₀ : List ℕ) (x : ℕ) (env kept env₁ env₂ env₃ kept′ : List ℕ) (d w : ℕ) (s u : Roots) → d ≡ keptMovedFrom kept x → s ≡ keptRoots kept x
-    → w ≡ entryWord env x 4 → u ≡ rootsAt env x → PutKept kept x w u kept′ → ((y j : ℕ) → j < 8 → entryWord env₁ y j ≡ putAt (entryWord env) x 4 d y j)
-    → ((y j : ℕ) → j < 8 → entryWord env₂ y j ≡ putSet (entryWord env₁) x 2 s y j) → HolderNoted n env₂ x s env₃ → Noted env n → Exchanged env₀ kept₀ x env kept
-    → (Noted env₃ n) × (Exchanged env₀ kept₀ (x + 1) env₃ kept′)
-exchanged-round n env₀ kept₀ x env kept env₁ env₂ env₃ kept′ d w s u e f g h P W₁ W₂ H N E =
-    let S = state-put n env env₁ env₂ env₃ x d s s W₁ W₂ H (λ r k. inr k) N in
-    (S .noted, exchanged-next n env₀ kept₀ x env kept env₃ kept′ d w s u e f g h P S E)
+      go : (y : ℕ) → y < x + 1 → Dec (y < x) → (keptMovedFrom kept₀ y ≡ entryWord env′ y 4) × (keptRoots kept₀ y ≡ rootsAt env′ y) × (KeptAs kept′ env₀ y)
+      go y l (yes k) =
+          let D = E .done y k in
+          let T = exchanged-there y (λ e. omega arith) in
+          let K = S .put .there y (λ e. omega arith) in
+          (D .0 ∙ sym (T .0), D .1 ∙ sym (T .1), (K .0 ∙ D .2 .0, K .1 ∙ D .2 .1))
+      go y l (no k) = let q : x ≡ y = omega arith in subst (λ (z : ℕ). (keptMovedFrom kept₀ z ≡ entryWord env′ z 4) × (keptRoots kept₀ z ≡ rootsAt env′ z) × (KeptAs kept′ env₀ z)) q here
+
+  pub exchanging-round : x < n → Noted env n → (Noted env′ n) × (Exchanging env₀ kept₀ (x + 1) env′ kept′)
+  exchanging-round inside N = (exchanged-noted n env kept x env′ kept′ S inside N, exchanging-next)
 
 -- Rows before x are moved away from the earlier link, and record the roots of both.
 abbrev JoinedRow : List ℕ → List ℕ → List ℕ → ℕ → Type 0
@@ -88,37 +86,37 @@ pub record Joining (env₀ kept : List ℕ) (x : ℕ) (env : List ℕ) : Type 0 
 pub joining-first : (env kept : List ℕ) → Joining env kept 0 env
 joining-first env kept = record { fixed = λ y. (refl, refl, refl); done = λ y l. absurd (omega arith); rest = λ y l. (refl, refl) }
 
-joining-next : (n : ℕ) (env₀ kept : List ℕ) (x : ℕ) (env env′ : List ℕ) (d : ℕ) (s : Roots) → d ≡ earlier (keptMovedFrom kept x) (entryWord env x 4)
-    → ((r : ℕ) → has s r ≡ pick (has (rootsAt env x) r) true (has (keptRoots kept x) r)) → StatePut n env x d s env′ → Joining env₀ kept x env → Joining env₀ kept (x + 1) env′
-joining-next n env₀ kept x env env′ d s e u S J = record {
-  fixed = λ y. same-row env₀ env env′ y (J .fixed y) (S .fixed y);
-  done = λ y l. go y l (decLt y x);
-  rest = λ y l. let T = S .there y (λ e. omega arith) in let R = J .rest y (omega arith) in (T .0 ∙ R .0, T .1 ∙ R .1);
-}
-  where
-    here : JoinedRow env₀ kept env′ x
-    here =
-        let R = J .rest x (omega arith) in (
-          S .here .0 ∙ e ∙ ap (earlier (keptMovedFrom kept x)) (R .0),
-          λ r. ap (λ (k : Roots). has k r) (S .here .1) ∙ u r ∙ ap (λ (k : Roots). pick (has k r) true (has (keptRoots kept x) r)) (R .1),
-        )
+-- From where x is moved away first, then its roots.
+module _ (n : ℕ) (env₀ kept : List ℕ) (x : ℕ) (env env₁ env₂ : List ℕ) (k : ℕ) (s : Roots) (e : k ≡ keptMovedFrom kept x) (f : s ≡ keptRoots kept x)
+    (W : Put env x 4 (earlier k (entryWord env x 4)) env₁) (A : RootsAdded n env₁ x s env₂) (J : Joining env₀ kept x env) where
+  joining-row : RowPut n env x env₂
+  joining-row = row-then n env x env₁ env₂ (moved-row n env env₁ x (earlier k (entryWord env x 4)) W) (added-row n env₁ x s env₂ A)
 
-    go : (y : ℕ) → y < x + 1 → Dec (y < x) → JoinedRow env₀ kept env′ y
-    go y l (yes k) =
-        let D = J .done y k in
-        let T = S .there y (λ e. omega arith) in
-        (T .0 ∙ D .0, λ r. ap (λ (k : Roots). has k r) (T .1) ∙ D .1 r)
-    go y l (no k) = let q : x ≡ y = omega arith in subst (λ (z : ℕ). JoinedRow env₀ kept env′ z) q here
+  joining-next : Joining env₀ kept (x + 1) env₂
+  joining-next = record {
+    fixed = λ y. same-row env₀ env env₂ y (J .fixed y) (row-fixed n env x env₂ joining-row y);
+    done = λ y l. go y l (decLt y x);
+    rest = λ y l. let T = row-there n env x env₂ joining-row y (λ e. omega arith) in let R = J .rest y (omega arith) in (T .0 ∙ R .0, T .1 ∙ R .1);
+  }
+    where
+      here : JoinedRow env₀ kept env₂ x
+      here =
+          let R = J .rest x (omega arith) in (
+            A .entries x 4 (omega arith) (λ q. omega arith) (λ q. omega arith) (λ p. (λ q. omega arith, λ q. omega arith))
+                ∙ put-at env env₁ x 4 (earlier k (entryWord env x 4)) W (omega arith)
+                ∙ ap₂ earlier e (R .0),
+            λ r. A .roots r ∙ ap₂ (λ (a b : Roots). pick (has a r) true (has b r)) (moved-roots n env env₁ x (earlier k (entryWord env x 4)) W x ∙ R .1) f,
+          )
 
-pub joining-round : (n : ℕ) (env₀ kept : List ℕ) (x : ℕ) (env env₁ env₂ env₃ : List ℕ) (k : ℕ) (a b all : Roots) → k ≡ keptMovedFrom kept x → a ≡ rootsAt env₁ x → b ≡ keptRoots kept x
-    → ((r : ℕ) → has all r ≡ pick (has a r) true (has b r)) → ((y j : ℕ) → j < 8 → entryWord env₁ y j ≡ putAt (entryWord env) x 4 (earlier k (entryWord env x 4)) y j)
-    → ((y j : ℕ) → j < 8 → entryWord env₂ y j ≡ putSet (entryWord env₁) x 2 all y j) → HolderNoted n env₂ x b env₃ → Noted env n → Joining env₀ kept x env
-    → (Noted env₃ n) × (Joining env₀ kept (x + 1) env₃)
-joining-round n env₀ kept x env env₁ env₂ env₃ k a b all e f g U W₁ W₂ H N J =
-    let d = earlier k (entryWord env x 4) in
-    let old : a ≡ rootsAt env x = f ∙ moved-roots env env₁ x d W₁ x in
-    let S = state-put n env env₁ env₂ env₃ x d all b W₁ W₂ H (λ r h. or-true (has (rootsAt env x) r) (has b r) (ap (λ (q : Roots). pick (has q r) true (has b r)) (sym old) ∙ sym (U r) ∙ h)) N in
-    (S .noted, joining-next n env₀ kept x env env₃ d all (ap (λ (j : ℕ). earlier j (entryWord env x 4)) e) (λ r. U r ∙ ap₂ (λ (q t : Roots). pick (has q r) true (has t r)) old g) S J)
+      go : (y : ℕ) → y < x + 1 → Dec (y < x) → JoinedRow env₀ kept env₂ y
+      go y l (yes k) =
+          let D = J .done y k in
+          let T = row-there n env x env₂ joining-row y (λ e. omega arith) in
+          (T .0 ∙ D .0, λ r. ap (λ (k : Roots). has k r) (T .1) ∙ D .1 r)
+      go y l (no k) = let q : x ≡ y = omega arith in subst (λ (z : ℕ). JoinedRow env₀ kept env₂ z) q here
+
+  pub joining-round : x < n → Noted env n → (Noted env₂ n) × (Joining env₀ kept (x + 1) env₂)
+  joining-round inside N = (added-noted n env₁ x s env₂ A inside (moved-noted n env env₁ x (earlier k (entryWord env x 4)) W inside N), joining-next)
 
 -- ---- what the table says at the end
 
@@ -160,7 +158,7 @@ module _ (env₀ env : List ℕ) (F : (y : ℕ) → SameRow env₀ env y) (x : �
   row-level : entryWord env x 5 ≡ w .level
   row-level = F x .2 ∙ ap (λ (u : Variable). u .level) (sym (live-status env₀ x w e .1))
 
-module _ (n level count : ℕ) (env₀ kept₀ env kept : List ℕ) (E : Exchanged env₀ kept₀ count env kept) (level₁ : ℕ) (N₁ : Neat n (environmentOf env₀) level₁)
+module _ (n level count : ℕ) (env₀ kept₀ env kept : List ℕ) (E : Exchanging env₀ kept₀ count env kept) (level₁ : ℕ) (N₁ : Neat n (environmentOf env₀) level₁)
     (Γ : Environment) (N : Neat n Γ level) (K : KeepsAll kept₀ count Γ) (S : Stays Γ (environmentOf env₀)) where
   long-before : (y : ℕ) (u : Variable) → Γ y ≡ live u → longAt env y ≡ length (u .chain)
   long-before y u e = let w = S .lives y u e in ap (λ (ks : List Link). length ks) (row-chain env₀ env (E .fixed) y (w .0) (w .1) ∙ w .2)

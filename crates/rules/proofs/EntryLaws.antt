@@ -58,16 +58,18 @@ live-status env x v h = go (entryWord env x 0) h
     go (suc (suc n)) e = let z = sym (by-status (variableAt env x) (stateAt env x) (suc (suc n)) (omega arith) .0) ∙ e in (omega arith, cc)
 
 -- A variable in scope is one that the table has.
-pub live-inside : (env : List ℕ) (n : ℕ) → TableFor env n → (x : ℕ) (v : Variable) → environmentOf env x ≡ live v → x < n
-live-inside env n T x v h = go (decLt x n)
+pub status-inside : (env : List ℕ) (n : ℕ) → TableFor env n → (x : ℕ) → 2 ≤ entryWord env x 0 → x < n
+status-inside env n T x h = go (decLt x n)
   where
     go : Dec (x < n) → x < n
     go (yes l) = l
     go (no l) =
-        let s = live-status env x v h .0 in
         let m = T .2 .most in
         let z = T .2 .untaken x (omega arith) in
         absurd (omega arith)
+
+pub live-inside : (env : List ℕ) (n : ℕ) → TableFor env n → (x : ℕ) (v : Variable) → environmentOf env x ≡ live v → x < n
+live-inside env n T x v h = status-inside env n T x (live-status env x v h .0)
 
 -- A number that the table does not have is free.
 pub outside-dead : (env : List ℕ) (n : ℕ) → TableFor env n → (x : ℕ) (r : Refusal) → n ≤ x → inScope (environmentOf env x) r ≡ err r
@@ -86,17 +88,9 @@ module _ (env : List ℕ) (x : ℕ) (e : Entry) (loaded : e ≡ entryAt env x) w
           let z : entry.Live v ≡ entry.Live (stateAt env x) = h ∙ b .1 in
           (b .0, cc)
 
-  pub in-range : (n : ℕ) (v : VariableState) → TableFor env n → e ≡ entry.Live v → x < n
-  in-range n v T q = live-inside env n T x (variableAt env x) (slot-live v q .0)
-
-  pub not-in-scope : (r : Refusal) → NotLive e → inScope (environmentOf env x) r ≡ err r
-  unfolding entryAt environmentOf slotAs inScope
-  not-in-scope r h = go (entryWord env x 0) e loaded h
-    where
-      dead : (e : Entry) → NotLive e → e ≡ entry.Live (stateAt env x) → ⊥
-      dead e h z = ⊎-elim (λ k. let w : 2 ≡ tagOf the-type e = sym (ap (tagOf the-type) z) in omega arith) (λ k. let w : 2 ≡ tagOf the-type e = sym (ap (tagOf the-type) z) in omega arith) h
-
-      go : (s : ℕ) (e : Entry) → e ≡ loadedAs s (stateAt env x) → NotLive e → inScope (slotAs s (variableAt env x)) r ≡ err r
-      go zero e q h = refl
-      go (suc zero) e q h = refl
-      go (suc (suc n)) e q h = absurd (dead e h (q ∙ by-status (variableAt env x) (stateAt env x) (suc (suc n)) (omega arith) .1))
+  pub not-live : NotLive e → (v : Variable) → environmentOf env x ≡ live v → ⊥
+  unfolding entryAt
+  not-live h v k =
+      let z : e ≡ entry.Live (stateAt env x) = loaded ∙ by-status (variableAt env x) (stateAt env x) (entryWord env x 0) (live-status env x v k .0) .1 in
+      let w : 2 ≡ tagOf the-type e = sym (ap (tagOf the-type) z) in
+      ⊎-elim (λ k. omega arith) (λ k. omega arith) h

@@ -4,24 +4,27 @@ use native.Mathlib.Omega.{arith}
 use native.Mathlib.Decide.{ℕ-discrete}
 use mathlib.Core.Path.{_≡_, refl, sym, ap, ap₂, _∙_}
 use mathlib.Core.Bool.{Bool, true, false, false≢true}
-use mathlib.Core.List.{List}
+use mathlib.Core.List.{List, [], _∷_}
 use lib.Dec.{ltb, eqb}
-use borrow.Author.Tests.{eqb-true}
+use borrow.Author.Tests.{eqb-true, le-leb, le-ltb, lt-ltb}
 use Rattle.reader.specs.Result.{pick}
 use Rattle.reader.specs.Script.{Place}
 use Rattle.rules.specs.declared.roots.Roots.{Roots}
+use Rattle.rules.specs.declared.table.VariableState.{VariableState}
+use Rattle.rules.specs.declared.table.Entry.{Entry}
+use Rattle.rules.specs.declared.table.Entry.the-variants as entry
 use Rattle.rules.specs.declared.table.BorrowEnd.{BorrowEnd}
 use Rattle.rules.specs.declared.table.BorrowEnd.the-variants as end
-use Rattle.rules.specs.Links.{Link, leadingBoxes}
+use Rattle.rules.specs.Links.{Link, boxed, shared, exclusive, leadingBoxes}
 use Rattle.rules.specs.Places.{someOf, rooted}
-use Rattle.rules.specs.Environment.{Borrow, noBorrow, sharedOf, exclusiveOf, places, Variable, Slot, free, used, live, Environment, holding}
+use Rattle.rules.specs.Environment.{Borrow, noBorrow, sharedOf, exclusiveOf, places, borrowEnd, Variable, Slot, free, used, live, Environment, holding}
 use Rattle.rules.specs.Bars.{borrowsAny, borrowsExclusive, heldBy, held}
 use Rattle.rules.specs.Roots.{left}
-use Rattle.rules.specs.Chains.{chainOf}
+use Rattle.rules.specs.Chains.{chainOf, isExclusive}
 use Rattle.rules.specs.Masks.{has, isEmpty}
-use Rattle.rules.specs.Table.{entryWord, linksAt, longAt, rootsAt, holdersAt, placesIn, endIn, borrowEndOf, variableAt, environmentOf, TableFor, borrowsBy}
+use Rattle.rules.specs.Table.{entryWord, linksAt, longAt, rootsAt, holdersAt, placesIn, endIn, borrowEndOf, stateAt, entryAt, variableAt, environmentOf, TableFor, borrowsBy, MayHold}
 use Rattle.rules.proofs.MaskLaws.{none-in}
-use Rattle.rules.proofs.EntryLaws.{status-live, live-status, live-inside}
+use Rattle.rules.proofs.EntryLaws.{NotLive, status-live, live-status, live-inside, slot-live, not-live}
 use Rattle.rules.proofs.EndLaws.{told-none, told-shared, told-exclusive, rooted-in-set, end-in-set}
 
 -- ---- one of several numbers
@@ -71,88 +74,117 @@ module _ (env : List ℕ) (x root : ℕ) where
       go true k = let o = held-out h (environmentOf env x) root k in absurd (none (o .0) (o .1) (o .2))
       go false k = refl
 
-  -- By the words of a variable in scope: whether it records the root, if its borrow link is not moved away.
-  pub recorded : 2 ≤ entryWord env x 0 → has (rootsAt env x) root ≡ true → (boxes moved : ℕ) → boxes ≡ leadingBoxes (chainOf (linksAt env x)) → moved ≡ entryWord env x 4
-      → ltb boxes moved ≡ heldBy (λ b y. has (rootsAt env x) y) (environmentOf env x) root
-  unfolding heldBy holding
-  recorded l h boxes moved be me =
-      ap₂ ltb be me ∙ go (ltb (leadingBoxes (chainOf (linksAt env x))) (entryWord env x 4))
-      ∙ sym (ap (λ (sl : Slot). heldBy (λ b y. has (rootsAt env x) y) sl root) (status-live env x l))
-    where
-      go : (b : Bool) → b ≡ pick b (has (rootsAt env x) root) false
-      go true = sym h
-      go false = refl
-
-  -- The sort of borrow asked for decides nothing else.
-  same-held : (h g : Borrow → ℕ → Bool) → h (variableAt env x .borrow) root ≡ g (variableAt env x .borrow) root → heldBy h (environmentOf env x) root ≡ heldBy g (environmentOf env x) root
-  unfolding heldBy
-  same-held h g e = go (environmentOf env x) refl
-    where
-      go : (sl : Slot) → environmentOf env x ≡ sl → heldBy h sl root ≡ heldBy g sl root
-      go free k = refl
-      go used k = refl
-      go (live v) k =
-          let z = live-status env x v k .1 in
-          ap (λ (c : Bool). pick (holding v) c false) (ap (λ (u : Variable). h (u .borrow) root) z ∙ e ∙ sym (ap (λ (u : Variable). g (u .borrow) root) z))
-
--- By the borrow end, as the code finds its kind.
-module _ (env : List ℕ) (x root : ℕ) (any : Bool) (e : BorrowEnd) (links : ℕ) (roots : Roots) (kind : e ≡ borrowEndOf (chainOf links) roots) (le : links ≡ linksAt env x) (re : roots ≡ rootsAt env x) where
+-- By what the code loads of it.
+module _ (env : List ℕ) (x root : ℕ) (any : Bool) (e : Entry) (loaded : e ≡ entryAt env x) where
   abbrev Holds : Bool
   Holds = heldBy (borrowsBy any) (environmentOf env x) root
 
-  abbrev Records : Bool
-  Records = heldBy (λ b y. has (rootsAt env x) y) (environmentOf env x) root
+  pub dead-held : NotLive e → false ≡ Holds
+  dead-held h = unheld env x root (borrowsBy any) (λ v k b. not-live env x e loaded h v k)
 
-  abbrev ks : List Link
-  ks = chainOf (linksAt env x)
+  module _ (v : VariableState) (is : e ≡ entry.Live v) (boxes : ℕ) (be : boxes ≡ leadingBoxes (chainOf (v .links))) where
+    abbrev ks : List Link
+    ks = chainOf (linksAt env x)
 
-  abbrev ps : List Place
-  ps = placesIn env ks (rootsAt env x)
+    abbrev ps : List Place
+    ps = placesIn env ks (rootsAt env x)
 
-  the-end : e ≡ borrowEndOf ks (rootsAt env x)
-  the-end = kind ∙ ap₂ (λ (l : ℕ) (s : Roots). borrowEndOf (chainOf l) s) le re
+    abbrev borrowed : Bool
+    borrowed = borrowsBy any (endIn env ks (rootsAt env x)) root
 
-  nothing-held : borrowsBy any (endIn env ks (rootsAt env x)) root ≡ false → false ≡ Holds
-  nothing-held h = unheld env x root (borrowsBy any) (λ v k b. false≢true (sym h ∙ sym (ap (λ (u : Variable). borrowsBy any (u .borrow) root) (live-status env x v k .1)) ∙ b))
+    state-is : v ≡ stateAt env x
+    state-is = slot-live env x e loaded v is .1
 
-  all-recorded : borrowsBy any (endIn env ks (rootsAt env x)) root ≡ rooted ps root → Records ≡ Holds
-  all-recorded h = same-held env x root (λ b y. has (rootsAt env x) y) (borrowsBy any) (sym (h ∙ rooted-in-set (rootsAt env x) (longAt env) (left ks) root))
+    held-is : Holds ≡ pick (ltb boxes (v .«moved_from»)) borrowed false
+    unfolding heldBy holding stateAt
+    held-is =
+        ap (λ (sl : Slot). heldBy (borrowsBy any) sl root) (slot-live env x e loaded v is .0)
+        ∙ ap (λ (b : Bool). pick b borrowed false)
+        (ap₂ ltb (ap (λ (s : VariableState). leadingBoxes (chainOf (s .links))) (sym state-is) ∙ sym be) (ap (λ (s : VariableState). s .«moved_from») (sym state-is)))
 
-  pub none-held : e ≡ end.None → false ≡ Holds
-  unfolding borrowsBy borrowsAny borrowsExclusive rooted someOf
-  none-held h = nothing-held (ap (λ (b : Borrow). borrowsBy any b root) (told-none ps ks (rootsAt env x) (sym the-end ∙ h)) ∙ go any)
-    where
-      go : (any : Bool) → borrowsBy any noBorrow root ≡ false
-      go true = refl
-      go false = refl
+    pub moved-held : v .«moved_from» ≤ boxes → false ≡ Holds
+    moved-held l = sym (held-is ∙ ap (λ (b : Bool). pick b borrowed false) (le-ltb boxes (v .«moved_from») l))
 
-  module _ (t : Roots) where
-    pub shared-held : e ≡ end.Shared t → any ≡ true → Records ≡ Holds
-    unfolding borrowsBy borrowsAny
-    shared-held h a = all-recorded (ap₂ (λ (c : Bool) (b : Borrow). borrowsBy c b root) a (told-shared ps ks (rootsAt env x) t (sym the-end ∙ h) .1))
+    module _ (l : boxes < v .«moved_from») where
+      by-end : borrowed ≡ Holds
+      by-end = sym (held-is ∙ ap (λ (b : Bool). pick b borrowed false) (lt-ltb boxes (v .«moved_from») l))
 
-    pub shared-passed : e ≡ end.Shared t → any ≡ false → false ≡ Holds
-    unfolding borrowsBy borrowsExclusive
-    shared-passed h a = nothing-held (ap₂ (λ (c : Bool) (b : Borrow). borrowsBy c b root) a (told-shared ps ks (rootsAt env x) t (sym the-end ∙ h) .1))
+      the-end : (d : BorrowEnd) → v .«borrow_end» ≡ d → borrowEndOf ks (rootsAt env x) ≡ d
+      unfolding stateAt
+      the-end d q = ap (λ (s : VariableState). s .«borrow_end») (sym state-is) ∙ q
 
-    pub exclusive-held : e ≡ end.Exclusive t → Records ≡ Holds
-    unfolding borrowsBy borrowsAny borrowsExclusive
-    exclusive-held h = all-recorded (ap (λ (b : Borrow). borrowsBy any b root) (told-exclusive ps ks (rootsAt env x) t (sym the-end ∙ h) .1) ∙ go any)
-      where
-        go : (any : Bool) → borrowsBy any (exclusiveOf ps) root ≡ rooted ps root
-        go true = refl
-        go false = refl
+      pub none-held : v .«borrow_end» ≡ end.None → false ≡ Holds
+      unfolding borrowsBy borrowsAny borrowsExclusive rooted someOf
+      none-held q = sym (ap (λ (b : Borrow). borrowsBy any b root) (told-none ps ks (rootsAt env x) (the-end _ q)) ∙ go any) ∙ by-end
+        where
+          go : (any : Bool) → borrowsBy any noBorrow root ≡ false
+          go true = refl
+          go false = refl
+
+      module _ (t : Roots) where
+        -- The roots of the places are those that the borrow end has.
+        in-places : t ≡ rootsAt env x → has t root ≡ rooted ps root
+        in-places q = ap (λ (s : Roots). has s root) q ∙ sym (rooted-in-set (rootsAt env x) (longAt env) (left ks) root)
+
+        pub shared-held : v .«borrow_end» ≡ end.Shared t → any ≡ true → has t root ≡ Holds
+        unfolding borrowsBy borrowsAny
+        shared-held q a =
+            let k = told-shared ps ks (rootsAt env x) t (the-end _ q) in
+            in-places (k .0) ∙ sym (ap₂ (λ (c : Bool) (b : Borrow). borrowsBy c b root) a (k .1)) ∙ by-end
+
+        pub shared-passed : v .«borrow_end» ≡ end.Shared t → any ≡ false → false ≡ Holds
+        unfolding borrowsBy borrowsExclusive
+        shared-passed q a = sym (ap₂ (λ (c : Bool) (b : Borrow). borrowsBy c b root) a (told-shared ps ks (rootsAt env x) t (the-end _ q) .1)) ∙ by-end
+
+        pub exclusive-held : v .«borrow_end» ≡ end.Exclusive t → has t root ≡ Holds
+        unfolding borrowsBy borrowsAny borrowsExclusive
+        exclusive-held q =
+            let k = told-exclusive ps ks (rootsAt env x) t (the-end _ q) in
+            in-places (k .0) ∙ sym (ap (λ (b : Borrow). borrowsBy any b root) (k .1) ∙ go any) ∙ by-end
+          where
+            go : (any : Bool) → borrowsBy any (exclusiveOf ps) root ≡ rooted ps root
+            go true = refl
+            go false = refl
 
 -- ---- the note of a root
+
+-- Who holds is in scope, and its borrow end is such.
+held-live : (env : List ℕ) (any : Bool) (y root : ℕ) → heldBy (borrowsBy any) (environmentOf env y) root ≡ true → (2 ≤ entryWord env y 0) × (borrowsBy any (variableAt env y .borrow) root ≡ true)
+held-live env any y root h =
+    let k = held-out (borrowsBy any) (environmentOf env y) root h in
+    let s = live-status env y (k .0) (k .1) in
+    (s .0, ap (λ (u : Variable). borrowsBy any (u .borrow) root) (sym (s .1)) ∙ k .2)
 
 -- Who holds a borrow of the root is in its note, and is a variable of the table.
 pub held-noted : (env : List ℕ) (n root : ℕ) → TableFor env n → root < n → (any : Bool) (y : ℕ) → heldBy (borrowsBy any) (environmentOf env y) root ≡ true → (y < n) × (has (holdersAt env root) y ≡ true)
 held-noted env n root T l any y h =
-    let k = held-out (borrowsBy any) (environmentOf env y) root h in
-    let i = live-inside env n T y (k .0) (k .1) in
-    let s = live-status env y (k .0) (k .1) in
-    let r : rooted (places (variableAt env y .borrow)) root ≡ true = borrows-rooted any (variableAt env y .borrow) root (ap (λ (u : Variable). borrowsBy any (u .borrow) root) (sym (s .1)) ∙ k .2) in
-    (i, T .2 .held y root i l (s .0) (end-in-set env (chainOf (linksAt env y)) (rootsAt env y) root r))
+    let k = held-live env any y root h in
+    let i = live-inside env n T y (variableAt env y) (status-live env y (k .0)) in
+    let r : rooted (places (variableAt env y .borrow)) root ≡ true = borrows-rooted any (variableAt env y .borrow) root (k .1) in
+    (i, T .2 .held y root i l (k .0) (end-in-set env (chainOf (linksAt env y)) (rootsAt env y) root r))
+
+-- An exclusive borrow end is that of an exclusive link.
+exclusive-link : (ks : List Link) (ps : List Place) (x : ℕ) → borrowsExclusive (borrowEnd ks ps) x ≡ true → isExclusive ks ≡ true
+unfolding borrowEnd borrowsExclusive isExclusive
+exclusive-link [] ps x h = h
+exclusive-link (boxed ∷ ks) ps x h = exclusive-link ks ps x h
+exclusive-link (shared ∷ ks) ps x h = h
+exclusive-link (exclusive ∷ ks) ps x h = refl
+
+-- So all who hold are in what the note of the root and one of the two sets after the variables have in common.
+module _ (env : List ℕ) (n root : ℕ) (T : TableFor env n) (l : root < n) (s t may : Roots) (noted : s ≡ holdersAt env root)
+    (both : (y : ℕ) → has may y ≡ pick (has s y) (has t y) false) where
+  may-hold : (any : Bool) → ((y : ℕ) → heldBy (borrowsBy any) (environmentOf env y) root ≡ true → has t y ≡ true) → MayHold env any root may
+  may-hold any h y k = both y ∙ ap₂ (λ (a b : Bool). pick a b false) (ap (λ (r : Roots). has r y) noted ∙ held-noted env n root T l any y k .1) (h y k)
+
+  pub any-in : t ≡ rootsAt env (suc n) → MayHold env true root may
+  any-in e = may-hold true (λ y k. ap (λ (r : Roots). has r y) e ∙ T .2 .scope y ∙ le-leb 2 (entryWord env y 0) (held-live env true y root k .0))
+
+  pub exclusive-in : t ≡ rootsAt env n → MayHold env false root may
+  unfolding borrowsBy
+  exclusive-in e = may-hold false (λ y k.
+      let h = held-live env false y root k in
+      ap (λ (r : Roots). has r y) e ∙ T .2 .exclusives y (h .0) (exclusive-link (chainOf (linksAt env y)) (placesIn env (chainOf (linksAt env y)) (rootsAt env y)) root (h .1)))
 
 -- Those in the set are all that hold: an empty one says that nobody does, and one that holds nothing may be taken out.
 abbrev pub AllIn : Roots → (Borrow → ℕ → Bool) → Environment → ℕ → Type 0
@@ -164,10 +196,6 @@ nobody-in s h n Γ root A e = held-none h n Γ root (λ y l. go y (heldBy h (Γ 
     go : (y : ℕ) (b : Bool) → heldBy h (Γ y) root ≡ b → b ≡ false
     go y true k = absurd (false≢true (sym (none-in s e y) ∙ A y k))
     go y false k = refl
-
--- Nobody is in the note of the root.
-pub none-noted : (env : List ℕ) (n root : ℕ) → TableFor env n → root < n → (s : Roots) → s ≡ holdersAt env root → isEmpty s ≡ true → (any : Bool) → held (borrowsBy any) n (environmentOf env) root ≡ false
-none-noted env n root T l s e h any = nobody-in s (borrowsBy any) n (environmentOf env) root (λ y k. ap (λ (t : Roots). has t y) e ∙ held-noted env n root T l any y k .1) h
 
 pub one-less : (s s′ : Roots) (h : Borrow → ℕ → Bool) (Γ : Environment) (root x : ℕ) → AllIn s h Γ root → heldBy h (Γ x) root ≡ false
     → ((y : ℕ) → has s′ y ≡ pick (eqb x y) false (has s y)) → AllIn s′ h Γ root

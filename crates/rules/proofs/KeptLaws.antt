@@ -13,7 +13,7 @@ use Rattle.rules.specs.declared.roots.Roots.{Roots}
 use Rattle.rules.specs.declared.verdicts.Value.{Value}
 use Rattle.rules.specs.declared.verdicts.Value.the-variants as value
 use Rattle.rules.specs.declared.verdicts.ValueType.{ValueType}
-use Rattle.rules.specs.declared.verdicts.Verdict.{Verdict}
+use Rattle.rules.specs.declared.verdicts.Told.{Told}
 use Rattle.rules.specs.Places.{unite}
 use Rattle.rules.specs.Environment.{Borrow, places, borrowEnd, Variable, live}
 use Rattle.rules.specs.Choice.{agreeing}
@@ -30,14 +30,14 @@ use Rattle.rules.proofs.EndRoots.{end-lengths, live-length, end-united}
 
 -- ---- the value of a choice
 
-pub joins : (i : ℕ) (first second : Value) (t u : ValueType) (s : Roots) (r : Verdict) → first ≡ value.Of t → second ≡ value.Of u → t .links ≡ u .links
-    → ((x : ℕ) → has s x ≡ pick (has (t .roots) x) true (has (u .roots) x)) → Answers r (valueOf (λ env. typeOf (chainOf (t .links)) (endIn env (chainOf (t .links)) s))) → Joins i first second r
+pub joins : (first second : Value) (t u : ValueType) (s : Roots) (r : Told) → first ≡ value.Of t → second ≡ value.Of u → t .links ≡ u .links
+    → ((x : ℕ) → has s x ≡ pick (has (t .roots) x) true (has (u .roots) x)) → Answers r (valueOf (λ env. typeOf (chainOf (t .links)) (endIn env (chainOf (t .links)) s))) → Joins first second r
 unfolding agreeing asValue need _>>=_
-joins i first second t u s r e f l h A env =
+joins first second t u s r e f l h A env i =
     let b : endIn env (chainOf (t .links)) s ≡ borrowEnd (chainOf (t .links)) (unite (places (endIn env (chainOf (t .links)) (t .roots))) (places (endIn env (chainOf (u .links)) (u .roots)))) =
     end-united (chainOf (t .links)) (longAt env) (left (chainOf (t .links))) (t .roots) (u .roots) s h
     ∙ ap (λ (k : ℕ). borrowEnd (chainOf (t .links)) (unite (places (endIn env (chainOf (t .links)) (t .roots))) (places (endIn env (chainOf k) (u .roots))))) l in
-    rw (A env, e, f, same-links (t .links) (u .links), eq-eqb (t .links) (u .links) l, b) refl
+    rw (A env i, e, f, same-links (t .links) (u .links), eq-eqb (t .links) (u .links) l, b) refl
 
 -- ---- the words kept
 

@@ -1,141 +1,171 @@
--- A block's variables leave scope, from the last number down; then the note of how deep variables live is lowered. Assumes nothing.
-use Prim.Native.Nat.{ℕ, suc, _-_, _<_, _≤_}
+-- A block's variables leave scope: all that are in scope and were not before the block. Assumes nothing.
+use Prim.Native.Nat.{ℕ, zero, suc, _<_, _≤_}
 use native.Mathlib.Omega.{arith}
-use native.Mathlib.Decide.{ℕ-discrete, decLt}
-use mathlib.Core.Path.{_≡_, refl, sym, ap, ap₂, _∙_, fun-ext, subst}
-use mathlib.Core.Logic.{⊎-elim}
-use mathlib.Core.Bool.{Bool, true, false, false≢true}
+use native.Mathlib.Decide.{ℕ-discrete}
+use mathlib.Core.Path.{_≡_, refl, sym, ap, _∙_, fun-ext, subst}
+use mathlib.Core.Bool.{Bool, true, false, false≢true, true≢false}
 use mathlib.Core.List.{List}
-use lib.Dec.{leb, ltb}
+use lib.Dec.{leb, eqb}
 use lib.ListN.{length}
-use borrow.Author.Tests.{le-leb, lt-leb, leb-true, leb-false, ltb-false, le-ltb}
+use borrow.Author.Tests.{le-leb, lt-leb, leb-true, leb-false, lt-ltb, le-ltb, ne-eqb}
 use Rattle.reader.specs.Result.{pick}
 use Rattle.rules.specs.declared.roots.Roots.{Roots}
-use Rattle.rules.specs.Environment.{Variable, Slot, free, used, live, Environment, update, levelOf, leaveSlot, leave}
+use Rattle.rules.specs.Environment.{leaveSlot, leave}
+use Rattle.rules.specs.Chains.{chainOf, isExclusive}
 use Rattle.rules.specs.Masks.{has}
-use Rattle.rules.specs.Table.{entryWord, holdersAt, variableAt, environmentOf, noteAt, TableFor, SameLinks, putAt, isDeeper}
-use Rattle.rules.proofs.Slots.{update-same, update-other}
-use Rattle.rules.proofs.EntryLaws.{status-live}
-use Rattle.rules.proofs.TableLaws.{put-there, put-row, put-word, not-live, SameEntry, entry-roots, same-environment}
+use Rattle.rules.specs.Table.{entryWord, rootsAt, variableAt, slotAs, environmentOf, TableFor, SameLinks, InScope, Around}
+use Rattle.rules.proofs.EntryLaws.{status-live, live-inside}
+use Rattle.rules.proofs.TableLaws.{slot-used, same-slot}
+use Rattle.rules.proofs.WordLaws.{Put, put-at, put-off, PutSet, set-off, roots-put, roots-same, holders-same, links-same}
 
--- The numbers from n on have left.
-abbrev pub leftFrom : ℕ → ℕ → Environment → ℕ → Slot
-leftFrom n level Γ x = pick (leb n x) (leaveSlot level (Γ x)) (Γ x)
-
--- ---- one number leaves, or stays
-
-dead-stays : (env : List ℕ) (x level : ℕ) → entryWord env x 0 < 2 → leaveSlot level (environmentOf env x) ≡ environmentOf env x
-unfolding leaveSlot
-dead-stays env x level h = ⊎-elim (λ e. rw e refl) (λ e. rw e refl) (not-live env x h)
-
-pub deeper-leaves : (env : List ℕ) (x level : ℕ) → isDeeper env x level ≡ true → leaveSlot level (environmentOf env x) ≡ used
-unfolding leaveSlot
-deeper-leaves env x level e = go (leb 2 (entryWord env x 0)) refl e
+-- What lives at a level or around it is in scope.
+pub around-in : (env : List ℕ) (s : Roots) (level : ℕ) → Around env s level → InScope env s
+around-in env s level around y h = go (leb 2 (entryWord env y 0)) refl (sym (around y) ∙ h)
   where
-    go : (a : Bool) → leb 2 (entryWord env x 0) ≡ a → pick a (ltb level (entryWord env x 5)) false ≡ true → leaveSlot level (environmentOf env x) ≡ used
-    go true p q = ap (leaveSlot level) (status-live env x (leb-true 2 (entryWord env x 0) p)) ∙ ap (λ (b : Bool). pick b used (live (variableAt env x))) q
-    go false p q = absurd (false≢true q)
+    go : (b : Bool) → leb 2 (entryWord env y 0) ≡ b → pick b (leb (entryWord env y 5) level) false ≡ true → 2 ≤ entryWord env y 0
+    go true e k = leb-true 2 (entryWord env y 0) e
+    go false e k = absurd (false≢true k)
 
-pub other-stays : (env : List ℕ) (x level : ℕ) → isDeeper env x level ≡ false → leaveSlot level (environmentOf env x) ≡ environmentOf env x
-unfolding leaveSlot
-other-stays env x level e = go (leb 2 (entryWord env x 0)) refl e
-  where
-    go : (a : Bool) → leb 2 (entryWord env x 0) ≡ a → pick a (ltb level (entryWord env x 5)) false ≡ false → leaveSlot level (environmentOf env x) ≡ environmentOf env x
-    go true p q =
-        let s = status-live env x (leb-true 2 (entryWord env x 0) p) in
-        ap (leaveSlot level) s ∙ ap (λ (b : Bool). pick b used (live (variableAt env x))) q ∙ sym s
-    go false p q = dead-stays env x level (leb-false 2 (entryWord env x 0) p)
+-- Of all that leave those of `left` have still to. No other word changes than their status.
+pub record Leaving (env : List ℕ) (all left : Roots) (env′ : List ℕ) : Type 0 where
+  pub within : (y : ℕ) → has left y ≡ true → has all y ≡ true
+  pub others : (y j : ℕ) → j < 8 → (0 ≡ j → ⊥) → entryWord env′ y j ≡ entryWord env y j
+  pub gone : (y : ℕ) → has all y ≡ true → has left y ≡ false → entryWord env′ y 0 ≡ 1
+  pub stays : (y : ℕ) → has all y ≡ false → entryWord env′ y 0 ≡ entryWord env y 0
 
--- No variable is deeper than the level: nothing changes.
-level-stays : (sl : Slot) (level : ℕ) → levelOf sl ≤ level → leaveSlot level sl ≡ sl
-unfolding leaveSlot levelOf
-level-stays free level h = refl
-level-stays used level h = refl
-level-stays (live v) level h = rw (le-ltb level (v .level) h) refl
+pub leaving-first : (env : List ℕ) (all : Roots) → Leaving env all all env
+leaving-first env all = record { within = λ y h. h; others = λ y j l n. refl; gone = λ y h k. absurd (true≢false (sym h ∙ k)); stays = λ y h. refl }
 
-pub none-deeper : (env : List ℕ) (n : ℕ) → TableFor env n → (level : ℕ) → noteAt env n ≤ level → environmentOf env ≡ leave level (environmentOf env)
-unfolding leave
-none-deeper env n T level h = fun-ext λ x. sym (level-stays (environmentOf env x) level (omega (arith, T .2 .levels x)))
-
--- ---- one after the other
-
-pub left-start : (env : List ℕ) (n level : ℕ) → ((x : ℕ) → n ≤ x → entryWord env x 0 ≡ 0) → (x : ℕ) → environmentOf env x ≡ leftFrom n level (environmentOf env) x
-left-start env n level e x = go (decLt x n)
-  where
-    go : Dec (x < n) → environmentOf env x ≡ leftFrom n level (environmentOf env) x
-    go (yes h) = rw (lt-leb n x h) refl
-    go (no h) = rw (le-leb n x (omega arith)) (sym (dead-stays env x level (omega (arith, e x (omega arith)))))
-
-pub left-end : (env : List ℕ) (Γ : Environment) (n level : ℕ) → n ≤ 0 → ((x : ℕ) → environmentOf env x ≡ leftFrom n level Γ x) → environmentOf env ≡ leave level Γ
-unfolding leave
-left-end env Γ n level h e = fun-ext λ x. e x ∙ rw (le-leb n x (omega arith)) refl
-
--- One number more.
-module _ (env : List ℕ) (Γ : Environment) (n m level : ℕ) (some : 0 < n) (less : m ≡ n - 1) (left : (x : ℕ) → environmentOf env x ≡ leftFrom n level Γ x) where
-  other : (x : ℕ) → (m ≡ x → ⊥) → leftFrom n level Γ x ≡ leftFrom m level Γ x
-  other x h = go (decLt x m)
-    where
-      go : Dec (x < m) → leftFrom n level Γ x ≡ leftFrom m level Γ x
-      go (yes q) = rw (lt-leb n x (omega arith), lt-leb m x q) refl
-      go (no q) = rw (le-leb n x (omega arith), le-leb m x (omega arith)) refl
-
-  here : leftFrom m level Γ m ≡ leaveSlot level (environmentOf env m)
-  here = let before : environmentOf env m ≡ Γ m = left m ∙ rw (lt-leb n m (omega arith)) refl in rw (le-leb m m (omega arith), before) refl
-
-  pub left-stays : isDeeper env m level ≡ false → (x : ℕ) → environmentOf env x ≡ leftFrom m level Γ x
-  left-stays e x = go (ℕ-discrete m x)
-    where
-      go : Dec (m ≡ x) → environmentOf env x ≡ leftFrom m level Γ x
-      go (yes q) = rw (← q) (sym (here ∙ other-stays env m level e))
-      go (no q) = left x ∙ other x q
-
-  pub left-leaves : isDeeper env m level ≡ true → (env′ : List ℕ) → environmentOf env′ ≡ update (environmentOf env) m used → (x : ℕ) → environmentOf env′ x ≡ leftFrom m level Γ x
-  left-leaves e env′ q x = rw q (go (ℕ-discrete m x))
-    where
-      go : Dec (m ≡ x) → update (environmentOf env) m used x ≡ leftFrom m level Γ x
-      go (yes w) = rw (← w) (update-same (environmentOf env) m used ∙ sym (here ∙ deeper-leaves env m level e))
-      go (no w) = update-other (environmentOf env) m used x (λ z. w (sym z)) ∙ left x ∙ other x w
-
--- ---- the note lowered
-
--- A note of a row after the variables': no entry, no holders and no other note changes.
-module _ (env env′ : List ℕ) (n note : ℕ) (put : (y j : ℕ) → j < 8 → entryWord env′ y j ≡ putAt (entryWord env) n 7 note y j) where
-  pub put-environment : (environmentOf env′ ≡ environmentOf env) × SameLinks env env′
-  put-environment = same-environment env env′ (λ y k l a b. put y k l ∙ put-word (entryWord env) n 7 note y k (λ e. b (sym e)))
-
-  -- It may be lowered to the level, where no variable is deeper.
-  pub put-table : TableFor env n → length env′ ≡ length env → ((x : ℕ) → levelOf (environmentOf env x) ≤ note) → TableFor env′ n
-  put-table T same deep = (
-    same ∙ T .0,
-    T .1,
+pub leaving-next : (env env₁ env₂ : List ℕ) (all left left′ : Roots) (x : ℕ) → Leaving env all left env₁ → has left x ≡ true
+    → ((y : ℕ) → has left′ y ≡ pick (eqb x y) false (has left y)) → Put env₁ x 0 1 env₂ → Leaving env all left′ env₂
+leaving-next env env₁ env₂ all left left′ x L member out put =
     record {
-      held = λ y r a b s h.
-          let q : SameEntry env env′ y = λ k l u v. put y k l ∙ put-word (entryWord env) n 7 note y k (λ e. v (sym e)) in
-          let g = T .2 .held y r a b (subst (λ (w : ℕ). 2 ≤ w) (q 0 (omega arith) (λ e. omega arith) (λ e. omega arith)) s) (ap (λ (s : Roots). has s r) (sym (entry-roots env env′ y q)) ∙ h) in
-          let o : (j : ℕ) → j < 8 → entryWord env′ r j ≡ entryWord env r j = λ j l. put r j l ∙ put-row (entryWord env) n 7 note r j (λ e. omega arith) in
-          let z : holdersAt env′ r ≡ holdersAt env r = ap₂ (λ (l g : ℕ). record { low = l; high = g }) (o 3 (omega arith)) (o 7 (omega arith)) in
-          ap (λ (s : Roots). has s y) z ∙ g;
-      levels = λ x.
-          let e = put n 7 (omega arith) ∙ put-there (entryWord env) n 7 note in
-          let s = ap (λ (Γ : Environment). levelOf (Γ x)) (put-environment .0) in
-          omega (arith, deep x);
-      most = (let e = put (suc n) 7 (omega arith) ∙ put-row (entryWord env) n 7 note (suc n) 7 (λ e. omega arith) in omega (arith, T .2 .most));
-      untaken = λ x h.
-          let e = put (suc n) 7 (omega arith) ∙ put-row (entryWord env) n 7 note (suc n) 7 (λ e. omega arith) in
-          put x 0 (omega arith) ∙ put-word (entryWord env) n 7 note x 0 (λ e. omega arith) ∙ T .2 .untaken x (omega arith);
-    },
-  )
-
--- After that no variable is deeper than the level.
-pub left-level : (env : List ℕ) (Γ : Environment) (level : ℕ) → environmentOf env ≡ leave level Γ → (x : ℕ) → levelOf (environmentOf env x) ≤ level
-unfolding leave leaveSlot levelOf
-left-level env Γ level e x = subst (λ (Δ : Environment). levelOf (Δ x) ≤ level) (sym e) (of-slot (Γ x))
+      within = λ y h. L .within y (was y (eqb x y) (sym (out y) ∙ h));
+      others = λ y j l n. put-off env₁ env₂ x 0 1 put y j l (λ p q. n q) ∙ L .others y j l n;
+      gone = λ y h k. now-gone y h k (ℕ-discrete x y);
+      stays = λ y h. put-off env₁ env₂ x 0 1 put y 0 (omega arith) (λ p q. false≢true (sym h ∙ ap (has all) (sym p) ∙ L .within x member)) ∙ L .stays y h;
+    }
   where
-    at : (v : Variable) (b : Bool) → ltb level (v .level) ≡ b → levelOf (pick b used (live v)) ≤ level
-    at v true e = omega arith
-    at v false e = ltb-false level (v .level) e
+    was : (y : ℕ) (b : Bool) → pick b false (has left y) ≡ true → has left y ≡ true
+    was y true h = absurd (false≢true h)
+    was y false h = h
 
-    of-slot : (sl : Slot) → levelOf (leaveSlot level sl) ≤ level
-    of-slot free = omega arith
-    of-slot used = omega arith
-    of-slot (live v) = at v (ltb level (v .level)) refl
+    now-gone : (y : ℕ) → has all y ≡ true → has left′ y ≡ false → Dec (x ≡ y) → entryWord env₂ y 0 ≡ 1
+    now-gone y h k (yes q) = subst (λ (z : ℕ). entryWord env₂ z 0 ≡ 1) q (put-at env₁ env₂ x 0 1 put (omega arith))
+    now-gone y h k (no q) =
+        put-off env₁ env₂ x 0 1 put y 0 (omega arith) (λ p e. q p)
+        ∙ L .gone y h (sym (out y ∙ ap (λ (b : Bool). pick b false (has left y)) (ne-eqb x y q)) ∙ k)
+
+-- What is not in scope stays what it is.
+dead-stays : (env env′ : List ℕ) (y level : ℕ) → entryWord env y 0 < 2 → entryWord env′ y 0 ≡ entryWord env y 0 → environmentOf env′ y ≡ leaveSlot level (environmentOf env y)
+unfolding environmentOf slotAs leaveSlot
+dead-stays env env′ y level l e = ap (λ (s : ℕ). slotAs s (variableAt env′ y)) e ∙ go (entryWord env y 0) l
+  where
+    go : (s : ℕ) → s < 2 → slotAs s (variableAt env′ y) ≡ leaveSlot level (slotAs s (variableAt env y))
+    go zero h = refl
+    go (suc zero) h = refl
+    go (suc (suc s)) h = absurd (omega arith)
+
+-- What leaves is in scope, and was not before the block.
+module _ (env : List ℕ) (n : ℕ) (T : TableFor env n) (scope before all : Roots) (read : scope ≡ rootsAt env (suc n))
+    (less : (y : ℕ) → has all y ≡ pick (has before y) false (has scope y)) where
+  in-scope : (y : ℕ) → has scope y ≡ leb 2 (entryWord env y 0)
+  in-scope y = ap (λ (s : Roots). has s y) read ∙ T .2 .scope y
+
+  -- It is a variable of the table.
+  pub leaving-inside : (left : Roots) (env₁ : List ℕ) → Leaving env all left env₁ → (x : ℕ) → has left x ≡ true → x < n
+  leaving-inside left env₁ L x h = go (has before x) (sym (less x) ∙ L .within x h)
+    where
+      go : (b : Bool) → pick b false (has scope x) ≡ true → x < n
+      go true k = absurd (false≢true k)
+      go false k = live-inside env n T x (variableAt env x) (status-live env x (leb-true 2 (entryWord env x 0) (sym (in-scope x) ∙ k)))
+
+  -- All have left, and the set of what is in scope is put.
+  module _ (left : Roots) (env₁ env₂ : List ℕ) (was : InScope env before) (L : Leaving env all left env₁) (none : (y : ℕ) → has left y ≡ false)
+      (put : PutSet env₁ (suc n) 2 before env₂) where
+    word : (y j : ℕ) → j < 8 → (0 ≡ j → ⊥) → (suc n ≡ y → 2 ≡ j → ⊥) → (suc n ≡ y → 6 ≡ j → ⊥) → entryWord env₂ y j ≡ entryWord env y j
+    word y j l z p q = set-off env₁ env₂ (suc n) 2 before put y j l p q ∙ L .others y j l z
+
+    status : (y : ℕ) → entryWord env₂ y 0 ≡ entryWord env₁ y 0
+    status y = set-off env₁ env₂ (suc n) 2 before put y 0 (omega arith) (λ p q. omega arith) (λ p q. omega arith)
+
+    -- By whether it was in scope before the block, and whether it is.
+    stayed : (y : ℕ) → has before y ≡ true → entryWord env₂ y 0 ≡ entryWord env y 0
+    stayed y h = status y ∙ L .stays y (less y ∙ ap (λ (b : Bool). pick b false (has scope y)) h)
+
+    left-out : (y : ℕ) → has before y ≡ false → leb 2 (entryWord env y 0) ≡ true → entryWord env₂ y 0 ≡ 1
+    left-out y h k = status y ∙ L .gone y (less y ∙ ap (λ (b : Bool). pick b false (has scope y)) h ∙ in-scope y ∙ k) (none y)
+
+    not-in : (y : ℕ) → leb 2 (entryWord env y 0) ≡ false → entryWord env₂ y 0 ≡ entryWord env y 0
+    not-in y h = status y ∙ L .stays y (less y ∙ go (has before y))
+      where
+        go : (b : Bool) → pick b false (has scope y) ≡ false
+        go true = refl
+        go false = in-scope y ∙ h
+
+    -- Who is in scope now was in scope before the block.
+    still-in : (y : ℕ) → 2 ≤ entryWord env₂ y 0 → has before y ≡ true
+    still-in y h = go (has before y) (leb 2 (entryWord env y 0)) refl refl
+      where
+        go : (b c : Bool) → has before y ≡ b → leb 2 (entryWord env y 0) ≡ c → b ≡ true
+        go true c e k = refl
+        go false true e k = absurd (omega (arith, left-out y e k))
+        go false false e k = absurd (omega (arith, not-in y k, leb-false 2 (entryWord env y 0) k))
+
+    left-links : SameLinks env env₂
+    left-links y = links-same env env₂ y (word y 1 (omega arith) (λ q. omega arith) (λ p q. omega arith) (λ p q. omega arith))
+
+    roots-stay : (y : ℕ) → (suc n ≡ y → ⊥) → rootsAt env₂ y ≡ rootsAt env y
+    roots-stay y h = roots-same env env₂ y (word y 2 (omega arith) (λ q. omega arith) (λ p q. h p) (λ p q. h p)) (word y 6 (omega arith) (λ q. omega arith) (λ p q. h p) (λ p q. h p))
+
+    now-in : (y : ℕ) → has (rootsAt env₂ (suc n)) y ≡ leb 2 (entryWord env₂ y 0)
+    now-in y = ap (λ (s : Roots). has s y) (roots-put env₁ env₂ (suc n) before put) ∙ go (has before y) (leb 2 (entryWord env y 0)) refl refl
+      where
+        go : (b c : Bool) → has before y ≡ b → leb 2 (entryWord env y 0) ≡ c → b ≡ leb 2 (entryWord env₂ y 0)
+        go true c e k = sym (le-leb 2 (entryWord env₂ y 0) (omega (arith, stayed y e, was y e)))
+        go false true e k = sym (lt-leb 2 (entryWord env₂ y 0) (omega (arith, left-out y e k)))
+        go false false e k = sym (lt-leb 2 (entryWord env₂ y 0) (omega (arith, not-in y k, leb-false 2 (entryWord env y 0) k)))
+
+    left-table : length env₂ ≡ length env → TableFor env₂ n
+    left-table same = (
+      same ∙ T .0,
+      T .1,
+      record {
+        held = λ y r a b s h.
+            let holders = holders-same env env₂ r (word r 3 (omega arith) (λ q. omega arith) (λ p q. omega arith) (λ p q. omega arith)) (word r 7 (omega arith) (λ q. omega arith) (λ p q. omega arith) (λ p q. omega arith)) in
+            ap (λ (k : Roots). has k y) holders
+            ∙ T .2 .held y r a b (was y (still-in y s)) (ap (λ (k : Roots). has k r) (sym (roots-stay y (λ e. omega arith))) ∙ h);
+        exclusives = λ y s h.
+            ap (λ (k : Roots). has k y) (roots-stay n (λ e. omega arith))
+            ∙ T .2 .exclusives y (was y (still-in y s)) (ap (λ (l : ℕ). isExclusive (chainOf l)) (sym (left-links y)) ∙ h);
+        scope = now-in;
+        most = (omega (arith, note, T .2 .most));
+        untaken = λ x h. let z = T .2 .untaken x (omega (arith, note)) in not-in x (lt-leb 2 (entryWord env x 0) (omega arith)) ∙ z;
+      },
+    )
+      where
+        note : entryWord env₂ (suc n) 7 ≡ entryWord env (suc n) 7
+        note = word (suc n) 7 (omega arith) (λ q. omega arith) (λ p q. omega arith) (λ p q. omega arith)
+
+    -- Where the variables in scope before the block are those of the level or around it, the others are deeper.
+    left-environment : (level : ℕ) → Around env before level → environmentOf env₂ ≡ leave level (environmentOf env)
+    unfolding leave leaveSlot
+    left-environment level around = fun-ext λ y. go y (leb 2 (entryWord env y 0)) (has before y) refl refl (sym (around y))
+      where
+        at-live : (y : ℕ) → 2 ≤ entryWord env y 0 → (b : Bool) → has before y ≡ b → leb (entryWord env y 5) level ≡ b → environmentOf env₂ y ≡ leaveSlot level (environmentOf env y)
+        at-live y l true e k =
+            let i = live-inside env n T y (variableAt env y) (status-live env y l) in
+            let moved = word y 4 (omega arith) (λ q. omega arith) (λ p q. omega arith) (λ p q. omega arith) in
+            let deep = word y 5 (omega arith) (λ q. omega arith) (λ p q. omega arith) (λ p q. omega arith) in
+            same-slot env env₂ left-links y y (stayed y e) (left-links y) moved (roots-stay y (λ q. omega arith)) deep
+            ∙ rw (status-live env y l, le-ltb level (entryWord env y 5) (leb-true (entryWord env y 5) level k)) refl
+        at-live y l false e k =
+            slot-used env₂ y (left-out y e (le-leb 2 (entryWord env y 0) l))
+            ∙ rw (status-live env y l, lt-ltb level (entryWord env y 5) (leb-false (entryWord env y 5) level k)) refl
+
+        go : (y : ℕ) (a b : Bool) → leb 2 (entryWord env y 0) ≡ a → has before y ≡ b → pick a (leb (entryWord env y 5) level) false ≡ b → environmentOf env₂ y ≡ leaveSlot level (environmentOf env y)
+        go y true b e f k = at-live y (leb-true 2 (entryWord env y 0) e) b f k
+        go y false b e f k = dead-stays env env₂ y level (leb-false 2 (entryWord env y 0) e) (not-in y e)
+
+    pub all-left : length env₂ ≡ length env → ((level : ℕ) → Around env before level → environmentOf env₂ ≡ leave level (environmentOf env)) × TableFor env₂ n × SameLinks env env₂
+    all-left same = (left-environment, left-table same, left-links)

@@ -3,6 +3,7 @@
 
 -- Answers, numbers, chains and sets of places taken apart.
 pub mod Answers
+pub mod ToldLaws
 pub mod Slots
 pub mod LinkChains
 pub mod SetLaws
@@ -51,10 +52,12 @@ pub mod WholePath
 -- Values and places as the rules' functions have them.
 pub mod ValueLaws
 pub mod PlaceLaws
+pub mod MoveLaws
 -- Assigns and choices.
 pub mod EndRoots
 pub mod WriteLaws
 pub mod AssignLaws
+pub mod OwnLaws
 pub mod RowLaws
 pub mod KeptLaws
 pub mod ChoiceLaws

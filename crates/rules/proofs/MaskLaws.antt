@@ -8,7 +8,7 @@ use mathlib.Core.Logic.{_≢_}
 use mathlib.Core.Bool.{Bool, true, false, false≢true, true≢false, _&&_}
 use lib.Dec.{ltb, eqb, eqb·zero-suc, eqb·suc-zero, eqb·suc-suc}
 use lib.Pow.{pow-pos, pow-lt, shr-shr}
-use lib.Bits.{bitOr, bitXor, or-shr, or-mod, xor-shr, xor-mod}
+use lib.Bits.{bitAnd, bitOr, bitXor, and-shr, and-mod, or-shr, or-mod, xor-shr, xor-mod}
 use lib.Count.{under, trailingZeros}
 use borrow.Author.Tests.{ltb-true, ltb-false, lt-ltb, le-ltb, eqb-true, eq-eqb, ne-eqb}
 use Rattle.reader.specs.Result.{pick}
@@ -40,6 +40,13 @@ or-digit (suc zero) (suc zero) h l = refl
 or-digit (suc zero) (suc (suc e)) h l = absurd (omega arith)
 or-digit (suc (suc d)) e h l = absurd (omega arith)
 
+and-digit : (d e : ℕ) → d < 2 → e < 2 → eqb (bitAnd d e) 1 ≡ pick (eqb d 1) (eqb e 1) false
+and-digit zero e h l = refl
+and-digit (suc zero) zero h l = refl
+and-digit (suc zero) (suc zero) h l = refl
+and-digit (suc zero) (suc (suc e)) h l = absurd (omega arith)
+and-digit (suc (suc d)) e h l = absurd (omega arith)
+
 less-digit : (d e : ℕ) → d < 2 → e < 2 → eqb (bitXor (bitOr d e) e) 1 ≡ pick (eqb e 1) false (eqb d 1)
 less-digit zero zero h l = refl
 less-digit zero (suc zero) h l = refl
@@ -55,6 +62,13 @@ bit-or a b k =
     ap (λ (d : ℕ). eqb (d % 2) 1) (or-shr a b k)
     ∙ ap (λ (d : ℕ). eqb d 1) (or-mod (a / 2 ^ k) (b / 2 ^ k) 1)
     ∙ or-digit (a / 2 ^ k % 2) (b / 2 ^ k % 2) (mod-lt (a / 2 ^ k) two-pos) (mod-lt (b / 2 ^ k) two-pos)
+
+bit-and : (a b k : ℕ) → bit (bitAnd a b) k ≡ pick (bit a k) (bit b k) false
+unfolding bit
+bit-and a b k =
+    ap (λ (d : ℕ). eqb (d % 2) 1) (and-shr a b k)
+    ∙ ap (λ (d : ℕ). eqb d 1) (and-mod (a / 2 ^ k) (b / 2 ^ k) 1)
+    ∙ and-digit (a / 2 ^ k % 2) (b / 2 ^ k % 2) (mod-lt (a / 2 ^ k) two-pos) (mod-lt (b / 2 ^ k) two-pos)
 
 bit-less : (a b k : ℕ) → bit (bitXor (bitOr a b) b) k ≡ pick (bit b k) false (bit a k)
 unfolding bit
@@ -165,6 +179,17 @@ in-either a b x = go (ltb x 64) (ltb x 128)
         ≡ pick (pick p (bit (a .low) x) (pick q (bit (a .high) (x - 64)) false)) true (pick p (bit (b .low) x) (pick q (bit (b .high) (x - 64)) false))
     go true q = bit-or (a .low) (b .low) x
     go false true = bit-or (a .high) (b .high) (x - 64)
+    go false false = refl
+
+pub in-both : (a b : Roots) (x : ℕ)
+    → has (record { low = bitAnd (a .low) (b .low); high = bitAnd (a .high) (b .high) }) x ≡ pick (has a x) (has b x) false
+unfolding has
+in-both a b x = go (ltb x 64) (ltb x 128)
+  where
+    go : (p q : Bool) → pick p (bit (bitAnd (a .low) (b .low)) x) (pick q (bit (bitAnd (a .high) (b .high)) (x - 64)) false)
+        ≡ pick (pick p (bit (a .low) x) (pick q (bit (a .high) (x - 64)) false)) (pick p (bit (b .low) x) (pick q (bit (b .high) (x - 64)) false)) false
+    go true q = bit-and (a .low) (b .low) x
+    go false true = bit-and (a .high) (b .high) (x - 64)
     go false false = refl
 
 pub in-less : (a b : Roots) (x : ℕ)

@@ -3,24 +3,30 @@ use Prim.Native.Nat.{ℕ, suc, _<_, _≤_}
 use native.Mathlib.Omega.{arith}
 use native.Mathlib.Decide.{ℕ-discrete}
 use mathlib.Core.Path.{_≡_, refl, sym, ap, ap₂, _∙_, subst}
-use mathlib.Core.Logic.{_⊎_, inl, inr}
+use mathlib.Core.Logic.{⊎-elim, _⊎_, inl, inr}
 use mathlib.Core.Bool.{Bool, true, false, true≢false}
-use mathlib.Core.List.{List}
-use lib.Dec.{eqb}
+use mathlib.Core.List.{List, [], _∷_}
+use lib.Dec.{leb, eqb}
 use lib.ListN.{length}
-use borrow.Author.Tests.{eq-eqb, ne-eqb}
+use types.Run.{OneOf}
+use denote.Enum.Declared.{tagOf}
+use borrow.Author.Tests.{eqb-true, eq-eqb, ne-eqb, le-leb, leb-true}
 use Rattle.reader.specs.Result.{pick}
 use Rattle.rules.specs.declared.roots.Roots.{Roots}
-use Rattle.rules.specs.Links.{leadingBoxes}
-use Rattle.rules.specs.Environment.{Borrow, Variable, Slot, free, used, live, levelOf, update, movedAwayAt, refilled, widened}
-use Rattle.rules.specs.Chains.{chainOf}
+use Rattle.rules.specs.declared.table.BorrowEnd.{BorrowEnd}
+use Rattle.rules.specs.declared.table.BorrowEnd.the-variants as end
+use Rattle.rules.proofs.table.BorrowEnd.{the-type}
+use Rattle.rules.specs.Links.{Link, boxed, shared, exclusive, leadingBoxes}
+use Rattle.rules.specs.Environment.{Borrow, Slot, free, used, live, isFree, update, movedAwayAt, refilled, widened}
+use Rattle.rules.specs.Chains.{chainOf, isExclusive}
 use Rattle.rules.specs.Roots.{left}
 use Rattle.rules.specs.Masks.{has}
-use Rattle.rules.specs.Table.{entryWord, linksAt, longAt, rootsAt, holdersAt, endIn, variableOf, variableAt, slotAs, environmentOf, noteAt, TableFor, HolderNoted, SameLinks}
+use Rattle.rules.specs.Table.{entryWord, linksAt, longAt, rootsAt, holdersAt, endIn, variableOf, variableAt, slotAs, environmentOf, noteAt, borrowEndOf, TableFor, HolderNoted, MemberAdded, ExclusiveNoted, SameLinks}
 use Rattle.rules.proofs.MaskLaws.{in-none}
-use Rattle.rules.proofs.RootLaws.{or, or-true}
-use Rattle.rules.proofs.WordLaws.{Put, put-at, put-off, PutSet, set-off, roots-put, holders-put, Raised, raised-off, raised-there, roots-same, holders-same, links-same, end-same, slot-same, updated, slot-changed, slot-level}
-use Rattle.rules.proofs.TableLaws.{SameEntry}
+use Rattle.rules.proofs.RootLaws.{or, or-true, or-left, or-right}
+use Rattle.rules.proofs.WordLaws.{Put, put-at, put-off, PutSet, set-off, roots-put, holders-put, Raised, raised-off, raised-there, roots-same, holders-same, links-same, end-same, slot-same, updated, slot-changed}
+use Rattle.rules.proofs.EntryLaws.{status-inside}
+use Rattle.rules.proofs.TableLaws.{SameEntry, free-test, entry-links, entry-roots}
 use Rattle.rules.proofs.EndRoots.{end-united}
 
 -- ---- while holders are noted
@@ -86,15 +92,44 @@ module _ (n : ℕ) (env : List ℕ) (x : ℕ) (s : Roots) where
           new-at r l h k (yes q) = now-there r q
           new-at r l h k (no q) = still r x (N .new r l h (done r k q))
 
+-- ---- that a borrow link is exclusive
+
+end-exclusive : (ks : List Link) (s : Roots) → isExclusive ks ≡ true → borrowEndOf ks s ≡ end.Exclusive s
+unfolding isExclusive borrowEndOf
+end-exclusive [] s h = absurd (true≢false (sym h))
+end-exclusive (boxed ∷ ks) s h = end-exclusive ks s h
+end-exclusive (shared ∷ ks) s h = absurd (true≢false (sym h))
+end-exclusive (exclusive ∷ ks) s h = refl
+
+module _ (n : ℕ) (env : List ℕ) (x links : ℕ) where
+  pub exclusive-noted : (env′ : List ℕ) → MemberAdded env n x env′ → ExclusiveNoted n env x links env′
+  exclusive-noted env′ M =
+      record {
+        others = M .others;
+        kept = λ y h. M .members y ∙ or-left (has (rootsAt env n) y) (eqb x y) h;
+        new = λ h. M .members x ∙ or-right (has (rootsAt env n) x) (eqb x x) (eq-eqb x x refl);
+      }
+
+  -- What an `else` knows: the end is one of the first two, so there is nothing to note.
+  pub exclusive-not : (s : Roots) (e : BorrowEnd) → e ≡ borrowEndOf (chainOf links) s → OneOf (0 ∷ 1 ∷ []) (tagOf the-type e) → ExclusiveNoted n env x links env
+  exclusive-not s e told other = record { others = λ y k l h. refl; kept = λ y h. h; new = λ h. absurd (never h) }
+    where
+      never : isExclusive (chainOf links) ≡ true → ⊥
+      never h = let z : tagOf the-type e ≡ 2 = ap (tagOf the-type) (told ∙ end-exclusive (chainOf links) s h) in ⊎-elim (λ k. omega arith) (λ k. omega arith) other
+
 -- ---- one entry changed
 
 module _ (env : List ℕ) (n x : ℕ) (T : TableFor env n) (inside : x < n) where
-  -- x is given s, with its holders noted, and the last two notes as they are or raised.
-  module _ (env′ : List ℕ) (s : Slot) (same : length env′ ≡ length env) (changed : environmentOf env′ ≡ update (environmentOf env) x s)
-      (others : (y : ℕ) → (x ≡ y → ⊥) → SameEntry env env′ y)
+  -- The words of x change, and it is noted where it must be. Rows past the n variables keep their status; their sets may change at x.
+  module _ (env′ : List ℕ) (same : length env′ ≡ length env)
+      (others : (y : ℕ) → y < n → (x ≡ y → ⊥) → SameEntry env env′ y)
+      (status : (y : ℕ) → (x ≡ y → ⊥) → entryWord env′ y 0 ≡ entryWord env y 0)
       (kept : (r y : ℕ) → r < n → has (holdersAt env r) y ≡ true → has (holdersAt env′ r) y ≡ true)
       (own : (r : ℕ) → r < n → 2 ≤ entryWord env′ x 0 → has (rootsAt env′ x) r ≡ true → has (holdersAt env′ r) x ≡ true)
-      (deeper : noteAt env n ≤ noteAt env′ n) (deep : levelOf s ≤ noteAt env′ n)
+      (kept-exclusive : (y : ℕ) → has (rootsAt env n) y ≡ true → has (rootsAt env′ n) y ≡ true)
+      (own-exclusive : 2 ≤ entryWord env′ x 0 → isExclusive (chainOf (linksAt env′ x)) ≡ true → has (rootsAt env′ n) x ≡ true)
+      (scope-off : (y : ℕ) → (x ≡ y → ⊥) → has (rootsAt env′ (suc n)) y ≡ has (rootsAt env (suc n)) y)
+      (scope-at : has (rootsAt env′ (suc n)) x ≡ leb 2 (entryWord env′ x 0))
       (higher : noteAt env (suc n) ≤ noteAt env′ (suc n)) (high : noteAt env′ (suc n) ≤ n)
       (none : noteAt env′ (suc n) ≤ x → entryWord env′ x 0 ≡ 0) where
     new-held : (y r : ℕ) → y < n → r < n → 2 ≤ entryWord env′ y 0 → has (rootsAt env′ y) r ≡ true → has (holdersAt env′ r) y ≡ true
@@ -103,32 +138,58 @@ module _ (env : List ℕ) (n x : ℕ) (T : TableFor env n) (inside : x < n) wher
         go : Dec (x ≡ y) → has (holdersAt env′ r) y ≡ true
         go (yes q) = subst (λ (z : ℕ). 2 ≤ entryWord env′ z 0 → has (rootsAt env′ z) r ≡ true → has (holdersAt env′ r) z ≡ true) q (own r b) l h
         go (no q) =
-            let w = others y q in
-            let status = w 0 (omega arith) (λ k. omega arith) (λ k. omega arith) in
-            let roots = roots-same env env′ y (w 2 (omega arith) (λ k. omega arith) (λ k. omega arith)) (w 6 (omega arith) (λ k. omega arith) (λ k. omega arith)) in
-            kept r y b (T .2 .held y r a b (subst (λ (k : ℕ). 2 ≤ k) status l) (ap (λ (k : Roots). has k r) (sym roots) ∙ h))
+            kept r y b (T .2 .held y r a b (subst (λ (k : ℕ). 2 ≤ k) (status y q) l) (ap (λ (k : Roots). has k r) (sym (entry-roots env env′ y (others y a q))) ∙ h))
 
-    new-levels : (y : ℕ) → levelOf (environmentOf env′ y) ≤ noteAt env′ n
-    unfolding update
-    new-levels y = subst (λ (Γ : ℕ → Slot). levelOf (Γ y) ≤ noteAt env′ n) (sym changed) (go (eqb x y))
+    new-exclusives : (y : ℕ) → 2 ≤ entryWord env′ y 0 → isExclusive (chainOf (linksAt env′ y)) ≡ true → has (rootsAt env′ n) y ≡ true
+    new-exclusives y l h = go (ℕ-discrete x y)
       where
-        go : (b : Bool) → levelOf (pick b s (environmentOf env y)) ≤ noteAt env′ n
-        go true = deep
-        go false = omega (arith, T .2 .levels y)
+        go : Dec (x ≡ y) → has (rootsAt env′ n) y ≡ true
+        go (yes q) = subst (λ (z : ℕ). 2 ≤ entryWord env′ z 0 → isExclusive (chainOf (linksAt env′ z)) ≡ true → has (rootsAt env′ n) z ≡ true) q own-exclusive l h
+        go (no q) =
+            let before : 2 ≤ entryWord env y 0 = subst (λ (k : ℕ). 2 ≤ k) (status y q) l in
+            let links = entry-links env env′ y (others y (status-inside env n T y before) q) in
+            kept-exclusive y (T .2 .exclusives y before (ap (λ (k : ℕ). isExclusive (chainOf k)) (sym links) ∙ h))
+
+    new-scope : (y : ℕ) → has (rootsAt env′ (suc n)) y ≡ leb 2 (entryWord env′ y 0)
+    new-scope y = go (ℕ-discrete x y)
+      where
+        go : Dec (x ≡ y) → has (rootsAt env′ (suc n)) y ≡ leb 2 (entryWord env′ y 0)
+        go (yes q) = subst (λ (z : ℕ). has (rootsAt env′ (suc n)) z ≡ leb 2 (entryWord env′ z 0)) q scope-at
+        go (no q) = scope-off y q ∙ T .2 .scope y ∙ ap (leb 2) (sym (status y q))
 
     new-untaken : (y : ℕ) → noteAt env′ (suc n) ≤ y → entryWord env′ y 0 ≡ 0
     new-untaken y h = go (ℕ-discrete x y)
       where
         go : Dec (x ≡ y) → entryWord env′ y 0 ≡ 0
         go (yes q) = subst (λ (z : ℕ). noteAt env′ (suc n) ≤ z → entryWord env′ z 0 ≡ 0) q none h
-        go (no q) = others y q 0 (omega arith) (λ k. omega arith) (λ k. omega arith) ∙ T .2 .untaken y (omega arith)
+        go (no q) = status y q ∙ T .2 .untaken y (omega arith)
 
     pub still-noted : TableFor env′ n
-    still-noted = (same ∙ T .0, T .1, record { held = new-held; levels = new-levels; most = high; untaken = new-untaken })
+    still-noted = (same ∙ T .0, T .1, record { held = new-held; exclusives = new-exclusives; scope = new-scope; most = high; untaken = new-untaken })
+
+  -- The sets past the n variables stay: x has the links that it had, and is in scope if it was.
+  module _ (env′ : List ℕ) (same : length env′ ≡ length env) (others : (y : ℕ) → (x ≡ y → ⊥) → SameEntry env env′ y)
+      (links : linksAt env′ x ≡ linksAt env x) (live-as : leb 2 (entryWord env′ x 0) ≡ leb 2 (entryWord env x 0)) where
+    pub noted-as-before : ((r y : ℕ) → r < n → has (holdersAt env r) y ≡ true → has (holdersAt env′ r) y ≡ true)
+        → ((r : ℕ) → r < n → 2 ≤ entryWord env′ x 0 → has (rootsAt env′ x) r ≡ true → has (holdersAt env′ r) x ≡ true)
+        → noteAt env (suc n) ≤ noteAt env′ (suc n) → noteAt env′ (suc n) ≤ n → (noteAt env′ (suc n) ≤ x → entryWord env′ x 0 ≡ 0) → TableFor env′ n
+    noted-as-before kept own higher high none =
+        let exclusives : rootsAt env′ n ≡ rootsAt env n = entry-roots env env′ n (others n (λ p. omega arith)) in
+        let scope : rootsAt env′ (suc n) ≡ rootsAt env (suc n) = entry-roots env env′ (suc n) (others (suc n) (λ p. omega arith)) in
+        still-noted env′ same
+        (λ y l q. others y q)
+        (λ y q. others y q 0 (omega arith) (λ k. omega arith) (λ k. omega arith))
+        kept own
+        (λ y h. ap (λ (k : Roots). has k y) exclusives ∙ h)
+        (λ l h. ap (λ (k : Roots). has k x) exclusives
+        ∙ T .2 .exclusives x (leb-true 2 (entryWord env x 0) (sym live-as ∙ le-leb 2 (entryWord env′ x 0) l)) (ap (λ (k : ℕ). isExclusive (chainOf k)) (sym links) ∙ h))
+        (λ y q. ap (λ (k : Roots). has k y) scope)
+        (ap (λ (k : Roots). has k x) scope ∙ T .2 .scope x ∙ sym live-as)
+        higher high none
 
   -- ---- the number is taken
 
-  module _ (env₁ env₂ : List ℕ) (same : length env₂ ≡ length env) (put : Put env x 0 1 env₁) (up : Raised env₁ (suc n) (suc x) env₂) where
+  module _ (is-free : isFree (environmentOf env x) ≡ true) (env₁ env₂ : List ℕ) (same : length env₂ ≡ length env) (put : Put env x 0 1 env₁) (up : Raised env₁ (suc n) (suc x) env₂) where
     take-off : (y j : ℕ) → j < 8 → (x ≡ y → 0 ≡ j → ⊥) → (suc n ≡ y → 7 ≡ j → ⊥) → entryWord env₂ y j ≡ entryWord env y j
     take-off y j l p q = raised-off env₁ env₂ (suc n) (suc x) up y j l q ∙ put-off env env₁ x 0 1 put y j l p
 
@@ -155,16 +216,14 @@ module _ (env : List ℕ) (n x : ℕ) (T : TableFor env n) (inside : x < n) wher
         take-used
 
     taken-table : TableFor env₂ n
-    unfolding levelOf
     taken-table =
         let up-there = raised-there env₁ env₂ (suc n) (suc x) up in
         let before : entryWord env₁ (suc n) 7 ≡ noteAt env (suc n) = put-off env env₁ x 0 1 put (suc n) 7 (omega arith) (λ p q. omega arith) in
         let most : noteAt env (suc n) ≤ n = T .2 .most in
-        still-noted env₂ used same taken-environment take-others
+        let was : entryWord env x 0 ≡ 0 = eqb-true (entryWord env x 0) 0 (free-test env x ∙ is-free) in
+        noted-as-before env₂ same take-others (take-links x) (ap (leb 2) take-status ∙ sym (ap (leb 2) was))
         (λ r y l h. ap (λ (k : Roots). has k y) (take-holders r l) ∙ h)
         (λ r l s h. absurd (omega (arith, take-status)))
-        (omega (arith, take-off n 7 (omega arith) (λ p q. omega arith) (λ p q. omega arith)))
-        (omega arith)
         (omega (arith, up-there .0, before))
         (up-there .2 n (omega arith) (omega arith))
         (λ h. absurd (omega (arith, up-there .1)))
@@ -226,13 +285,6 @@ module _ (env : List ℕ) (n x : ℕ) (T : TableFor env n) (inside : x < n) wher
           ap (λ (k : ℕ). slotAs k (variableAt env₂ x)) value-status
           ∙ slot-changed f (variableAt env x) (variableAt env₂ x) none taken (there ∙ ap live (sym value-variable)) (entryWord env x 0)
 
-      value-level : levelOf (f (environmentOf env x)) ≡ levelOf (environmentOf env x)
-      unfolding environmentOf
-      value-level =
-          ap levelOf (sym value-slot)
-          ∙ ap (λ (k : ℕ). levelOf (slotAs k (variableAt env₂ x))) value-status
-          ∙ slot-level (entryWord env x 0) (variableAt env x) (variableAt env₂ x) (ap (λ (v : Variable). v .level) value-variable)
-
       value-environment : environmentOf env₂ ≡ update (environmentOf env) x (f (environmentOf env x))
       value-environment =
           updated env env₂ x (f (environmentOf env x))
@@ -241,12 +293,9 @@ module _ (env : List ℕ) (n x : ℕ) (T : TableFor env n) (inside : x < n) wher
 
       pub value-changed : (environmentOf env₂ ≡ update (environmentOf env) x (f (environmentOf env x))) × TableFor env₂ n × SameLinks env env₂
       value-changed =
-          let at-n = value-notes n (omega arith) in
           let at-next = value-notes (suc n) (omega arith) in (
             value-environment,
-            still-noted env₂ (f (environmentOf env x)) same value-environment value-others value-kept value-own
-                (omega arith)
-                (omega (arith, value-level, T .2 .levels x))
+            noted-as-before env₂ same value-others (value-links x) (ap (leb 2) value-status) value-kept value-own
                 (omega arith)
                 (omega (arith, T .2 .most))
                 (λ h. value-status ∙ T .2 .untaken x (omega arith)),

@@ -7,40 +7,36 @@ use mathlib.Core.Option.{some}
 use mathlib.Core.List.{List, [], _∷_}
 use lib.ListN.{length, take, drop, length-drop}
 use lib.Dec.{leb, eqb}
-use borrow.Author.Tests.{le-leb, lt-leb}
+use borrow.Author.Tests.{lt-leb}
 use Rattle.reader.specs.Result.{ok, err, need, _>>=_, pick}
 use Rattle.reader.specs.Script.{Place}
 use Rattle.rules.specs.declared.roots.Roots.{Roots}
 use Rattle.rules.specs.declared.follow.Ends.{Ends}
 use Rattle.rules.specs.declared.follow.Ends.the-variants as ends
-use Rattle.rules.specs.declared.table.VariableState.{VariableState}
-use Rattle.rules.specs.declared.table.Entry.{Entry}
-use Rattle.rules.specs.declared.table.Entry.the-variants as entry
-use Rattle.rules.specs.declared.rules.Located.{Located}
 use Rattle.rules.specs.declared.rules.Readable.{Readable}
 use Rattle.rules.specs.declared.rules.Readable.the-variants as readable
-use Rattle.rules.specs.declared.verdicts.Verdict.{Verdict}
+use Rattle.rules.specs.declared.verdicts.Told as verdicts
 use Rattle.rules.specs.Links.{Link, shared, exclusive, maxLinks, leadingBoxes, noShared, isNumber, copies}
 use Rattle.rules.specs.Places.{every}
-use Rattle.rules.specs.Environment.{Borrow, sharedOf, exclusiveOf, borrowEnd, Variable, Slot, free, used, live, Environment, Ty, update, movedAway, borrowsAt}
+use Rattle.rules.specs.Environment.{Borrow, sharedOf, exclusiveOf, borrowEnd, Variable, Slot, free, used, live, Environment, Ty, borrowsAt}
 use Rattle.rules.specs.Follow.{ownLink, valueWhole}
 use Rattle.rules.specs.Bars.{readBarred, writeBarred}
 use Rattle.rules.specs.Rules as rules
-use Rattle.rules.specs.Rules.{Judged, numberTy, inScope, judgePlace, judgeReadable, judgeCopy, judgeMove, judgeShared, judgeExclusive}
+use Rattle.rules.specs.Rules.{Judged, numberTy, inScope, judgePlace, judgeReadable, judgeCopy, judgeMove, judgeShared, judgeExclusive, judgeNumber}
 use Rattle.rules.specs.Neat.{place, SameSet}
 use Rattle.rules.specs.Roots.{linksOf, lengths, placesOf, MetFrom, endsOf}
 use Rattle.rules.specs.Masks.{has}
 use Rattle.rules.specs.Chains.{chainOf}
 use Rattle.rules.specs.Steps.{passesSlot, passes, Searched, BorrowedAt}
-use Rattle.rules.specs.Table.{entryWord, linksAt, longAt, variableAt, stateAt, entryAt, endIn, environmentOf}
-use Rattle.rules.specs.Verdicts.{NeatTable, PlaceFound, Named, NamedIs, Read, ReadableIs, typeOf, answered, Answers, atMost8}
+use Rattle.rules.specs.Table.{entryWord, linksAt, longAt, variableAt, endIn, environmentOf}
+use Rattle.rules.specs.Verdicts.{NeatTable, PlaceFound, Named, NamedIs, Read, ReadableIs, NumberIs, typeOf, answered, Answers, atMost8}
 use Rattle.rules.proofs.NeatPaths.{Lies, led}
 use Rattle.rules.proofs.NeatTerms.{readable-place}
 use Rattle.rules.proofs.RootLaws.{same-roots}
 use Rattle.rules.proofs.RootSets.{one-place}
 use Rattle.rules.proofs.FollowRoots as paths
 use Rattle.rules.proofs.WholePath.{whole-path, not-whole}
-use Rattle.rules.proofs.EntryLaws.{status-live, live-status, live-inside, slot-live}
+use Rattle.rules.proofs.EntryLaws.{status-live, live-status, live-inside}
 use Rattle.rules.proofs.ValueLaws.{number-type, copied-borrow, borrows-there}
 
 -- ---- the answer, by its case
@@ -49,41 +45,52 @@ module _ (nv : ℕ) (Γ : Environment) (i : ℕ) (p : Place) {r : Readable} wher
   pub named-at : NamedIs nv Γ i p r → {rest : ℕ} → r ≡ readable.Rest rest → Named Γ p rest
   named-at answer e = subst (λ (k : Readable). NamedIs nv Γ i p k) e answer
 
-  pub named-refused : NamedIs nv Γ i p r → {n at : ℕ} → r ≡ readable.Refused n at → judgePlace nv Γ i p ≡ err (n, at)
-  named-refused answer e = subst (λ (k : Readable). NamedIs nv Γ i p k) e answer
+  pub named-refused : NamedIs nv Γ i p r → {n : ℕ} → r ≡ readable.Refused n → judgePlace nv Γ i p ≡ err (n, i)
+  named-refused answer {n} e = let both : NamedIs nv Γ i p (readable.Refused n) = subst (λ (k : Readable). NamedIs nv Γ i p k) e answer in both .0
+
+  pub move-refused : NamedIs nv Γ i p r → {n : ℕ} → r ≡ readable.Refused n → judgeMove nv Γ i p ≡ err (n, i)
+  move-refused answer {n} e = let both : NamedIs nv Γ i p (readable.Refused n) = subst (λ (k : Readable). NamedIs nv Γ i p k) e answer in both .1
 
   pub read-at : ReadableIs nv Γ i p r → {rest : ℕ} → r ≡ readable.Rest rest → Read nv Γ i p rest
   read-at answer e = subst (λ (k : Readable). ReadableIs nv Γ i p k) e answer
 
-  pub read-refused : ReadableIs nv Γ i p r → {n at : ℕ} → r ≡ readable.Refused n at → judgeReadable nv Γ i p ≡ err (n, at)
+  pub read-refused : ReadableIs nv Γ i p r → {n : ℕ} → r ≡ readable.Refused n → judgeReadable nv Γ i p ≡ err (n, i)
   read-refused answer e = subst (λ (k : Readable). ReadableIs nv Γ i p k) e answer
 
   -- A refusal of the place is one of reading it.
-  pub readable-refused : NamedIs nv Γ i p r → {n at : ℕ} → r ≡ readable.Refused n at → ReadableIs nv Γ i p r
+  pub readable-refused : NamedIs nv Γ i p r → {n : ℕ} → r ≡ readable.Refused n → ReadableIs nv Γ i p r
   unfolding judgeReadable _>>=_
-  readable-refused answer {n} {at} e =
-      let h : judgeReadable nv Γ i p ≡ err (n, at) = rw (named-refused answer e) in
+  readable-refused answer {n} e =
+      let h : judgeReadable nv Γ i p ≡ err (n, i) = rw (named-refused answer e) in
       subst (λ (k : Readable). ReadableIs nv Γ i p k) (sym e) h
 
--- ---- judging a place
+  -- A refusal of reading it is one of a number there.
+  pub number-refused : ReadableIs nv Γ i p r → {n : ℕ} → r ≡ readable.Refused n → NumberIs (judgeNumber nv Γ i p) i r
+  unfolding judgeNumber _>>=_
+  number-refused answer {n} e =
+      let h : judgeNumber nv Γ i p ≡ err (n, i) = rw (read-refused answer e) in
+      subst (NumberIs (judgeNumber nv Γ i p) i) (sym e) h
 
--- What the code loaded at x is the state of the place's root.
-pub loaded : (env : List ℕ) (x y : ℕ) → x ≡ y → (e : Entry) → e ≡ entryAt env x → (v : VariableState) → e ≡ entry.Live v → (environmentOf env y ≡ live (variableAt env y)) × (v .links ≡ linksAt env y)
-unfolding stateAt
-loaded env x y q e h v k =
-    let s = slot-live env x e h v k in
-    (subst (λ (z : ℕ). environmentOf env z ≡ live (variableAt env z)) q (s .0), ap (λ (w : VariableState). w .links) (s .1) ∙ ap (linksAt env) q)
+module _ (judged : Judged (Unit {0})) (i : ℕ) {r : Readable} where
+  pub number-at : NumberIs judged i r → {rest : ℕ} → r ≡ readable.Rest rest → judged ≡ ok tt
+  number-at answer e = subst (NumberIs judged i) e answer
 
-pub rest-fits : (f : ℕ) (ks js : List Link) (rest m : ℕ) → ks ≡ js → drop f ks ≡ chainOf rest → m ≡ length (chainOf rest) → m ≤ length js
-rest-fits f ks js rest m q h e =
-    let a = length-drop f ks in
-    let b = ap (λ (l : List Link). length l) h in
-    let d = ap (λ (l : List Link). length l) q in
-    omega arith
+  pub no-number : NumberIs judged i r → {n : ℕ} → r ≡ readable.Refused n → judged ≡ err (n, i)
+  no-number answer e = subst (NumberIs judged i) e answer
 
-pub place-short : (nv : ℕ) (Γ : Environment) (i : ℕ) (p : Place) (v : Variable) → Γ (p .root) ≡ live v → length (v .chain) < p .follows → judgePlace nv Γ i p ≡ err (32, i)
-unfolding judgePlace inScope need _>>=_
-place-short nv Γ i p v e l = rw (e, lt-leb (p .follows) (length (v .chain)) l)
+-- ---- a place named
+
+pub name-unknown : (nv : ℕ) (Γ : Environment) (i : ℕ) (p : Place) (x : ℕ) → x ≡ p .root → inScope (Γ x) (31, i) ≡ err (31, i) → NamedIs nv Γ i p (readable.Refused 31)
+unfolding judgePlace judgeMove _>>=_
+name-unknown nv Γ i p x at h = let k : inScope (Γ (p .root)) (31, i) ≡ err (31, i) = subst (λ (y : ℕ). inScope (Γ y) (31, i) ≡ err (31, i)) at h in (rw k, rw k)
+
+pub name-short : (nv : ℕ) (Γ : Environment) (i : ℕ) (p : Place) (v : Variable) → Γ (p .root) ≡ live v → length (v .chain) < p .follows → NamedIs nv Γ i p (readable.Refused 32)
+unfolding judgePlace judgeMove inScope need _>>=_
+name-short nv Γ i p v e l = (rw (e, lt-leb (p .follows) (length (v .chain)) l), rw (e, lt-leb (p .follows) (length (v .chain)) l))
+
+-- What the status says at x is so of the place's root.
+pub named-root : (env : List ℕ) (x y : ℕ) → x ≡ y → 2 ≤ entryWord env x 0 → environmentOf env y ≡ live (variableAt env y)
+named-root env x y e h = subst (λ (z : ℕ). environmentOf env z ≡ live (variableAt env z)) e (status-live env x h)
 
 -- An end is in scope.
 low-end : (env : List ℕ) (nv : ℕ) → NeatTable env nv → (f : ℕ → Bool) (m y : ℕ) → endsOf (environmentOf env) m f y ≡ true → y < nv
@@ -96,58 +103,9 @@ low-end env nv T f m y h = go (f y) (environmentOf env y) refl h
     go true (live v) e h = T .1 .1 .low y v e
     go false sl e h = absurd (false≢true h)
 
--- The place passes 31 and 32; the search from its root with the links left after it says the rest.
-module _ (env : List ℕ) (nv : ℕ) (T : NeatTable env nv) (i : ℕ) (p : Place) (x : ℕ) (at : x ≡ p .root) (links : ℕ) (rest : ℕ)
-    (is : environmentOf env (p .root) ≡ live (variableAt env (p .root))) (same : links ≡ linksAt env (p .root))
-    (long : p .follows ≤ length (chainOf (linksAt env (p .root)))) (after : drop (p .follows) (chainOf (linksAt env (p .root))) ≡ chainOf rest)
-    (m : ℕ) (left : m ≡ length (chainOf rest)) (r : Ends) (S : Searched nv (environmentOf env) x m false r) where
-  abbrev Told : ℕ → Type 0
-  Told k =
-      (ends : List Place) × (SameSet ends (placesOf nv (endsOf (environmentOf env) k (S .met)) (lengths (environmentOf env)) k))
-      × (judgePlace nv (environmentOf env) i p
-      ≡ pick (every (passes false (environmentOf env)) (placesOf nv (S .met) (lengths (environmentOf env)) k)) (ok (paths.located (variableAt env (p .root)) ends)) (err (33, i)))
-
-  remaining : length (chainOf (linksAt env (p .root))) - p .follows ≡ m
-  remaining = sym (length-drop (p .follows) (chainOf (linksAt env (p .root)))) ∙ ap (λ (ks : List Link). length ks) after ∙ sym left
-
-  from-root : MetFrom (environmentOf env) m (p .root) (S .met)
-  from-root = subst (λ (y : ℕ). MetFrom (environmentOf env) m y (S .met)) at (S .is)
-
-  told : Told m
-  unfolding passesSlot
-  told =
-      subst Told remaining
-      (paths.place-by-roots (T .1 .1) p (variableAt env (p .root)) is long (S .met) (subst (λ (k : ℕ). MetFrom (environmentOf env) k (p .root) (S .met)) (sym remaining) from-root) i)
-
-  pub place-moved : r ≡ ends.MovedAway → judgePlace nv (environmentOf env) i p ≡ err (33, i)
-  place-moved e = told .2 ∙ ap (λ (b : Bool). pick b (ok (paths.located (variableAt env (p .root)) (told .0))) (err (33, i))) (S .moved e)
-
-  pub place-there : (s : Roots) → r ≡ ends.At s → PlaceFound nv (environmentOf env) p links rest s (judgePlace nv (environmentOf env) i p)
-  place-there s e = record {
-    located = paths.located (variableAt env (p .root)) (told .0);
-    is = told .2 ∙ ap (λ (b : Bool). pick b (ok (paths.located (variableAt env (p .root)) (told .0))) (err (33, i))) (S .passed s e);
-    root = is;
-    chain = ap chainOf (sym same);
-    after = after;
-    low = λ y h. low-end env nv T (S .met) m y (sym (S .to s e y) ∙ h);
-    to = subst (λ (k : ℕ). SameSet (told .0) (placesOf nv (has s) (lengths (environmentOf env)) k)) left
-        (subst (λ (ps : List Place). SameSet (told .0) ps)
-        (same-roots nv (endsOf (environmentOf env) m (S .met)) (has s) (lengths (environmentOf env)) (lengths (environmentOf env)) m (λ y. sym (S .to s e y)) (λ y h. refl)) (told .1));
-  }
-
--- ---- a place named
-
-pub name-unknown : (nv : ℕ) (Γ : Environment) (i : ℕ) (p : Place) (x : ℕ) → x ≡ p .root → inScope (Γ x) (31, i) ≡ err (31, i) → judgePlace nv Γ i p ≡ err (31, i)
-unfolding judgePlace _>>=_
-name-unknown nv Γ i p x at h = let k : inScope (Γ (p .root)) (31, i) ≡ err (31, i) = subst (λ (y : ℕ). inScope (Γ y) (31, i) ≡ err (31, i)) at h in rw k
-
--- What the status says at x is so of the place's root.
-pub named-root : (env : List ℕ) (x y : ℕ) → x ≡ y → 2 ≤ entryWord env x 0 → environmentOf env y ≡ live (variableAt env y)
-named-root env x y e h = subst (λ (z : ℕ). environmentOf env z ≡ live (variableAt env z)) e (status-live env x h)
-
 module _ (env : List ℕ) (nv : ℕ) (T : NeatTable env nv) (i : ℕ) (p : Place) {rest : ℕ} where
   module _ (F : Named (environmentOf env) p rest) where
-    variable-is : F .variable ≡ variableAt env (p .root)
+    pub variable-is : F .variable ≡ variableAt env (p .root)
     variable-is = live-status env (p .root) (F .variable) (F .is) .1
 
     -- The root, which the code has as x.
@@ -157,7 +115,7 @@ module _ (env : List ℕ) (nv : ℕ) (T : NeatTable env nv) (i : ℕ) (p : Place
     pub named-inside : (x : ℕ) → x ≡ p .root → x < nv
     named-inside x e = let z = live-inside env nv (T .0) (p .root) (F .variable) (F .is) in omega arith
 
-    whole-is : (x : ℕ) → x ≡ p .root → (w b : Bool) → w ≡ valueWhole nv (environmentOf env) x (variableAt env x) → w ≡ b → valueWhole nv (environmentOf env) (p .root) (F .variable) ≡ b
+    pub whole-is : (x : ℕ) → x ≡ p .root → (w b : Bool) → w ≡ valueWhole nv (environmentOf env) x (variableAt env x) → w ≡ b → valueWhole nv (environmentOf env) (p .root) (F .variable) ≡ b
     whole-is x e w b h k =
         ap (valueWhole nv (environmentOf env) (p .root)) variable-is ∙ ap (λ (y : ℕ). valueWhole nv (environmentOf env) y (variableAt env y)) (sym e) ∙ sym h ∙ k
 
@@ -173,6 +131,59 @@ module _ (env : List ℕ) (nv : ℕ) (T : NeatTable env nv) (i : ℕ) (p : Place
         let j = T .0 .1 in
         same-roots 128 (has r) (eqb (p .root)) (longAt env) (longAt env) (length (chainOf rest)) (λ y. h y ∙ ap (λ (z : ℕ). eqb z y) e) (λ y q. refl)
         ∙ sym (one-place 128 p (longAt env) (length (chainOf rest)) (omega arith) (ap (place (p .root)) f))
+
+    pub on-chain : drop (p .follows) (chainOf (linksAt env (p .root))) ≡ chainOf rest
+    on-chain = ap (λ (v : Variable). drop (p .follows) (v .chain)) (sym variable-is) ∙ F .after
+
+    pub long-enough : p .follows ≤ length (chainOf (linksAt env (p .root)))
+    long-enough = subst (λ (v : Variable). p .follows ≤ length (v .chain)) variable-is (F .long)
+
+    -- ---- judging the place (LANGUAGE 3.16): a search from its root with its follows, which leaves the links after it
+
+    module _ (x : ℕ) (at : x ≡ p .root) (f : ℕ) (follows : f ≡ p .follows) where
+      abbrev m : ℕ
+      m = longAt env x - f
+
+      remaining : longAt env (p .root) - p .follows ≡ m
+      remaining = ap₂ (λ (y k : ℕ). longAt env y - k) (sym at) (sym follows)
+
+      left : m ≡ length (chainOf rest)
+      left = sym remaining ∙ sym (length-drop (p .follows) (chainOf (linksAt env (p .root)))) ∙ ap (λ (ks : List Link). length ks) on-chain
+
+      pub search-fits : f ≤ length (chainOf (linksAt env x))
+      search-fits = omega (arith, long-enough, follows, ap (λ (y : ℕ). length (chainOf (linksAt env y))) at)
+
+      module _ (r : Ends) (S : Searched nv (environmentOf env) x m false r) where
+        abbrev ByRoots : ℕ → Type 0
+        ByRoots k =
+            (ends : List Place) × (SameSet ends (placesOf nv (endsOf (environmentOf env) k (S .met)) (lengths (environmentOf env)) k))
+            × (judgePlace nv (environmentOf env) i p
+            ≡ pick (every (passes false (environmentOf env)) (placesOf nv (S .met) (lengths (environmentOf env)) k)) (ok (paths.located (variableAt env (p .root)) ends)) (err (33, i)))
+
+        from-root : MetFrom (environmentOf env) m (p .root) (S .met)
+        from-root = subst (λ (y : ℕ). MetFrom (environmentOf env) m y (S .met)) at (S .is)
+
+        by-roots : ByRoots m
+        unfolding passesSlot
+        by-roots =
+            subst ByRoots remaining
+            (paths.place-by-roots (T .1 .1) p (variableAt env (p .root)) (named-live (p .root) refl) long-enough (S .met) (subst (λ (k : ℕ). MetFrom (environmentOf env) k (p .root) (S .met)) (sym remaining) from-root) i)
+
+        pub place-moved : r ≡ ends.MovedAway → judgePlace nv (environmentOf env) i p ≡ err (33, i)
+        place-moved e = by-roots .2 ∙ ap (λ (b : Bool). pick b (ok (paths.located (variableAt env (p .root)) (by-roots .0))) (err (33, i))) (S .moved e)
+
+        pub place-there : (s : Roots) → r ≡ ends.At s → (links : ℕ) → links ≡ linksAt env x → PlaceFound nv (environmentOf env) p links rest s (judgePlace nv (environmentOf env) i p)
+        place-there s e links same = record {
+          located = paths.located (variableAt env (p .root)) (by-roots .0);
+          is = by-roots .2 ∙ ap (λ (b : Bool). pick b (ok (paths.located (variableAt env (p .root)) (by-roots .0))) (err (33, i))) (S .passed s e);
+          root = named-live (p .root) refl;
+          chain = ap chainOf (ap (linksAt env) (sym at) ∙ sym same);
+          after = on-chain;
+          low = λ y h. low-end env nv T (S .met) m y (sym (S .to s e y) ∙ h);
+          to = subst (λ (k : ℕ). SameSet (by-roots .0) (placesOf nv (has s) (lengths (environmentOf env)) k)) left
+              (subst (λ (ps : List Place). SameSet (by-roots .0) ps)
+              (same-roots nv (endsOf (environmentOf env) m (S .met)) (has s) (lengths (environmentOf env)) (lengths (environmentOf env)) m (λ y. sym (S .to s e y)) (λ y h. refl)) (by-roots .1));
+        }
 
     module _ (x : ℕ) (at : x ≡ p .root) (w : Bool) (whole : w ≡ valueWhole nv (environmentOf env) x (variableAt env x)) where
       -- The value not whole, in a rule that asks for that first.
@@ -228,25 +239,25 @@ module _ (env : List ℕ) (nv : ℕ) (T : NeatTable env nv) (i : ℕ) (p : Place
           unfolding judgeExclusive need _>>=_
           exclusive-barred h = rw (path yes-whole .1, whole-is x at w true whole yes-whole, unshared-is true yes-unshared, write-is true h)
 
-          pub exclusive-there : b ≡ false → (r : Roots) → ((y : ℕ) → has r y ≡ eqb x y) → (v : Verdict)
-              → Answers v (atMost8 i (λ e. typeOf (exclusive ∷ chainOf rest) (endIn e (exclusive ∷ chainOf rest) r))) → answered env v ≡ judgeExclusive nv (environmentOf env) i p
+          pub exclusive-there : b ≡ false → (r : Roots) → ((y : ℕ) → has r y ≡ eqb x y) → (v : verdicts.Told)
+              → Answers v (atMost8 (λ e. typeOf (exclusive ∷ chainOf rest) (endIn e (exclusive ∷ chainOf rest) r))) → answered env i v ≡ judgeExclusive nv (environmentOf env) i p
           unfolding judgeExclusive need _>>=_ borrowEnd leadingBoxes
           exclusive-there h r o v a =
               let end : exclusiveOf (placesOf 128 (has r) (longAt env) (length (chainOf rest))) ≡ exclusiveOf (p ∷ []) = ap exclusiveOf (borrowed x at r o) in
               rw (path yes-whole .1, whole-is x at w true whole yes-whole, unshared-is true yes-unshared, write-is false h, F .after)
-              (a env ∙ ap (λ (k : Borrow). need (leb (suc (length (chainOf rest))) maxLinks) (42, i) >>= λ _. ok (environmentOf env, some (typeOf (exclusive ∷ chainOf rest) k))) end)
+              (a env i ∙ ap (λ (k : Borrow). need (leb (suc (length (chainOf rest))) maxLinks) (42, i) >>= λ _. ok (environmentOf env, some (typeOf (exclusive ∷ chainOf rest) k))) end)
 
   -- ---- a readable place
 
   module _ (R : Read nv (environmentOf env) i p rest) where
     -- Shared borrow (LANGUAGE 3.21).
-    pub shared-there : (x : ℕ) → x ≡ p .root → (r : Roots) → ((y : ℕ) → has r y ≡ eqb x y) → (v : Verdict)
-        → Answers v (atMost8 i (λ e. typeOf (shared ∷ chainOf rest) (endIn e (shared ∷ chainOf rest) r))) → answered env v ≡ judgeShared nv (environmentOf env) i p
+    pub shared-there : (x : ℕ) → x ≡ p .root → (r : Roots) → ((y : ℕ) → has r y ≡ eqb x y) → (v : verdicts.Told)
+        → Answers v (atMost8 (λ e. typeOf (shared ∷ chainOf rest) (endIn e (shared ∷ chainOf rest) r))) → answered env i v ≡ judgeShared nv (environmentOf env) i p
     unfolding judgeShared need _>>=_ borrowEnd leadingBoxes
     shared-there x at r o v a =
         let end : sharedOf (placesOf 128 (has r) (longAt env) (length (chainOf rest))) ≡ sharedOf (p ∷ []) = ap sharedOf (borrowed (R .named) x at r o) in
         rw (R .is, R .named .after)
-        (a env ∙ ap (λ (k : Borrow). need (leb (suc (length (chainOf rest))) maxLinks) (42, i) >>= λ _. ok (environmentOf env, some (typeOf (shared ∷ chainOf rest) k))) end)
+        (a env i ∙ ap (λ (k : Borrow). need (leb (suc (length (chainOf rest))) maxLinks) (42, i) >>= λ _. ok (environmentOf env, some (typeOf (shared ∷ chainOf rest) k))) end)
 
     -- Copy (LANGUAGE 3.19).
     pub copy-refused : copies (chainOf rest) ≡ false → judgeCopy nv (environmentOf env) i p ≡ err (37, i)
@@ -254,90 +265,34 @@ module _ (env : List ℕ) (nv : ℕ) (T : NeatTable env nv) (i : ℕ) (p : Place
     copy-refused h = rw (R .is, R .named .after, h)
 
     module _ (copied : copies (chainOf rest) ≡ true) where
-      copy-is : judgeCopy nv (environmentOf env) i p ≡ ok (environmentOf env, some (typeOf (chainOf rest) (borrowEnd (chainOf rest) (borrowsAt (environmentOf env) (R .to)))))
+      pub copy-is : judgeCopy nv (environmentOf env) i p ≡ ok (environmentOf env, some (typeOf (chainOf rest) (borrowEnd (chainOf rest) (borrowsAt (environmentOf env) (R .to)))))
       unfolding judgeCopy need _>>=_
       copy-is = rw (R .is, R .named .after, copied)
 
       pub copy-number : isNumber (chainOf rest) ≡ true → judgeCopy nv (environmentOf env) i p ≡ ok (environmentOf env, some numberTy)
       copy-number h = copy-is ∙ ap (λ (t : Ty). ok (environmentOf env, some t)) (number-type (chainOf rest) (borrowsAt (environmentOf env) (R .to)) h)
 
-      -- Where the place leads, by a search from its root with the links left after it.
-      module _ (x : ℕ) (at : x ≡ p .root) (m : ℕ) (left : m ≡ length (chainOf rest)) where
-        on-chain : drop (p .follows) (chainOf (linksAt env (p .root))) ≡ chainOf rest
-        on-chain = ap (λ (v : Variable). drop (p .follows) (v .chain)) (sym (variable-is (R .named))) ∙ R .named .after
+      module _ (x : ℕ) (at : x ≡ p .root) (f : ℕ) (follows : f ≡ p .follows) (e : Ends) (S : Searched nv (environmentOf env) x (longAt env x - f) false e) where
+        -- Such a search finds nothing moved away, since the value is whole; the rule would refuse it likewise.
+        pub copy-moved : e ≡ ends.MovedAway → judgeCopy nv (environmentOf env) i p ≡ err (33, i)
+        unfolding judgeCopy judgeReadable _>>=_
+        copy-moved h = rw (place-moved (R .named) x at f follows e S h)
 
-        long-enough : p .follows ≤ length (chainOf (linksAt env (p .root)))
-        long-enough = subst (λ (v : Variable). p .follows ≤ length (v .chain)) (variable-is (R .named)) (R .named .long)
+        module _ (s : Roots) (found : e ≡ ends.At s) where
+          there : PlaceFound nv (environmentOf env) p (linksAt env x) rest s (judgePlace nv (environmentOf env) i p)
+          there = place-there (R .named) x at f follows e S s found (linksAt env x) refl
 
-        pub search-fits : m ≤ length (chainOf (linksAt env x))
-        search-fits = rest-fits (p .follows) (chainOf (linksAt env (p .root))) (chainOf (linksAt env x)) rest m (ap (λ (y : ℕ). chainOf (linksAt env y)) (sym at)) on-chain left
+          pub ends-low : (y : ℕ) → has s y ≡ true → y < nv
+          ends-low = there .low
 
-        module _ (e : Ends) (S : Searched nv (environmentOf env) x m false e) where
-          -- Such a search finds nothing moved away, since the value is whole; the rule would refuse it likewise.
-          pub copy-moved : e ≡ ends.MovedAway → judgeCopy nv (environmentOf env) i p ≡ err (33, i)
-          unfolding judgeCopy judgeReadable _>>=_
-          copy-moved h = rw (place-moved env nv T i p x at (linksAt env (p .root)) rest (named-live (R .named) (p .root) refl) refl long-enough on-chain m left e S h)
-
-          module _ (s : Roots) (found : e ≡ ends.At s) where
-            there : PlaceFound nv (environmentOf env) p (linksAt env (p .root)) rest s (judgePlace nv (environmentOf env) i p)
-            there = place-there env nv T i p x at (linksAt env (p .root)) rest (named-live (R .named) (p .root) refl) refl long-enough on-chain m left e S s found
-
-            pub ends-low : (y : ℕ) → has s y ≡ true → y < nv
-            ends-low = there .low
-
-            pub copy-borrow : isNumber (chainOf rest) ≡ false → (r : Roots) → BorrowedAt env s r
-                → judgeCopy nv (environmentOf env) i p ≡ ok (environmentOf env, some (typeOf (chainOf rest) (endIn env (chainOf rest) r)))
-            copy-borrow h r B =
-                let l = paths.located (R .named .variable) (R .to) in
-                let placed = readable-place nv (environmentOf env) i p l (R .is) in
-                let same : there .located ≡ l = (let z = sym (there .is) ∙ placed in cc) in
-                let L = led (T .1 .1) i p l placed in
-                let to : SameSet (R .to) (placesOf nv (has s) (lengths (environmentOf env)) (length (chainOf rest))) =
-                subst (λ (k : rules.Located). SameSet (k .to) (placesOf nv (has s) (lengths (environmentOf env)) (length (chainOf rest)))) same (there .to) in
-                let all = borrows-there env nv (chainOf rest) (R .to) s r (λ q k. let z = L .ends q k in (subst (λ (ks : List Link). Lies (environmentOf env) ks q) (R .named .after) (z .0), z .1)) to ends-low B (copied-borrow (chainOf rest) copied h) in
-                copy-is ∙ ap (λ (ps : List Place). ok (environmentOf env, some (typeOf (chainOf rest) (borrowEnd (chainOf rest) ps)))) all
-
--- ---- move (LANGUAGE 3.20), test by test
-
-module _ (env : List ℕ) (nv i : ℕ) (p : Place) (is : environmentOf env (p .root) ≡ live (variableAt env (p .root))) where
-  abbrev chain : List Link
-  chain = chainOf (linksAt env (p .root))
-
-  pub move-short : length chain < p .follows → judgeMove nv (environmentOf env) i p ≡ err (32, i)
-  unfolding judgeMove inScope need _>>=_
-  move-short l = rw (is, lt-leb (p .follows) (length chain) l)
-
-  module _ (long : p .follows ≤ length chain) (links f boxes : ℕ) (same : links ≡ linksAt env (p .root)) (follows : f ≡ p .follows) (count : boxes ≡ leadingBoxes (chainOf links)) where
-    boxes-is : boxes ≡ leadingBoxes chain
-    boxes-is = count ∙ ap (λ (l : ℕ). leadingBoxes (chainOf l)) same
-
-    pub move-passed : boxes < f → judgeMove nv (environmentOf env) i p ≡ err (38, i)
-    unfolding judgeMove inScope need _>>=_
-    move-passed l = rw (is, le-leb (p .follows) (length chain) long, lt-leb (p .follows) (leadingBoxes chain) (omega (arith, boxes-is)))
-
-    pub own-follows : f ≤ boxes → p .follows ≤ leadingBoxes chain
-    own-follows l = omega (arith, boxes-is)
-
-    module _ (own : f ≤ boxes) (x : ℕ) (at : x ≡ p .root) (w : Bool) (whole : w ≡ valueWhole nv (environmentOf env) x (variableAt env x)) where
-      inside : p .follows ≤ leadingBoxes chain
-      inside = own-follows own
-
-      whole-here : (d : Bool) → w ≡ d → valueWhole nv (environmentOf env) (p .root) (variableAt env (p .root)) ≡ d
-      whole-here d h = ap (λ (y : ℕ). valueWhole nv (environmentOf env) y (variableAt env y)) (sym at) ∙ sym whole ∙ h
-
-      pub move-moved : w ≡ false → judgeMove nv (environmentOf env) i p ≡ err (33, i)
-      unfolding judgeMove inScope need _>>=_
-      move-moved h = rw (is, le-leb (p .follows) (length chain) long, le-leb (p .follows) (leadingBoxes chain) inside, whole-here false h)
-
-      module _ (all : w ≡ true) (b : Bool) (barred : b ≡ writeBarred nv (environmentOf env) x) where
-        barred-here : (d : Bool) → b ≡ d → writeBarred nv (environmentOf env) (p .root) ≡ d
-        barred-here d h = ap (writeBarred nv (environmentOf env)) (sym at) ∙ sym barred ∙ h
-
-        pub move-barred : b ≡ true → judgeMove nv (environmentOf env) i p ≡ err (35, i)
-        unfolding judgeMove inScope need _>>=_
-        move-barred h = rw (is, le-leb (p .follows) (length chain) long, le-leb (p .follows) (leadingBoxes chain) inside, whole-here true all, barred-here true h)
-
-        pub move-there : b ≡ false
-            → judgeMove nv (environmentOf env) i p ≡ ok (update (environmentOf env) (p .root) (live (movedAway (variableAt env (p .root)) (p .follows))), some (typeOf (drop (p .follows) chain) (variableAt env (p .root) .borrow)))
-        unfolding judgeMove inScope need _>>=_
-        move-there h = rw (is, le-leb (p .follows) (length chain) long, le-leb (p .follows) (leadingBoxes chain) inside, whole-here true all, barred-here false h)
+          pub copy-borrow : isNumber (chainOf rest) ≡ false → (r : Roots) → BorrowedAt env s r
+              → judgeCopy nv (environmentOf env) i p ≡ ok (environmentOf env, some (typeOf (chainOf rest) (endIn env (chainOf rest) r)))
+          copy-borrow h r B =
+              let l = paths.located (R .named .variable) (R .to) in
+              let placed = readable-place nv (environmentOf env) i p l (R .is) in
+              let same : there .located ≡ l = (let z = sym (there .is) ∙ placed in cc) in
+              let L = led (T .1 .1) i p l placed in
+              let to : SameSet (R .to) (placesOf nv (has s) (lengths (environmentOf env)) (length (chainOf rest))) =
+              subst (λ (k : rules.Located). SameSet (k .to) (placesOf nv (has s) (lengths (environmentOf env)) (length (chainOf rest)))) same (there .to) in
+              let all = borrows-there env nv (chainOf rest) (R .to) s r (λ q k. let z = L .ends q k in (subst (λ (ks : List Link). Lies (environmentOf env) ks q) (R .named .after) (z .0), z .1)) to ends-low B (copied-borrow (chainOf rest) copied h) in
+              copy-is ∙ ap (λ (ps : List Place). ok (environmentOf env, some (typeOf (chainOf rest) (borrowEnd (chainOf rest) ps)))) all

@@ -3,37 +3,26 @@ use Prim.Native.Nat.{ℕ, zero, suc, _%_, _≤_, _<_}
 use native.Mathlib.Omega.{arith}
 use native.Mathlib.Decide.{ℕ-discrete}
 use mathlib.Core.Path.{_≡_, refl, sym, ap, ap₂, _∙_, subst}
-use mathlib.Core.Logic.{_⊎_, inl, inr}
+use mathlib.Core.Logic.{inl, inr}
 use mathlib.Core.Bool.{Bool, true, false, _&&_}
 use mathlib.Core.List.{List}
 use lib.Dec.{leb, eqb}
-use borrow.Author.Tests.{eqb-true, eq-eqb, ne-eqb, le-leb, leb-true}
+use borrow.Author.Tests.{eqb-true, le-leb, leb-true}
 use Rattle.reader.specs.Result.{pick}
 use Rattle.rules.specs.declared.roots.Roots.{Roots}
-use Rattle.rules.specs.Environment.{Variable, free, used, live, levelOf}
+use Rattle.rules.specs.Environment.{Variable, live}
 use Rattle.rules.specs.Choice.{earlier}
-use Rattle.rules.specs.Masks.{has}
+use Rattle.rules.specs.Chains.{chainOf, isExclusive}
+use Rattle.rules.specs.Masks.{has, isEmpty}
 use Rattle.rules.specs.Table.{entryWord, rootsAt, holdersAt, noteAt, variableAt, slotAs, environmentOf, Noted, HolderNoted, SameLinks, putAt, putSet}
+use Rattle.rules.specs.Kept.{keptMovedFrom, keptRoots, PutKept, Exchanged, RootsAdded}
+use Rattle.rules.proofs.MaskLaws.{none-in}
+use Rattle.rules.proofs.RootLaws.{or-true, or-right}
 use Rattle.rules.proofs.EntryLaws.{status-live}
+use Rattle.rules.proofs.TableLaws as table
+use Rattle.rules.proofs.WordLaws.{put-elsewhere, Put, put-off, PutSet, set-off, roots-put, roots-same, holders-same}
 
--- ---- one word put
-
-module _ (words : ℕ → ℕ → ℕ) (x k d : ℕ) where
-  put-here : putAt words x k d x k ≡ d
-  unfolding putAt
-  put-here = rw (eq-eqb x x refl, eq-eqb k k refl) refl
-
-  put-row : (y j : ℕ) → (x ≡ y → ⊥) → putAt words x k d y j ≡ words y j
-  unfolding putAt
-  put-row y j n = rw (ne-eqb x y n) refl
-
-  put-word : (y j : ℕ) → (k ≡ j → ⊥) → putAt words x k d y j ≡ words y j
-  unfolding putAt
-  put-word y j n = go (eqb x y) (eqb k j) (ne-eqb k j n)
-    where
-      go : (a b : Bool) → b ≡ false → pick (a && b) d (words y j) ≡ words y j
-      go true b e = ap (λ (c : Bool). pick c d (words y j)) e
-      go false b e = refl
+-- ---- words put
 
 -- The word that stands there already.
 pub put-same : (words : ℕ → ℕ → ℕ) (x k d : ℕ) → d ≡ words x k → (y j : ℕ) → words y j ≡ putAt words x k d y j
@@ -57,13 +46,35 @@ earlier-second a b h = go (leb a b) refl
     go true e = let z = leb-true a b e in omega arith
     go false e = refl
 
--- Only from where x is moved away: the roots stand.
-pub moved-roots : (env env₁ : List ℕ) (x d : ℕ) → ((y j : ℕ) → j < 8 → entryWord env₁ y j ≡ putAt (entryWord env) x 4 d y j) → (y : ℕ) → rootsAt env₁ y ≡ rootsAt env y
-moved-roots env env₁ x d W y = ap₂ (λ (l g : ℕ). record { low = l; high = g })
-    (W y 2 (omega arith) ∙ put-word (entryWord env) x 4 d y 2 (λ e. omega arith))
-    (W y 6 (omega arith) ∙ put-word (entryWord env) x 4 d y 6 (λ e. omega arith))
+-- The state of x put: from where it is moved away, and its roots.
+module _ (words : ℕ → ℕ → ℕ) (x d : ℕ) (s : Roots) where
+  state-off : (y j : ℕ) → (x ≡ y → 2 ≡ j → ⊥) → (x ≡ y → 4 ≡ j → ⊥) → (x ≡ y → 6 ≡ j → ⊥) → putSet (putAt words x 4 d) x 2 s y j ≡ words y j
+  state-off y j a b c =
+      put-elsewhere (putAt (putAt words x 4 d) x 2 (s .low)) x 6 (s .high) y j c
+      ∙ put-elsewhere (putAt words x 4 d) x 2 (s .low) y j a
+      ∙ put-elsewhere words x 4 d y j b
 
--- ---- the state of one row put
+  state-moved : putSet (putAt words x 4 d) x 2 s x 4 ≡ d
+  state-moved =
+      put-elsewhere (putAt (putAt words x 4 d) x 2 (s .low)) x 6 (s .high) x 4 (λ p q. omega arith)
+      ∙ put-elsewhere (putAt words x 4 d) x 2 (s .low) x 4 (λ p q. omega arith)
+      ∙ table.put-there words x 4 d
+
+  state-low : putSet (putAt words x 4 d) x 2 s x 2 ≡ s .low
+  state-low = put-elsewhere (putAt (putAt words x 4 d) x 2 (s .low)) x 6 (s .high) x 2 (λ p q. omega arith) ∙ table.put-there (putAt words x 4 d) x 2 (s .low)
+
+  state-high : putSet (putAt words x 4 d) x 2 s x 6 ≡ s .high
+  state-high = table.put-there (putAt (putAt words x 4 d) x 2 (s .low)) x 6 (s .high)
+
+  -- The state that it has already.
+  state-same : d ≡ words x 4 → s .low ≡ words x 2 → s .high ≡ words x 6 → (y j : ℕ) → words y j ≡ putSet (putAt words x 4 d) x 2 s y j
+  state-same e l h y j =
+      put-same words x 4 d e y j
+      ∙ put-same (putAt words x 4 d) x 2 (s .low) (l ∙ sym (put-elsewhere words x 4 d x 2 (λ p q. omega arith))) y j
+      ∙ put-same (putAt (putAt words x 4 d) x 2 (s .low)) x 6 (s .high)
+      (h ∙ sym (put-elsewhere (putAt words x 4 d) x 2 (s .low) x 6 (λ p q. omega arith) ∙ put-elsewhere words x 4 d x 6 (λ p q. omega arith))) y j
+
+-- ---- a step that changes no more than the state of one row
 
 -- The words that no such step changes: status, links and level.
 abbrev pub SameRow : List ℕ → List ℕ → ℕ → Type 0
@@ -73,99 +84,173 @@ SameRow env env′ y = (entryWord env′ y 0 ≡ entryWord env y 0) × (entryWor
 abbrev pub SameState : List ℕ → List ℕ → ℕ → Type 0
 SameState env env′ y = (entryWord env′ y 4 ≡ entryWord env y 4) × (rootsAt env′ y ≡ rootsAt env y)
 
-pub record StatePut (n : ℕ) (env : List ℕ) (x d : ℕ) (s : Roots) (env′ : List ℕ) : Type 0 where
-  pub fixed : (y : ℕ) → SameRow env env′ y
-  pub here : (entryWord env′ x 4 ≡ d) × (rootsAt env′ x ≡ s)
-  pub there : (y : ℕ) → (x ≡ y → ⊥) → SameState env env′ y
-  pub noted : Noted env′ n
+pub record RowPut (n : ℕ) (env : List ℕ) (x : ℕ) (env′ : List ℕ) : Type 0 where
+  pub others : (y k : ℕ) → k < 8 → (k ≡ 3 → ⊥) → (k ≡ 7 → ⊥) → (y ≡ x → (k ≡ 2 → ⊥) × (k ≡ 4 → ⊥) × (k ≡ 6 → ⊥)) → entryWord env′ y k ≡ entryWord env y k
+  pub notes : (y : ℕ) → n ≤ y → noteAt env′ y ≡ noteAt env y
+  pub held : (r y : ℕ) → r < n → has (holdersAt env r) y ≡ true → has (holdersAt env′ r) y ≡ true
 
-same-level : (env env′ : List ℕ) (y : ℕ) → SameRow env env′ y → levelOf (environmentOf env′ y) ≡ levelOf (environmentOf env y)
-unfolding environmentOf slotAs levelOf
-same-level env env′ y h = ap (λ (s : ℕ). levelOf (slotAs s (variableAt env′ y))) (h .0) ∙ go (eqb (entryWord env y 0) 0) (eqb (entryWord env y 0) 1)
-  where
-    go : (a b : Bool) → levelOf (pick a free (pick b used (live (variableAt env′ y)))) ≡ levelOf (pick a free (pick b used (live (variableAt env y))))
-    go true b = refl
-    go false true = refl
-    go false false = h .2
-
-module _ (n : ℕ) (env env₁ env₂ env₃ : List ℕ) (x d : ℕ) (s new : Roots)
-    (W₁ : (y j : ℕ) → j < 8 → entryWord env₁ y j ≡ putAt (entryWord env) x 4 d y j)
-    (W₂ : (y j : ℕ) → j < 8 → entryWord env₂ y j ≡ putSet (entryWord env₁) x 2 s y j)
-    (H : HolderNoted n env₂ x new env₃) where
-  -- Before holders are noted.
-  kept-word : (y j : ℕ) → j < 8 → (2 ≡ j → ⊥) → (4 ≡ j → ⊥) → (6 ≡ j → ⊥) → entryWord env₂ y j ≡ entryWord env y j
-  kept-word y j l a b c =
-      W₂ y j l ∙ put-word (putAt (entryWord env₁) x 2 (s .low)) x 6 (s .high) y j c ∙ put-word (entryWord env₁) x 2 (s .low) y j a
-      ∙ W₁ y j l ∙ put-word (entryWord env) x 4 d y j b
-
-  kept-row : (y j : ℕ) → j < 8 → (x ≡ y → ⊥) → entryWord env₂ y j ≡ entryWord env y j
-  kept-row y j l n =
-      W₂ y j l ∙ put-row (putAt (entryWord env₁) x 2 (s .low)) x 6 (s .high) y j n ∙ put-row (entryWord env₁) x 2 (s .low) y j n
-      ∙ W₁ y j l ∙ put-row (entryWord env) x 4 d y j n
-
-  entry : (y j : ℕ) → j < 8 → (3 ≡ j → ⊥) → (7 ≡ j → ⊥) → entryWord env₃ y j ≡ entryWord env₂ y j
-  entry y j l a b = H .entries y j l (λ e. a (sym e)) (λ e. b (sym e))
-
-  put-fixed : (y : ℕ) → SameRow env env₃ y
-  put-fixed y = (
-    entry y 0 (omega arith) (λ e. omega arith) (λ e. omega arith) ∙ kept-word y 0 (omega arith) (λ e. omega arith) (λ e. omega arith) (λ e. omega arith),
-    entry y 1 (omega arith) (λ e. omega arith) (λ e. omega arith) ∙ kept-word y 1 (omega arith) (λ e. omega arith) (λ e. omega arith) (λ e. omega arith),
-    entry y 5 (omega arith) (λ e. omega arith) (λ e. omega arith) ∙ kept-word y 5 (omega arith) (λ e. omega arith) (λ e. omega arith) (λ e. omega arith),
+module _ (n : ℕ) (env : List ℕ) (x : ℕ) (env′ : List ℕ) (R : RowPut n env x env′) where
+  pub row-fixed : (y : ℕ) → SameRow env env′ y
+  row-fixed y = (
+    R .others y 0 (omega arith) (λ e. omega arith) (λ e. omega arith) (λ p. (λ e. omega arith, λ e. omega arith, λ e. omega arith)),
+    R .others y 1 (omega arith) (λ e. omega arith) (λ e. omega arith) (λ p. (λ e. omega arith, λ e. omega arith, λ e. omega arith)),
+    R .others y 5 (omega arith) (λ e. omega arith) (λ e. omega arith) (λ p. (λ e. omega arith, λ e. omega arith, λ e. omega arith)),
   )
 
-  put-state : (entryWord env₃ x 4 ≡ d) × (rootsAt env₃ x ≡ s)
-  put-state = (
-    entry x 4 (omega arith) (λ e. omega arith) (λ e. omega arith)
-        ∙ W₂ x 4 (omega arith)
-        ∙ put-word (putAt (entryWord env₁) x 2 (s .low)) x 6 (s .high) x 4 (λ e. omega arith)
-        ∙ put-word (entryWord env₁) x 2 (s .low) x 4 (λ e. omega arith)
-        ∙ W₁ x 4 (omega arith)
-        ∙ put-here (entryWord env) x 4 d,
-    ap₂ (λ (l g : ℕ). record { low = l; high = g })
-        (entry x 2 (omega arith) (λ e. omega arith) (λ e. omega arith)
-        ∙ W₂ x 2 (omega arith)
-        ∙ put-word (putAt (entryWord env₁) x 2 (s .low)) x 6 (s .high) x 2 (λ e. omega arith)
-        ∙ put-here (entryWord env₁) x 2 (s .low))
-        (entry x 6 (omega arith) (λ e. omega arith) (λ e. omega arith) ∙ W₂ x 6 (omega arith) ∙ put-here (putAt (entryWord env₁) x 2 (s .low)) x 6 (s .high)),
+  pub row-there : (y : ℕ) → (x ≡ y → ⊥) → SameState env env′ y
+  row-there y q = (
+    R .others y 4 (omega arith) (λ e. omega arith) (λ e. omega arith) (λ p. absurd (q (sym p))),
+    roots-same env env′ y (R .others y 2 (omega arith) (λ e. omega arith) (λ e. omega arith) (λ p. absurd (q (sym p)))) (R .others y 6 (omega arith) (λ e. omega arith) (λ e. omega arith) (λ p. absurd (q (sym p)))),
   )
 
-  put-there : (y : ℕ) → (x ≡ y → ⊥) → SameState env env₃ y
-  put-there y n = (
-    entry y 4 (omega arith) (λ e. omega arith) (λ e. omega arith) ∙ kept-row y 4 (omega arith) n,
-    ap₂ (λ (l g : ℕ). record { low = l; high = g })
-        (entry y 2 (omega arith) (λ e. omega arith) (λ e. omega arith) ∙ kept-row y 2 (omega arith) n)
-        (entry y 6 (omega arith) (λ e. omega arith) (λ e. omega arith) ∙ kept-row y 6 (omega arith) n),
-  )
-
-  still-held : (r y : ℕ) → r < n → has (holdersAt env r) y ≡ true → has (holdersAt env₃ r) y ≡ true
-  still-held r y l h = H .kept r y l (ap₂ (λ (a b : ℕ). has (record { low = a; high = b }) y)
-      (kept-word r 3 (omega arith) (λ e. omega arith) (λ e. omega arith) (λ e. omega arith))
-      (kept-word r 7 (omega arith) (λ e. omega arith) (λ e. omega arith) (λ e. omega arith)) ∙ h)
-
-  same-note : (y : ℕ) → n ≤ y → noteAt env₃ y ≡ noteAt env y
-  same-note y l = H .notes y l ∙ kept-word y 7 (omega arith) (λ e. omega arith) (λ e. omega arith) (λ e. omega arith)
-
-  -- Each root put was recorded by x before, or is noted.
-  pub state-put : ((r : ℕ) → has s r ≡ true → (has (rootsAt env x) r ≡ true) ⊎ (has new r ≡ true)) → Noted env n → StatePut n env x d s env₃
-  state-put old N = record {
-    fixed = put-fixed;
-    here = put-state;
-    there = put-there;
-    noted = record {
-      held = λ y r l m st h. at y r l m (subst (λ (k : ℕ). 2 ≤ k) (put-fixed y .0) st) h (ℕ-discrete x y);
-      levels = λ y. subst (λ (k : ℕ). levelOf (environmentOf env₃ y) ≤ k) (sym (same-note n (omega arith))) (subst (λ (k : ℕ). k ≤ noteAt env n) (sym (same-level env env₃ y (put-fixed y))) (N .levels y));
-      most = subst (λ (k : ℕ). k ≤ n) (sym (same-note (suc n) (omega arith))) (N .most);
-      untaken = λ y l. put-fixed y .0 ∙ N .untaken y (subst (λ (k : ℕ). k ≤ y) (same-note (suc n) (omega arith)) l);
-    };
+  -- The notes stay right if those of x are: status, links and the two last rows are as before.
+  row-noted : x < n → (2 ≤ entryWord env x 0 → (r : ℕ) → r < n → has (rootsAt env′ x) r ≡ true → has (holdersAt env′ r) x ≡ true) → Noted env n → Noted env′ n
+  row-noted inside own N = record {
+    held = λ y r l m st h. at y r l m (subst (λ (k : ℕ). 2 ≤ k) (row-fixed y .0) st) h (ℕ-discrete x y);
+    exclusives = λ y st h. ap (λ (k : Roots). has k y) (row-there n (λ e. omega arith) .1) ∙ N .exclusives y (subst (λ (k : ℕ). 2 ≤ k) (row-fixed y .0) st) (ap (λ (w : ℕ). isExclusive (chainOf (w % 4294967296))) (sym (row-fixed y .1)) ∙ h);
+    scope = λ y. ap (λ (k : Roots). has k y) (row-there (suc n) (λ e. omega arith) .1) ∙ N .scope y ∙ ap (leb 2) (sym (row-fixed y .0));
+    most = subst (λ (k : ℕ). k ≤ n) (sym (R .notes (suc n) (omega arith))) (N .most);
+    untaken = λ y l. row-fixed y .0 ∙ N .untaken y (subst (λ (k : ℕ). k ≤ y) (R .notes (suc n) (omega arith)) l);
   }
     where
-      at : (y r : ℕ) → y < n → r < n → 2 ≤ entryWord env y 0 → has (rootsAt env₃ y) r ≡ true → Dec (x ≡ y) → has (holdersAt env₃ r) y ≡ true
-      at y r l m st h (yes e) = subst (λ (z : ℕ). has (holdersAt env₃ r) z ≡ true) e
-          (elim (old r (ap (λ (k : Roots). has k r) (sym (put-state .1)) ∙ ap (λ (z : ℕ). has (rootsAt env₃ z) r) e ∙ h)) [
-            | inl k ↦ still-held r x m (N .held x r (subst (λ (z : ℕ). z < n) (sym e) l) m (subst (λ (z : ℕ). 2 ≤ entryWord env z 0) (sym e) st) k)
-            | inr k ↦ H .new r m k
-          ])
-      at y r l m st h (no q) = still-held r y m (N .held y r l m st (ap (λ (k : Roots). has k r) (sym (put-there y q .1)) ∙ h))
+      at : (y r : ℕ) → y < n → r < n → 2 ≤ entryWord env y 0 → has (rootsAt env′ y) r ≡ true → Dec (x ≡ y) → has (holdersAt env′ r) y ≡ true
+      at y r l m st h (yes e) = subst (λ (z : ℕ). 2 ≤ entryWord env z 0 → has (rootsAt env′ z) r ≡ true → has (holdersAt env′ r) z ≡ true) e (λ a k. own a r m k) st h
+      at y r l m st h (no q) = R .held r y m (N .held y r l m st (ap (λ (k : Roots). has k r) (sym (row-there y q .1)) ∙ h))
+
+pub row-then : (n : ℕ) (env : List ℕ) (x : ℕ) (env₁ env₂ : List ℕ) → RowPut n env x env₁ → RowPut n env₁ x env₂ → RowPut n env x env₂
+row-then n env x env₁ env₂ R S = record {
+  others = λ y k l a b c. S .others y k l a b c ∙ R .others y k l a b c;
+  notes = λ y l. S .notes y l ∙ R .notes y l;
+  held = λ r y l h. S .held r y l (R .held r y l h);
+}
+
+-- Only from where x is moved away.
+module _ (n : ℕ) (env env₁ : List ℕ) (x d : ℕ) (W : Put env x 4 d env₁) where
+  moved-off : (y j : ℕ) → j < 8 → (4 ≡ j → ⊥) → entryWord env₁ y j ≡ entryWord env y j
+  moved-off y j l q = put-off env env₁ x 4 d W y j l (λ p. q)
+
+  pub moved-row : RowPut n env x env₁
+  moved-row = record {
+    others = λ y k l a b c. put-off env env₁ x 4 d W y k l (λ p q. c (sym p) .1 (sym q));
+    notes = λ y l. moved-off y 7 (omega arith) (λ q. omega arith);
+    held = λ r y l h. ap (λ (k : Roots). has k y) (holders-same env env₁ r (moved-off r 3 (omega arith) (λ q. omega arith)) (moved-off r 7 (omega arith) (λ q. omega arith))) ∙ h;
+  }
+
+  pub moved-roots : (y : ℕ) → rootsAt env₁ y ≡ rootsAt env y
+  moved-roots y = roots-same env env₁ y (moved-off y 2 (omega arith) (λ q. omega arith)) (moved-off y 6 (omega arith) (λ q. omega arith))
+
+  pub moved-noted : x < n → Noted env n → Noted env₁ n
+  moved-noted inside N = row-noted n env x env₁ moved-row inside (λ st r l h. moved-row .held r x l (N .held x r inside l st (ap (λ (k : Roots). has k r) (sym (moved-roots x)) ∙ h))) N
+
+-- ---- what is kept of x and what the table has of it exchanged
+
+module _ (n : ℕ) (env kept : List ℕ) (x d w : ℕ) (s u : Roots) (e : d ≡ keptMovedFrom kept x) (f : s ≡ keptRoots kept x) (g : w ≡ entryWord env x 4) (h : u ≡ rootsAt env x) where
+  -- Nothing is written where both are the same.
+  pub exchanged-same : x < n → Noted env n → d ≡ w → s .low ≡ u .low → s .high ≡ u .high → Exchanged n env kept x env kept
+  exchanged-same inside N m lo hi = record {
+    entries = λ y k l a b. state-same (entryWord env) x (keptMovedFrom kept x) (keptRoots kept x) moved (ap (λ (k : Roots). k .low) roots) (ap (λ (k : Roots). k .high) roots) y k;
+    notes = λ y l. refl;
+    held = λ r y l k. k;
+    new = λ st r l k. N .held x r inside l st (ap (λ (q : Roots). has q r) (sym roots) ∙ k);
+    put = record { here = (moved, roots); there = λ y q. (refl, refl) };
+  }
+    where
+      moved : keptMovedFrom kept x ≡ entryWord env x 4
+      moved = sym e ∙ m ∙ g
+
+      both : s ≡ u
+      both = ap₂ (λ (l k : ℕ). record { low = l; high = k }) lo hi
+
+      roots : keptRoots kept x ≡ rootsAt env x
+      roots = sym f ∙ both ∙ h
+
+  module _ (env₁ env₂ env₃ kept′ : List ℕ) (P : PutKept kept x w u kept′) (W₁ : Put env x 4 d env₁) (W₂ : PutSet env₁ x 2 s env₂) (H : HolderNoted n env₂ x s env₃) where
+    words : (y j : ℕ) → j < 8 → entryWord env₂ y j ≡ putSet (putAt (entryWord env) x 4 d) x 2 s y j
+    words y j l =
+        W₂ y j l
+        ∙ table.put-same (putAt (entryWord env₁) x 2 (s .low)) (putAt (putAt (entryWord env) x 4 d) x 2 (s .low)) x 6 (s .high) y j
+        (table.put-same (entryWord env₁) (putAt (entryWord env) x 4 d) x 2 (s .low) y j (W₁ y j l))
+
+    stands : (y j : ℕ) → j < 8 → (2 ≡ j → ⊥) → (4 ≡ j → ⊥) → (6 ≡ j → ⊥) → entryWord env₂ y j ≡ entryWord env y j
+    stands y j l a b c = words y j l ∙ state-off (entryWord env) x d s y j (λ p. a) (λ p. b) (λ p. c)
+
+    pub exchanged-put : Exchanged n env kept x env₃ kept′
+    exchanged-put = record {
+      entries = λ y k l a b. H .entries y k l a b ∙ words y k l ∙ ap₂ (λ (m : ℕ) (t : Roots). putSet (putAt (entryWord env) x 4 m) x 2 t y k) e f;
+      notes = λ y l. H .notes y l ∙ stands y 7 (omega arith) (λ q. omega arith) (λ q. omega arith) (λ q. omega arith);
+      held = λ r y l k. H .kept r y l (ap (λ (q : Roots). has q y) (holders-same env env₂ r (stands r 3 (omega arith) (λ q. omega arith) (λ q. omega arith) (λ q. omega arith)) (stands r 7 (omega arith) (λ q. omega arith) (λ q. omega arith) (λ q. omega arith))) ∙ k);
+      new = λ st r l k. H .new r l (ap (λ (q : Roots). has q r) f ∙ k);
+      put = record { here = (P .here .0 ∙ g, P .here .1 ∙ h); there = P .there };
+    }
+
+module _ (n : ℕ) (env kept : List ℕ) (x : ℕ) (env′ kept′ : List ℕ) (E : Exchanged n env kept x env′ kept′) where
+  pub exchanged-row : RowPut n env x env′
+  exchanged-row = record {
+    others = λ y k l a b c. E .entries y k l a b ∙ state-off (entryWord env) x (keptMovedFrom kept x) (keptRoots kept x) y k (λ p q. c (sym p) .0 (sym q)) (λ p q. c (sym p) .1 (sym q)) (λ p q. c (sym p) .2 (sym q));
+    notes = E .notes;
+    held = E .held;
+  }
+
+  pub exchanged-here : (entryWord env′ x 4 ≡ keptMovedFrom kept x) × (rootsAt env′ x ≡ keptRoots kept x)
+  exchanged-here = (
+    E .entries x 4 (omega arith) (λ q. omega arith) (λ q. omega arith) ∙ state-moved (entryWord env) x (keptMovedFrom kept x) (keptRoots kept x),
+    ap₂ (λ (l k : ℕ). record { low = l; high = k })
+        (E .entries x 2 (omega arith) (λ q. omega arith) (λ q. omega arith) ∙ state-low (entryWord env) x (keptMovedFrom kept x) (keptRoots kept x))
+        (E .entries x 6 (omega arith) (λ q. omega arith) (λ q. omega arith) ∙ state-high (entryWord env) x (keptMovedFrom kept x) (keptRoots kept x)),
+  )
+
+  pub exchanged-noted : x < n → Noted env n → Noted env′ n
+  exchanged-noted inside N = row-noted n env x env′ exchanged-row inside (λ st r l h. E .new st r l (ap (λ (k : Roots). has k r) (sym (exchanged-here .1)) ∙ h)) N
+
+-- ---- roots added
+
+-- What has nothing more adds nothing.
+within : (a b : Bool) → pick a false b ≡ false → a ≡ pick a true b
+within true b h = refl
+within false b h = sym h
+
+module _ (n : ℕ) (env : List ℕ) (x : ℕ) (s a : Roots) (f : a ≡ rootsAt env x) where
+  pub added-none : (more : Roots) → ((y : ℕ) → has more y ≡ pick (has a y) false (has s y)) → isEmpty more ≡ true → x < n → Noted env n → RootsAdded n env x s env
+  added-none more m e inside N = record {
+    entries = λ y k l p q c. refl;
+    roots = same;
+    notes = λ y l. refl;
+    held = λ r y l h. h;
+    new = λ st r l h. N .held x r inside l st (same r ∙ or-right (has (rootsAt env x) r) (has s r) h);
+  }
+    where
+      same : (y : ℕ) → has (rootsAt env x) y ≡ pick (has (rootsAt env x) y) true (has s y)
+      same y = within (has (rootsAt env x) y) (has s y) (ap (λ (k : Roots). pick (has k y) false (has s y)) (sym f) ∙ sym (m y) ∙ none-in more e y)
+
+  module _ (all : Roots) (env₁ env₂ : List ℕ) (U : (y : ℕ) → has all y ≡ pick (has a y) true (has s y)) (W : PutSet env x 2 all env₁) (H : HolderNoted n env₁ x s env₂) where
+    added-off : (y j : ℕ) → j < 8 → (2 ≡ j → ⊥) → (6 ≡ j → ⊥) → entryWord env₁ y j ≡ entryWord env y j
+    added-off y j l p q = set-off env env₁ x 2 all W y j l (λ e. p) (λ e. q)
+
+    pub added-put : RootsAdded n env x s env₂
+    added-put = record {
+      entries = λ y k l p q c. H .entries y k l p q ∙ set-off env env₁ x 2 all W y k l (λ e j. c (sym e) .0 (sym j)) (λ e j. c (sym e) .1 (sym j));
+      roots = λ y. ap (λ (k : Roots). has k y) (roots-same env₁ env₂ x (H .entries x 2 (omega arith) (λ q. omega arith) (λ q. omega arith)) (H .entries x 6 (omega arith) (λ q. omega arith) (λ q. omega arith)) ∙ roots-put env env₁ x all W)
+          ∙ U y
+          ∙ ap (λ (k : Roots). pick (has k y) true (has s y)) f;
+      notes = λ y l. H .notes y l ∙ added-off y 7 (omega arith) (λ q. omega arith) (λ q. omega arith);
+      held = λ r y l h. H .kept r y l (ap (λ (k : Roots). has k y) (holders-same env env₁ r (added-off r 3 (omega arith) (λ q. omega arith) (λ q. omega arith)) (added-off r 7 (omega arith) (λ q. omega arith) (λ q. omega arith))) ∙ h);
+      new = λ st r l h. H .new r l h;
+    }
+
+module _ (n : ℕ) (env : List ℕ) (x : ℕ) (s : Roots) (env′ : List ℕ) (A : RootsAdded n env x s env′) where
+  pub added-row : RowPut n env x env′
+  added-row = record { others = λ y k l a b c. A .entries y k l a b (λ p. (c p .0, c p .2)); notes = A .notes; held = A .held }
+
+  pub added-noted : x < n → Noted env n → Noted env′ n
+  added-noted inside N = row-noted n env x env′ added-row inside own N
+    where
+      own : 2 ≤ entryWord env x 0 → (r : ℕ) → r < n → has (rootsAt env′ x) r ≡ true → has (holdersAt env′ r) x ≡ true
+      own st r l h = elim (or-true (has (rootsAt env x) r) (has s r) (sym (A .roots r) ∙ h)) [
+        | inl k ↦ A .held r x l (N .held x r inside l st k)
+        | inr k ↦ A .new st r l k
+      ]
+
+-- ---- the table before and after
 
 -- The links of no variable change.
 pub fixed-links : (env env′ : List ℕ) → ((y : ℕ) → SameRow env env′ y) → SameLinks env env′

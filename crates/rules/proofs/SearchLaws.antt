@@ -217,8 +217,9 @@ module _ (env : List ℕ) (n : ℕ) (T : NeatTable env n) (root m : ℕ) (is : e
     met = all-reached .0;
     is = all-reached .1;
     moved = λ k. not-all (every (passes deep (environmentOf env)) (placesOf n (all-reached .0) (lengths (environmentOf env)) m)) refl;
-    passed = λ s k. absurd (let z : 1 ≡ 0 = ap (tagOf the-type) k in omega arith);
-    to = λ s k. absurd (let z : 1 ≡ 0 = ap (tagOf the-type) k in omega arith);
+    own = λ k. absurd (let z : 2 ≡ 0 = ap (tagOf the-type) k in omega arith);
+    passed = λ s k. absurd (let z : 2 ≡ 1 = ap (tagOf the-type) k in omega arith);
+    to = λ s k. absurd (let z : 2 ≡ 1 = ap (tagOf the-type) k in omega arith);
   }
     where
       stops : passing env m deep x ≡ false
@@ -240,22 +241,19 @@ module _ (env : List ℕ) (n : ℕ) (T : NeatTable env n) (root m : ℕ) (is : e
     least = λ s a b y k. a y k;
   }
 
-  pub root-ends : (deep : Bool) → passesSlot deep (live (variableAt env root)) (longAt env root - m) ≡ true → longAt env root - m ≤ leadingBoxes (chainOf (linksAt env root))
-      → (one : Roots) → ((y : ℕ) → has one y ≡ eqb root y) → Searched n (environmentOf env) root m deep (ends.At one)
-  root-ends deep p h one oe = record {
+  root-ends : (deep : Bool) → passesSlot deep (live (variableAt env root)) (longAt env root - m) ≡ true → longAt env root - m ≤ leadingBoxes (chainOf (linksAt env root))
+      → Searched n (environmentOf env) root m deep ends.Own
+  root-ends deep p h = record {
     met = eqb root;
     is = root-alone h;
-    moved = λ e. absurd (let z : 0 ≡ 1 = ap (tagOf the-type) e in omega arith);
-    passed = λ s e.
-        every-root n (eqb root) (environmentOf env) m (passes deep (environmentOf env)) .1 (λ x l k. ap (passing env m deep) (sym (eqb-true root x k)) ∙ passes-at env root m is deep ∙ p);
-    to = λ s e y.
-        let z : one ≡ s = cc in
-        ap (λ (k : Roots). has k y) (sym z) ∙ oe y ∙ at-end y (eqb root y) refl;
+    moved = λ e. absurd (let z : 0 ≡ 2 = ap (tagOf the-type) e in omega arith);
+    own = λ e. (
+      every-root n (eqb root) (environmentOf env) m (passes deep (environmentOf env)) .1 (λ x l k. ap (passing env m deep) (sym (eqb-true root x k)) ∙ passes-at env root m is deep ∙ p),
+      ends-at env root m is h,
+    );
+    passed = λ s e. absurd (let z : 0 ≡ 1 = ap (tagOf the-type) e in omega arith);
+    to = λ s e. absurd (let z : 0 ≡ 1 = ap (tagOf the-type) e in omega arith);
   }
-    where
-      at-end : (y : ℕ) (b : Bool) → eqb root y ≡ b → b ≡ pick b (ending env m y) false
-      at-end y true k = sym (ap (ending env m) (sym (eqb-true root y k)) ∙ ends-at env root m is h)
-      at-end y false k = refl
 
   module _ (deep : Bool) (met todo es : Roots) (S : Searching env root m deep met todo es) where
     -- Nothing is left to do.
@@ -263,7 +261,8 @@ module _ (env : List ℕ) (n : ℕ) (T : NeatTable env n) (root m : ℕ) (is : e
     search-over none = record {
       met = has met;
       is = over (eqb root) (leads (environmentOf env) m) (has met) (has todo) (S .meeting) none;
-      moved = λ e. absurd (let z : 0 ≡ 1 = ap (tagOf the-type) e in omega arith);
+      moved = λ e. absurd (let z : 1 ≡ 2 = ap (tagOf the-type) e in omega arith);
+      own = λ e. absurd (let z : 1 ≡ 0 = ap (tagOf the-type) e in omega arith);
       passed = λ s e. every-root n (has met) (environmentOf env) m (passes deep (environmentOf env)) .1 (λ x l k. S .passed x k (none x));
       to = λ s e y.
           let z : es ≡ s = cc in
@@ -277,7 +276,11 @@ module _ (env : List ℕ) (n : ℕ) (T : NeatTable env n) (root m : ℕ) (is : e
       pub in-reach : InReach x
       in-reach = all-reached .2 x met-x
 
-      module _ (r : Step) (P : Passed deep (variableAt env x) (longAt env x - m) r) where
+      -- The follows from x are its links, as counted, without those left.
+      module _ (links many : ℕ) (le : links ≡ linksAt env x) (ce : many ≡ length (chainOf links)) (r : Step) (step-is : Passed deep (variableAt env x) (many - m) r) where
+        P : Passed deep (variableAt env x) (longAt env x - m) r
+        P = subst (λ (k : ℕ). Passed deep (variableAt env x) (k - m) r) (ce ∙ ap (λ (l : ℕ). length (chainOf l)) le) step-is
+
         pub search-stops : r ≡ step.MovedAway → Searched n (environmentOf env) root m deep ends.MovedAway
         search-stops e = stops-at deep x met-x (P .moved e)
 
@@ -333,11 +336,34 @@ module _ (env : List ℕ) (n : ℕ) (T : NeatTable env n) (root m : ℕ) (is : e
       → Searching env root m deep met more none
   search-goes-on deep P one roots more met none oe re me met-is ne =
       through-again deep one one none (search-begins (eqb root) (leads (environmentOf env) m) (passing env m deep) (ending env m) (has one) (has none) oe ne) root (oe root ∙ eq-eqb root root refl)
-      step.Through P none (λ y. ne y ∙ gone (eqb root y) (has one y) (oe y)) refl roots more met more re me met-is (λ z. ap (λ (b : Bool). pick b true (has more z)) (sym (ne z)))
+      (linksAt env root) (longAt env root) refl refl step.Through P none (λ y. ne y ∙ gone (eqb root y) (has one y) (oe y)) refl roots more met more re me met-is (λ z. ap (λ (b : Bool). pick b true (has more z)) (sym (ne z)))
     where
       gone : (q b : Bool) → b ≡ q → false ≡ pick q false b
       gone true b e = refl
       gone false b e = sym e
+
+-- ---- from the root of a place, with its follows: left are the links of the root without them
+
+module _ (env : List ℕ) (n : ℕ) (T : NeatTable env n) (root f : ℕ) (is : environmentOf env root ≡ live (variableAt env root)) (fits : f ≤ longAt env root) (r : Step) (P : Passed false (variableAt env root) f r) where
+  at-root : (k : ℕ) → k ≡ longAt env root → Passed false (variableAt env root) (longAt env root - (k - f)) r
+  at-root k e = subst (λ (g : ℕ). Passed false (variableAt env root) g r) (omega arith) P
+
+  pub place-stops : r ≡ step.MovedAway → Searched n (environmentOf env) root (longAt env root - f) false ends.MovedAway
+  place-stops e = root-stops env n T root (longAt env root - f) is (omega arith) false (at-root (longAt env root) refl .moved e)
+
+  pub place-ends : r ≡ step.Here → Searched n (environmentOf env) root (longAt env root - f) false ends.Own
+  place-ends e = let here = at-root (longAt env root) refl .here e in root-ends env n T root (longAt env root - f) is (omega arith) false (here .0) (here .1)
+
+  -- Beyond the borrow link, with the links of the root as counted.
+  module _ (links many : ℕ) (le : links ≡ linksAt env root) (ce : many ≡ length (chainOf links)) where
+    counted : many ≡ longAt env root
+    counted = ce ∙ ap (λ (l : ℕ). length (chainOf l)) le
+
+    pub beyond-asks : r ≡ step.Through → (many - f ≤ longAt env root) × Passed false (variableAt env root) (longAt env root - (many - f)) step.Through
+    beyond-asks e = (omega (arith, counted), subst (λ (k : Step). Passed false (variableAt env root) (longAt env root - (many - f)) k) e (at-root many counted))
+
+    pub beyond-found : (found : Ends) → Searched n (environmentOf env) root (many - f) false found → Searched n (environmentOf env) root (longAt env root - f) false found
+    beyond-found found S = subst (λ (k : ℕ). Searched n (environmentOf env) root (k - f) false found) counted S
 
 -- ---- whole values
 
@@ -355,12 +381,12 @@ module _ (env : List ℕ) (n : ℕ) (T : NeatTable env n) (x : ℕ) (is : enviro
       W ∙ ap (λ (k : ℕ). every (λ q. wholeSlot (environmentOf env (q .root))) (placesOf n f (lengths (environmentOf env)) k)) z
 
   -- So it is what the search says that asks each variable for all of it.
-  pub whole-found : (r : Ends) → Searched n (environmentOf env) x 0 true r → ((s : Roots) → r ≡ ends.At s → true ≡ whole) × (r ≡ ends.MovedAway → false ≡ whole)
-  whole-found r S = (λ s e. sym (whole-met (S .met) (S .is) ∙ S .passed s e), λ e. sym (whole-met (S .met) (S .is) ∙ S .moved e))
+  pub whole-found : (r : Ends) → Searched n (environmentOf env) x 0 true r → (r ≡ ends.Own → true ≡ whole) × ((s : Roots) → r ≡ ends.At s → true ≡ whole) × (r ≡ ends.MovedAway → false ≡ whole)
+  whole-found r S = (λ e. sym (whole-met (S .met) (S .is) ∙ S .own e .0), λ s e. sym (whole-met (S .met) (S .is) ∙ S .passed s e), λ e. sym (whole-met (S .met) (S .is) ∙ S .moved e))
 
   -- Without a search: something of the variable itself is moved away, or nothing is and it has no borrow link.
   pub moved-there : entryWord env x 4 ≤ leadingBoxes (chainOf (linksAt env x)) → false ≡ whole
-  moved-there h = whole-found ends.MovedAway (root-stops env n T x 0 is (omega arith) true (stops-deep (variableAt env x) (longAt env x - 0) true refl h)) .1 refl
+  moved-there h = whole-found ends.MovedAway (root-stops env n T x 0 is (omega arith) true (stops-deep (variableAt env x) (longAt env x - 0) true refl h)) .2 refl
 
   pub whole-there : leadingBoxes (chainOf (linksAt env x)) < entryWord env x 4 → longAt env x ≡ leadingBoxes (chainOf (linksAt env x)) → true ≡ whole
   unfolding passesSlot wholeSlot holding

@@ -18,7 +18,7 @@ use Rattle.rules.specs.Follow.{isBorrow, ownLink, ownPath, wholeSlot}
 use Rattle.rules.specs.Roots.{linksOf, goesOn, leads}
 use Rattle.rules.specs.Chains.{chainOf}
 use Rattle.rules.specs.Masks.{has}
-use Rattle.rules.specs.Table.{linksAt, longAt, rootsAt, variableAt, environmentOf}
+use Rattle.rules.specs.Table.{entryWord, linksAt, longAt, rootsAt, variableAt, environmentOf}
 use Rattle.rules.specs.Steps.{passesSlot, Passed}
 use Rattle.rules.proofs.EndLaws.{end-rooted}
 
@@ -29,6 +29,13 @@ is-linked [] ps h = absurd (omega arith)
 is-linked (boxed ∷ ks) ps h = is-linked ks ps (omega arith)
 is-linked (shared ∷ ks) ps h = refl
 is-linked (exclusive ∷ ks) ps h = refl
+
+pub boxes-inside : (ks : List Link) → leadingBoxes ks ≤ length ks
+unfolding leadingBoxes
+boxes-inside [] = omega arith
+boxes-inside (boxed ∷ ks) = let z = boxes-inside ks in omega arith
+boxes-inside (shared ∷ ks) = omega arith
+boxes-inside (exclusive ∷ ks) = omega arith
 
 -- ---- what passes
 
@@ -106,3 +113,10 @@ module _ (env : List ℕ) (x m : ℕ) (is : environmentOf env x ≡ live (variab
   pub leads-to-roots : leadingBoxes (chainOf (linksAt env x)) < longAt env x - m → (z : ℕ) → leads (environmentOf env) m x z ≡ has (rootsAt env x) z
   unfolding leads goesOn borrowOf
   leads-to-roots h z = rw (is, lt-ltb (leadingBoxes (chainOf (linksAt env x))) (longAt env x - m) h) (end-rooted env (chainOf (linksAt env x)) (rootsAt env x) z (omega arith))
+
+-- A variable that is whole itself and has a borrow link leads on to the end of its value.
+pub whole-through : (env : List ℕ) (x : ℕ) → leadingBoxes (chainOf (linksAt env x)) < entryWord env x 4 → (longAt env x ≡ leadingBoxes (chainOf (linksAt env x)) → ⊥) → Passed true (variableAt env x) (longAt env x - 0) step.Through
+whole-through env x h n =
+    let z = boxes-inside (chainOf (linksAt env x)) in
+    let l : leadingBoxes (chainOf (linksAt env x)) < longAt env x - 0 = omega (arith, z, n) in
+    step-through (variableAt env x) (longAt env x - 0) true (passes-through (variableAt env x) (longAt env x - 0) true l h (is-linked (chainOf (linksAt env x)) _ (omega (arith, l)))) l

@@ -2,21 +2,24 @@
 use Prim.Native.Nat.{ℕ, suc, _%_, _<_, _≤_}
 use native.Mathlib.Omega.{arith}
 use native.Mathlib.Nat.{mod-eq-of-lt}
-use native.Mathlib.Decide.{ℕ-discrete}
-use mathlib.Core.Path.{_≡_, sym, ap, _∙_, subst}
-use mathlib.Core.Bool.{true, false}
+use native.Mathlib.Decide.{ℕ-discrete, decLt}
+use mathlib.Core.Path.{_≡_, refl, sym, ap, _∙_, subst}
+use mathlib.Core.Bool.{Bool, true, false, true≢false}
 use mathlib.Core.List.{List}
+use lib.Dec.{leb, eqb}
 use lib.ListN.{length}
+use borrow.Author.Tests.{eq-eqb, ne-eqb}
 use Rattle.rules.specs.declared.roots.Roots.{Roots}
 use Rattle.rules.specs.Links.{Link, leadingBoxes}
 use Rattle.rules.specs.Places.{rooted}
-use Rattle.rules.specs.Environment.{places, Slot, live, fresh, levelOf, borrowOf, update}
-use Rattle.rules.specs.Chains.{chainOf}
+use Rattle.rules.specs.Environment.{places, Slot, used, live, fresh, isFree, borrowOf, update}
+use Rattle.rules.specs.Chains.{chainOf, isExclusive}
 use Rattle.rules.specs.Masks.{has}
-use Rattle.rules.specs.Table.{entryWord, linksAt, rootsAt, holdersAt, endIn, variableAt, environmentOf, noteAt, TableFor, HolderNoted, Unrecorded}
+use Rattle.rules.specs.Table.{entryWord, linksAt, rootsAt, holdersAt, endIn, variableAt, environmentOf, noteAt, TableFor, HolderNoted, ExclusiveNoted, MemberAdded, Unrecorded}
+use Rattle.rules.proofs.RootLaws.{or, or-right}
 use Rattle.rules.proofs.EntryLaws.{status-live}
-use Rattle.rules.proofs.WordLaws.{Put, put-at, put-off, PutSet, set-off, roots-put, Raised, raised-off, raised-there, roots-same, holders-same, links-same, end-same-but, slot-same, updated}
-use Rattle.rules.proofs.TableLaws.{SameEntry}
+use Rattle.rules.proofs.WordLaws.{Put, put-at, put-off, PutSet, set-off, roots-put, roots-same, holders-same, links-same, end-same-but, slot-same, updated}
+use Rattle.rules.proofs.TableLaws.{SameEntry, slot-free, free-test, past-status, entry-links, entry-roots, pick-true}
 use Rattle.rules.proofs.NoteLaws.{still-noted}
 
 -- The words of x are put, the others and its note stay.
@@ -66,21 +69,29 @@ module _ (env env₁ env₂ env₃ env₄ env₅ : List ℕ) (x links d level : 
         roots = roots-put env₄ env₅ x s f;
       }
 
-module _ (env : List ℕ) (n x : ℕ) (T : TableFor env n) (inside : x < n) (links level : ℕ) (s : Roots) (U : Unrecorded env x (endIn env (chainOf links) s))
-    (env₁ env₂ env₃ env₄ : List ℕ) (same : length env₄ ≡ length env) (E : Entered env x links (suc (leadingBoxes (chainOf links))) level s env₁)
-    (H : HolderNoted n env₁ x s env₂) (deep : Raised env₂ n level env₃) (high : Raised env₃ (suc n) (suc x) env₄) where
-  -- After the words of x are put only notes change.
-  store-entries : (y : ℕ) → SameEntry env₁ env₄ y
-  store-entries y k l a b = raised-off env₃ env₄ (suc n) (suc x) high y k l (λ p q. b (sym q)) ∙ raised-off env₂ env₃ n level deep y k l (λ p q. b (sym q)) ∙ H .entries y k l a b
+module _ (env : List ℕ) (n x : ℕ) (T : TableFor env n) (inside : x < n) (taken : environmentOf env x ≡ used) (links level : ℕ) (s : Roots)
+    (U : Unrecorded env x (endIn env (chainOf links) s)) (env₁ env₂ env₃ env₄ : List ℕ) (same : length env₄ ≡ length env)
+    (E : Entered env x links (suc (leadingBoxes (chainOf links))) level s env₁)
+    (H : HolderNoted n env₁ x s env₂) (X : ExclusiveNoted n env₂ x links env₃) (M : MemberAdded env₃ (suc n) x env₄) where
+  -- After the words of x are put only notes change, and the sets past the n variables.
+  store-off : (y k : ℕ) → k < 8 → (k ≡ 3 → ⊥) → (k ≡ 7 → ⊥) → (n ≤ y → (k ≡ 2 → ⊥) × (k ≡ 6 → ⊥)) → entryWord env₄ y k ≡ entryWord env₁ y k
+  store-off y k l a b h = M .others y k l (λ q. h (omega arith)) ∙ X .others y k l (λ q. h (omega arith)) ∙ H .entries y k l a b
 
-  store-others : (y : ℕ) → (x ≡ y → ⊥) → SameEntry env env₄ y
-  store-others y q k l a b = store-entries y k l a b ∙ E .apart y k l q
+  store-entries : (y : ℕ) → y < n → SameEntry env₁ env₄ y
+  store-entries y i k l a b = store-off y k l a b (λ h. absurd (omega arith))
 
-  store-holders : (r : ℕ) → r < n → holdersAt env₄ r ≡ holdersAt env₂ r
-  store-holders r l =
+  store-others : (y : ℕ) → y < n → (x ≡ y → ⊥) → SameEntry env env₄ y
+  store-others y i q k l a b = store-entries y i k l a b ∙ E .apart y k l q
+
+  -- Status and links of all others stay.
+  store-apart : (y k : ℕ) → k < 2 → (x ≡ y → ⊥) → entryWord env₄ y k ≡ entryWord env y k
+  store-apart y k l q = store-off y k (omega arith) (λ e. omega arith) (λ e. omega arith) (λ h. (λ e. omega arith, λ e. omega arith)) ∙ E .apart y k (omega arith) q
+
+  store-holders : (r : ℕ) → holdersAt env₄ r ≡ holdersAt env₂ r
+  store-holders r =
       holders-same env₂ env₄ r
-      (raised-off env₃ env₄ (suc n) (suc x) high r 3 (omega arith) (λ p q. omega arith) ∙ raised-off env₂ env₃ n level deep r 3 (omega arith) (λ p q. omega arith))
-      (raised-off env₃ env₄ (suc n) (suc x) high r 7 (omega arith) (λ p q. omega arith) ∙ raised-off env₂ env₃ n level deep r 7 (omega arith) (λ p q. omega arith))
+      (M .others r 3 (omega arith) (λ q. (λ e. omega arith, λ e. omega arith)) ∙ X .others r 3 (omega arith) (λ q. (λ e. omega arith, λ e. omega arith)))
+      (M .others r 7 (omega arith) (λ q. (λ e. omega arith, λ e. omega arith)) ∙ X .others r 7 (omega arith) (λ q. (λ e. omega arith, λ e. omega arith)))
 
   holders-before : (r : ℕ) → holdersAt env₁ r ≡ holdersAt env r
   holders-before r = go (ℕ-discrete x r)
@@ -92,29 +103,39 @@ module _ (env : List ℕ) (n x : ℕ) (T : TableFor env n) (inside : x < n) (lin
   -- The links of the others stay, and those of x are none of a recorded place.
   store-ends : (ks : List Link) (t : Roots) → rooted (places (endIn env ks t)) x ≡ false → endIn env₄ ks t ≡ endIn env ks t
   store-ends ks t h =
-      end-same-but env env₄ x (omega (arith, T .1))
-      (λ y q. links-same env env₄ y (store-others y q 1 (omega arith) (λ k. omega arith) (λ k. omega arith)))
-      ks t h
+      end-same-but env env₄ x (omega (arith, T .1)) (λ y q. links-same env env₄ y (store-apart y 1 (omega arith) q)) ks t h
+
+  store-links : linksAt env₄ x ≡ links
+  store-links = entry-links env₁ env₄ x (store-entries x inside) ∙ E .chain
+
+  store-roots : rootsAt env₄ x ≡ s
+  store-roots = entry-roots env₁ env₄ x (store-entries x inside) ∙ E .roots
 
   store-variable : variableAt env₄ x ≡ fresh (chainOf links) (endIn env (chainOf links) s) level
   store-variable =
       rw (
-        links-same env₁ env₄ x (store-entries x 1 (omega arith) (λ k. omega arith) (λ k. omega arith)) ∙ E .chain,
-        store-entries x 4 (omega arith) (λ k. omega arith) (λ k. omega arith) ∙ E .moved,
-        store-entries x 5 (omega arith) (λ k. omega arith) (λ k. omega arith) ∙ E .block,
-        roots-same env₁ env₄ x (store-entries x 2 (omega arith) (λ k. omega arith) (λ k. omega arith)) (store-entries x 6 (omega arith) (λ k. omega arith) (λ k. omega arith)) ∙ E .roots,
+        store-links,
+        store-entries x inside 4 (omega arith) (λ k. omega arith) (λ k. omega arith) ∙ E .moved,
+        store-entries x inside 5 (omega arith) (λ k. omega arith) (λ k. omega arith) ∙ E .block,
+        store-roots,
         store-ends (chainOf links) s (U .1),
       )
 
   store-status : entryWord env₄ x 0 ≡ 2
-  store-status = store-entries x 0 (omega arith) (λ k. omega arith) (λ k. omega arith) ∙ E .status
+  store-status = store-entries x inside 0 (omega arith) (λ k. omega arith) (λ k. omega arith) ∙ E .status
 
   store-slot : (y : ℕ) → (x ≡ y → ⊥) → environmentOf env₄ y ≡ environmentOf env y
   unfolding borrowOf
-  store-slot y q =
-      slot-same env env₄ y (store-others y q)
-      (λ l. let out : rooted (places (borrowOf (live (variableAt env y)))) x ≡ false = subst (λ (k : Slot). rooted (places (borrowOf k)) x ≡ false) (status-live env y l) (U .0 y) in
-      store-ends (chainOf (linksAt env y)) (rootsAt env y) out)
+  store-slot y q = go (decLt y n)
+    where
+      out : 2 ≤ entryWord env y 0 → rooted (places (borrowOf (live (variableAt env y)))) x ≡ false
+      out l = subst (λ (k : Slot). rooted (places (borrowOf k)) x ≡ false) (status-live env y l) (U .0 y)
+
+      go : Dec (y < n) → environmentOf env₄ y ≡ environmentOf env y
+      go (yes i) = slot-same env env₄ y (store-others y i q) (λ l. store-ends (chainOf (linksAt env y)) (rootsAt env y) (out l))
+      go (no i) =
+          let past = past-status env n T y (omega arith) in
+          slot-free env₄ y (store-apart y 0 (omega arith) q ∙ past) ∙ sym (slot-free env y past)
 
   store-environment : environmentOf env₄ ≡ update (environmentOf env) x (live (fresh (chainOf links) (endIn env (chainOf links) s) level))
   store-environment =
@@ -122,31 +143,50 @@ module _ (env : List ℕ) (n x : ℕ) (T : TableFor env n) (inside : x < n) (lin
       (status-live env₄ x (omega (arith, store-status)) ∙ ap live store-variable)
 
   store-kept : (r y : ℕ) → r < n → has (holdersAt env r) y ≡ true → has (holdersAt env₄ r) y ≡ true
-  store-kept r y l h =
-      ap (λ (k : Roots). has k y) (store-holders r l) ∙ H .kept r y l (ap (λ (k : Roots). has k y) (holders-before r) ∙ h)
+  store-kept r y l h = ap (λ (k : Roots). has k y) (store-holders r) ∙ H .kept r y l (ap (λ (k : Roots). has k y) (holders-before r) ∙ h)
 
   store-own : (r : ℕ) → r < n → 2 ≤ entryWord env₄ x 0 → has (rootsAt env₄ x) r ≡ true → has (holdersAt env₄ r) x ≡ true
-  store-own r l a h =
-      let is : rootsAt env₄ x ≡ s =
-      roots-same env₁ env₄ x (store-entries x 2 (omega arith) (λ k. omega arith) (λ k. omega arith)) (store-entries x 6 (omega arith) (λ k. omega arith) (λ k. omega arith)) ∙ E .roots in
-      ap (λ (k : Roots). has k x) (store-holders r l) ∙ H .new r l (ap (λ (k : Roots). has k r) (sym is) ∙ h)
+  store-own r l a h = ap (λ (k : Roots). has k x) (store-holders r) ∙ H .new r l (ap (λ (k : Roots). has k r) (sym store-roots) ∙ h)
+
+  -- Until its own step each set past the n variables is as it was.
+  sets-before : (y : ℕ) → n ≤ y → rootsAt env₂ y ≡ rootsAt env y
+  sets-before y l =
+      roots-same env env₂ y
+      (H .entries y 2 (omega arith) (λ e. omega arith) (λ e. omega arith) ∙ E .apart y 2 (omega arith) (λ p. omega arith))
+      (H .entries y 6 (omega arith) (λ e. omega arith) (λ e. omega arith) ∙ E .apart y 6 (omega arith) (λ p. omega arith))
+
+  store-exclusives : rootsAt env₄ n ≡ rootsAt env₃ n
+  store-exclusives = roots-same env₃ env₄ n (M .others n 2 (omega arith) (λ q. absurd (omega arith))) (M .others n 6 (omega arith) (λ q. absurd (omega arith)))
+
+  store-scope : (y : ℕ) → has (rootsAt env₄ (suc n)) y ≡ or (has (rootsAt env (suc n)) y) (eqb x y)
+  store-scope y =
+      let before : rootsAt env₃ (suc n) ≡ rootsAt env (suc n) =
+      roots-same env₂ env₃ (suc n) (X .others (suc n) 2 (omega arith) (λ q. absurd (omega arith))) (X .others (suc n) 6 (omega arith) (λ q. absurd (omega arith)))
+      ∙ sets-before (suc n) (omega arith) in
+      M .members y ∙ ap (λ (k : Roots). or (has k y) (eqb x y)) before
+
+  store-note : noteAt env₄ (suc n) ≡ noteAt env (suc n)
+  store-note =
+      M .others (suc n) 7 (omega arith) (λ q. (λ e. omega arith, λ e. omega arith))
+      ∙ X .others (suc n) 7 (omega arith) (λ q. (λ e. omega arith, λ e. omega arith))
+      ∙ H .notes (suc n) (omega arith)
+      ∙ E .apart (suc n) 7 (omega arith) (λ p. omega arith)
+
+  -- A number taken is below the note of the last row.
+  store-below : noteAt env (suc n) ≤ x → ⊥
+  unfolding isFree
+  store-below h = true≢false (sym (eq-eqb (entryWord env x 0) 0 (T .2 .untaken x h)) ∙ free-test env x ∙ ap isFree taken)
 
   store-table : TableFor env₄ n
-  unfolding levelOf
   store-table =
-      let up-n = raised-there env₂ env₃ n level deep in
-      let up-next = raised-there env₃ env₄ (suc n) (suc x) high in
-      let at-n : noteAt env₄ n ≡ noteAt env₃ n = raised-off env₃ env₄ (suc n) (suc x) high n 7 (omega arith) (λ p q. omega arith) in
-      let before-n : noteAt env₂ n ≡ noteAt env n = H .notes n (omega arith) ∙ E .apart n 7 (omega arith) (λ p. omega arith) in
-      let before-next : noteAt env₃ (suc n) ≡ noteAt env (suc n) =
-      raised-off env₂ env₃ n level deep (suc n) 7 (omega arith) (λ p q. omega arith) ∙ H .notes (suc n) (omega arith) ∙ E .apart (suc n) 7 (omega arith) (λ p. omega arith) in
-      let most = T .2 .most in
-      still-noted env n x T inside env₄ (live (fresh (chainOf links) (endIn env (chainOf links) s) level)) same store-environment store-others store-kept store-own
-      (omega (arith, up-n .0))
-      (omega (arith, up-n .1))
-      (omega (arith, up-next .0))
-      (up-next .2 n (omega arith) (omega arith))
-      (λ h. absurd (omega (arith, up-next .1)))
+      still-noted env n x T inside env₄ same store-others (λ y q. store-apart y 0 (omega arith) q) store-kept store-own
+      (λ y h. ap (λ (k : Roots). has k y) store-exclusives ∙ X .kept y (ap (λ (k : Roots). has k y) (sets-before n (omega arith)) ∙ h))
+      (λ l h. ap (λ (k : Roots). has k x) store-exclusives ∙ X .new (ap (λ (k : ℕ). isExclusive (chainOf k)) (sym store-links) ∙ h))
+      (λ y q. store-scope y ∙ ap (λ (b : Bool). or (has (rootsAt env (suc n)) y) b) (ne-eqb x y q) ∙ pick-true (has (rootsAt env (suc n)) y))
+      (store-scope x ∙ or-right (has (rootsAt env (suc n)) x) (eqb x x) (eq-eqb x x refl) ∙ sym (ap (leb 2) store-status))
+      (omega (arith, store-note))
+      (omega (arith, store-note, T .2 .most))
+      (λ h. absurd (store-below (omega (arith, store-note))))
 
   pub stored : (environmentOf env₄ ≡ update (environmentOf env) x (live (fresh (chainOf links) (endIn env (chainOf links) s) level))) × TableFor env₄ n
   stored = (store-environment, store-table)

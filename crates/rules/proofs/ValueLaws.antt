@@ -25,7 +25,7 @@ use Rattle.rules.specs.Masks.{has}
 use Rattle.rules.specs.Chains.{chainOf}
 use Rattle.rules.specs.Steps.{BorrowedAt}
 use Rattle.rules.specs.Table.{linksAt, longAt, rootsAt, placesIn, endIn, variableAt, environmentOf, Unrecorded, SameLinks}
-use Rattle.rules.specs.Verdicts.{typeOf, asValue, answered, RootsIn}
+use Rattle.rules.specs.Verdicts.{typeOf, asValue, answeredAs, RootsIn}
 use Rattle.rules.proofs.Slots.{used≢live}
 use Rattle.rules.proofs.LinkChains.{boxes-drop, same-behind, same-end}
 use Rattle.rules.proofs.SetLaws.{rooted-out, borrows-out, borrows-in}
@@ -86,8 +86,8 @@ module _ (env env′ : List ℕ) (S : SameLinks env env′) where
 
   -- The end of a block (LANGUAGE 3.28).
   pub block-left : (nv level i : ℕ) (v : Value) → livesAt (environmentOf env) (borrowIn nv (asValue env v)) level ≡ true → environmentOf env′ ≡ leave level (environmentOf env)
-      → answered env′ (verdict.Fine v) ≡ judgeBlockEnd nv level (environmentOf env) i (asValue env v)
-  unfolding judgeBlockEnd answered need _>>=_
+      → answeredAs env′ i (verdict.Fine v) ≡ judgeBlockEnd nv level (environmentOf env) i (asValue env v)
+  unfolding judgeBlockEnd answeredAs need _>>=_
   block-left nv level i v h e = rw (h, e, value-kept v)
 
   -- What a move leaves, and its value (LANGUAGE 3.20): the links from the place on, with the variable's borrow end. The code has its root as x.
@@ -131,8 +131,8 @@ unrecorded env nv at level x v t r N u o W e = (
 -- Let (LANGUAGE 3.24): the variable has the value's borrow end.
 pub let-there : (env env′ : List ℕ) (nv level i x : ℕ) (v : Value) (t : ValueType) (r : Roots) → v ≡ value.Of t → places (endIn env (chainOf (t .links)) (t .roots)) ≡ placesIn env (chainOf (t .links)) r
     → environmentOf env′ ≡ update (environmentOf env) x (live (fresh (chainOf (t .links)) (endIn env (chainOf (t .links)) r) level))
-    → answered env′ (verdict.Fine value.None) ≡ judgeLet nv level (environmentOf env) i x (asValue env v)
-unfolding judgeLet answered asValue valued _>>=_
+    → answeredAs env′ i (verdict.Fine value.None) ≡ judgeLet nv level (environmentOf env) i x (asValue env v)
+unfolding judgeLet answeredAs asValue valued _>>=_
 let-there env env′ nv level i x v t r o h e =
     rw o (ap (λ (Δ : Environment). ok (Δ, none)) (e ∙ ap (λ (b : Borrow). update (environmentOf env) x (live (fresh (chainOf (t .links)) b level))) (end-recorded env (chainOf (t .links)) (t .roots) r h)))
 

@@ -14,11 +14,11 @@ use Rattle.reader.specs.Script.{Place}
 use Rattle.rules.specs.declared.roots.Roots.{Roots}
 use Rattle.rules.specs.Links.{Link, boxed, shared, exclusive}
 use Rattle.rules.specs.Places.{rooted}
-use Rattle.rules.specs.Environment.{places, borrowEnd, sharedOf, exclusiveOf, Variable, Slot, free, used, live, update, levelOf}
+use Rattle.rules.specs.Environment.{places, borrowEnd, sharedOf, exclusiveOf, Variable, Slot, free, used, live, update}
 use Rattle.rules.specs.Roots.{left}
 use Rattle.rules.specs.Chains.{chainOf}
 use Rattle.rules.specs.Masks.{has}
-use Rattle.rules.specs.Table.{entryWord, linksAt, longAt, rootsAt, holdersAt, placesIn, endIn, variableAt, slotAs, environmentOf, putAt, putSet, raised}
+use Rattle.rules.specs.Table.{entryWord, linksAt, longAt, rootsAt, holdersAt, placesIn, endIn, variableAt, slotAs, environmentOf, MemberAdded, putAt, putSet, raised}
 use Rattle.rules.proofs.RootLaws.{same-roots, rooted-places}
 use Rattle.rules.proofs.TableLaws.{put-there, SameEntry}
 
@@ -73,6 +73,15 @@ roots-put env env′ x s P = ap₂ setOf (set-low env env′ x 2 s P (omega arit
 
 pub holders-put : (env env′ : List ℕ) (x : ℕ) (s : Roots) → PutSet env x 3 s env′ → holdersAt env′ x ≡ s
 holders-put env env′ x s P = ap₂ setOf (set-low env env′ x 3 s P (omega arith)) (set-high env env′ x 3 s P (omega arith))
+
+-- x is added to the set of a row: what the row had is put again with x.
+pub member-added : (env env′ : List ℕ) (row x : ℕ) (old one all : Roots) → old ≡ rootsAt env row → ((y : ℕ) → has one y ≡ eqb x y)
+    → ((y : ℕ) → has all y ≡ pick (has old y) true (has one y)) → PutSet env row 2 all env′ → MemberAdded env row x env′
+member-added env env′ row x old one all read own more put =
+    record {
+      others = λ y k l h. set-off env env′ row 2 all put y k l (λ p q. h (sym p) .0 (sym q)) (λ p q. h (sym p) .1 (sym q));
+      members = λ y. ap (λ (s : Roots). has s y) (roots-put env env′ row all put) ∙ more y ∙ ap₂ (λ (s : Roots) (b : Bool). pick (has s y) true b) read (own y);
+    }
 
 -- A note that is less is put, any other stays.
 module _ (words : ℕ → ℕ → ℕ) (row least y j : ℕ) where
@@ -188,9 +197,3 @@ unfolding slotAs
 slot-changed f v w a b c zero = sym a
 slot-changed f v w a b c (suc zero) = sym b
 slot-changed f v w a b c (suc (suc n)) = rw (ne-eqb (suc (suc n)) 0 (omega arith), ne-eqb (suc (suc n)) 1 (omega arith)) (sym c)
-
-pub slot-level : (s : ℕ) (v w : Variable) → w .level ≡ v .level → levelOf (slotAs s w) ≡ levelOf (slotAs s v)
-unfolding slotAs levelOf
-slot-level zero v w e = refl
-slot-level (suc zero) v w e = refl
-slot-level (suc (suc n)) v w e = rw (ne-eqb (suc (suc n)) 0 (omega arith), ne-eqb (suc (suc n)) 1 (omega arith)) e

@@ -101,6 +101,12 @@ pub all-long : (env : List ℕ) (roots : Roots) (n : ℕ) (to : Roots) → ((y :
     → (m k : ℕ) → true ≡ every (λ q. livesFor env roots m (levelOf (environmentOf env (q .root)))) (placesOf n (has to) (lengths (environmentOf env)) k)
 all-long env roots n to h m k = sym (all-hold n (has to) (lengths (environmentOf env)) k (λ y. livesFor env roots m (levelOf (environmentOf env y))) (λ y i. h y i m))
 
+-- Without roots there is nothing that could live too short.
+pub none-recorded : (env : List ℕ) (roots : Roots) (n : ℕ) (to : Roots) → isEmpty roots ≡ true
+    → (m k : ℕ) → true ≡ every (λ q. livesFor env roots m (levelOf (environmentOf env (q .root)))) (placesOf n (has to) (lengths (environmentOf env)) k)
+none-recorded env roots n to e =
+    all-long env roots n to (λ y h m. all-hold 128 (has roots) (longAt env) m (λ x. leb (levelOf (environmentOf env x)) (levelOf (environmentOf env y))) (λ x i. absurd (true≢false (sym i ∙ none-in roots e x))))
+
 -- ---- several variables that may be written
 
 -- Those of the set that are not left are widened, all others as before.
@@ -168,7 +174,7 @@ module _ (n : ℕ) (f : ℕ → Bool) (low : (y : ℕ) → f y ≡ true → y < 
       (from-in f long m 0 n x (omega arith) (let z = low x e in omega arith) e)
       (from-in f long m 0 n y (omega arith) (let z = low y k in omega arith) k))
 
-write-one : (Γ : Environment) (x r : ℕ) (b : Borrow) (y : ℕ) → write Γ (place x r ∷ []) b y ≡ update Γ x (refilled (Γ x) b) y
+pub write-one : (Γ : Environment) (x r : ℕ) (b : Borrow) (y : ℕ) → write Γ (place x r ∷ []) b y ≡ update Γ x (refilled (Γ x) b) y
 unfolding write rooted someOf update
 write-one Γ x r b y = go (eqb x y) refl
   where

@@ -1,7 +1,7 @@
 -- A chain of links (LANGUAGE 3.2) in one number: base 3 with the digits 1 box, 2 shared, 3 exclusive, the first link lowest. Each number is
 -- exactly one chain. No rule of the language is stated here.
 use Prim.Native.Nat.{ℕ, zero, suc, _/_, _%_}
-use mathlib.Core.Bool.{Bool}
+use mathlib.Core.Bool.{Bool, true, false}
 use mathlib.Core.List.{List, [], _∷_}
 use mathlib.Core.Option.{Option, none, some}
 use lib.ListN.{length, drop}
@@ -33,6 +33,13 @@ restOf k ks = pick (leb k (length ks)) (some (drop k ks)) none
 unfoldable pub asRest : Rest → Option (List Link)
 asRest (rest.Links n) = some (chainOf n)
 asRest rest.TooShort = none
+
+-- The first borrow link is exclusive.
+unfoldable pub isExclusive : List Link → Bool
+isExclusive [] = false
+isExclusive (boxed ∷ ks) = isExclusive ks
+isExclusive (shared ∷ ks) = false
+isExclusive (exclusive ∷ ks) = true
 
 -- One more link makes at most 8 (LANGUAGE 3.2).
 abbrev pub oneMoreFits : ℕ → Bool

@@ -1,13 +1,16 @@
 -- What is kept of the variables while the other block of a choice is judged (LANGUAGE 3.31): from where each is moved away, and the roots that it
 -- records, 3 words to each of the first `count` numbers. No rule of the language is stated here.
-use Prim.Native.Nat.{ℕ, _+_, _*_, _<_}
+use Prim.Native.Nat.{ℕ, _+_, _*_, _<_, _≤_}
 use mathlib.Core.Path.{_≡_}
+use mathlib.Core.Bool.{true}
 use mathlib.Core.List.{List}
 use lib.ListN.{getD}
 use Rattle.rules.specs.declared.roots.Roots.{Roots}
 use Rattle.rules.specs.Environment.{borrowEnd, Variable, used, live, Environment}
 use Rattle.rules.specs.Roots.{lengths, placesOf, left}
+use Rattle.reader.specs.Result.{pick}
 use Rattle.rules.specs.Masks.{has}
+use Rattle.rules.specs.Table.{entryWord, rootsAt, holdersAt, noteAt, putAt, putSet}
 
 abbrev pub keptMovedFrom : List ℕ → ℕ → ℕ
 keptMovedFrom kept x = getD kept (x * 3) 0
@@ -34,3 +37,19 @@ pub record Stays (Γ Γ′ : Environment) : Type 0 where
 pub record PutKept (kept : List ℕ) (x d : ℕ) (s : Roots) (kept′ : List ℕ) : Type 0 where
   pub here : (keptMovedFrom kept′ x ≡ d) × (keptRoots kept′ x ≡ s)
   pub there : (y : ℕ) → (y ≡ x → ⊥) → (keptMovedFrom kept′ y ≡ keptMovedFrom kept y) × (keptRoots kept′ y ≡ keptRoots kept y)
+
+-- After what is kept of x and what the table has of it were exchanged. Who records a root, if x is in scope, is among those that may hold it.
+pub record Exchanged (n : ℕ) (env kept : List ℕ) (x : ℕ) (env′ kept′ : List ℕ) : Type 0 where
+  pub entries : (y k : ℕ) → k < 8 → (k ≡ 3 → ⊥) → (k ≡ 7 → ⊥) → entryWord env′ y k ≡ putSet (putAt (entryWord env) x 4 (keptMovedFrom kept x)) x 2 (keptRoots kept x) y k
+  pub notes : (y : ℕ) → n ≤ y → noteAt env′ y ≡ noteAt env y
+  pub held : (r y : ℕ) → r < n → has (holdersAt env r) y ≡ true → has (holdersAt env′ r) y ≡ true
+  pub new : 2 ≤ entryWord env x 0 → (r : ℕ) → r < n → has (keptRoots kept x) r ≡ true → has (holdersAt env′ r) x ≡ true
+  pub put : PutKept kept x (entryWord env x 4) (rootsAt env x) kept′
+
+-- After x records these roots too.
+pub record RootsAdded (n : ℕ) (env : List ℕ) (x : ℕ) (s : Roots) (env′ : List ℕ) : Type 0 where
+  pub entries : (y k : ℕ) → k < 8 → (k ≡ 3 → ⊥) → (k ≡ 7 → ⊥) → (y ≡ x → (k ≡ 2 → ⊥) × (k ≡ 6 → ⊥)) → entryWord env′ y k ≡ entryWord env y k
+  pub roots : (y : ℕ) → has (rootsAt env′ x) y ≡ pick (has (rootsAt env x) y) true (has s y)
+  pub notes : (y : ℕ) → n ≤ y → noteAt env′ y ≡ noteAt env y
+  pub held : (r y : ℕ) → r < n → has (holdersAt env r) y ≡ true → has (holdersAt env′ r) y ≡ true
+  pub new : 2 ≤ entryWord env x 0 → (r : ℕ) → r < n → has s r ≡ true → has (holdersAt env′ r) x ≡ true

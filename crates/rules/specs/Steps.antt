@@ -1,5 +1,5 @@
 -- Where a place leads (LANGUAGE 3.13), as the code searches: from variable to variable, each met once. No rule of the language is stated here.
-use Prim.Native.Nat.{ℕ, _≤_, _<_}
+use Prim.Native.Nat.{ℕ, _-_, _≤_, _<_}
 use mathlib.Core.Path.{_≡_}
 use mathlib.Core.Bool.{Bool, true, false}
 use mathlib.Core.List.{List}
@@ -12,7 +12,7 @@ use Rattle.rules.specs.declared.follow.Step.the-variants as step
 use Rattle.rules.specs.Links.{leadingBoxes}
 use Rattle.rules.specs.Places.{every}
 use Rattle.rules.specs.Environment.{Variable, Slot, live, Environment}
-use Rattle.rules.specs.Follow.{ownPath, wholeSlot}
+use Rattle.rules.specs.Follow.{ownLink, ownPath, wholeSlot}
 use Rattle.rules.specs.Roots.{lengths, placesOf, MetFrom, endsOf}
 use Rattle.rules.specs.Masks.{has}
 use Rattle.rules.specs.Table.{rootsAt}
@@ -32,11 +32,12 @@ pub record Passed (deep : Bool) (v : Variable) (follows : ℕ) (r : Step) : Type
   pub through : r ≡ step.Through → (passesSlot deep (live v) follows ≡ true) × (leadingBoxes (v .chain) < follows)
 
 -- The variables met from x on with m links left are those of `met`. The search says that one of them does not pass, or that all pass, and
--- then in which of them it ends.
+-- then in which of them it ends, or that it ends in x itself.
 pub record Searched (nv : ℕ) (Γ : Environment) (x m : ℕ) (deep : Bool) (r : Ends) : Type 0 where
   pub met : ℕ → Bool
   pub is : MetFrom Γ m x met
   pub moved : r ≡ ends.MovedAway → every (passes deep Γ) (placesOf nv met (lengths Γ) m) ≡ false
+  pub own : r ≡ ends.Own → (every (passes deep Γ) (placesOf nv met (lengths Γ) m) ≡ true) × (ownLink (Γ x) (lengths Γ x - m) ≡ true)
   pub passed : (s : Roots) → r ≡ ends.At s → every (passes deep Γ) (placesOf nv met (lengths Γ) m) ≡ true
   pub to : (s : Roots) → r ≡ ends.At s → (y : ℕ) → has s y ≡ endsOf Γ m met y
 

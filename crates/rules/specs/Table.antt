@@ -16,11 +16,11 @@ use Rattle.rules.specs.declared.table.VariableState.{VariableState}
 use Rattle.rules.specs.declared.table.Entry.{Entry}
 use Rattle.rules.specs.declared.table.Entry.the-variants as entry
 use Rattle.rules.specs.Links.{Link, boxed, shared, exclusive}
-use Rattle.rules.specs.Environment.{Borrow, places, borrowEnd, Variable, Slot, free, used, live, Environment, levelOf, borrowOf, widened, write}
+use Rattle.rules.specs.Environment.{Borrow, places, borrowEnd, Variable, Slot, free, used, live, Environment, borrowOf, widened, write}
 use Rattle.rules.specs.Places.{rooted}
-use Rattle.rules.specs.Bars.{borrowsAny, borrowsExclusive}
+use Rattle.rules.specs.Bars.{borrowsAny, borrowsExclusive, heldBy}
 use Rattle.rules.specs.Roots.{lengths, placesOf, left}
-use Rattle.rules.specs.Chains.{chainOf}
+use Rattle.rules.specs.Chains.{chainOf, isExclusive}
 use Rattle.rules.specs.Masks.{has}
 
 abbrev pub entryWord : List ℕ → ℕ → ℕ → ℕ
@@ -91,11 +91,12 @@ entryAt env x = pick (eqb (entryWord env x 0) 0) entry.Free (pick (eqb (entryWor
 abbrev pub noteAt : List ℕ → ℕ → ℕ
 noteAt env y = entryWord env y 7
 
--- The notes are right: who records a root is among those that may hold it. Two rows follow those of the n variables: the note of the first
--- is no less than any variable's level, that of the second is above any number taken.
+-- The notes are right: who records a root is among those that may hold it. Two rows follow those of the n variables. The set of the first has
+-- every variable whose borrow link is exclusive; that of the second is what is in scope, and its note is above any number taken.
 pub record Noted (env : List ℕ) (n : ℕ) : Type 0 where
   pub held : (y r : ℕ) → y < n → r < n → 2 ≤ entryWord env y 0 → has (rootsAt env y) r ≡ true → has (holdersAt env r) y ≡ true
-  pub levels : (x : ℕ) → levelOf (environmentOf env x) ≤ noteAt env n
+  pub exclusives : (y : ℕ) → 2 ≤ entryWord env y 0 → isExclusive (chainOf (linksAt env y)) ≡ true → has (rootsAt env n) y ≡ true
+  pub scope : (y : ℕ) → has (rootsAt env (suc n)) y ≡ leb 2 (entryWord env y 0)
   pub most : noteAt env (suc n) ≤ n
   pub untaken : (x : ℕ) → noteAt env (suc n) ≤ x → entryWord env x 0 ≡ 0
 
@@ -109,6 +110,34 @@ pub record HolderNoted (n : ℕ) (env : List ℕ) (x : ℕ) (s : Roots) (env′ 
   pub notes : (y : ℕ) → n ≤ y → noteAt env′ y ≡ noteAt env y
   pub kept : (r y : ℕ) → r < n → has (holdersAt env r) y ≡ true → has (holdersAt env′ r) y ≡ true
   pub new : (r : ℕ) → r < n → has s r ≡ true → has (holdersAt env′ r) x ≡ true
+
+-- After adding x to the set of a row: only the two words of that set have changed.
+pub record MemberAdded (env : List ℕ) (row x : ℕ) (env′ : List ℕ) : Type 0 where
+  pub others : (y k : ℕ) → k < 8 → (y ≡ row → (k ≡ 2 → ⊥) × (k ≡ 6 → ⊥)) → entryWord env′ y k ≡ entryWord env y k
+  pub members : (y : ℕ) → has (rootsAt env′ row) y ≡ pick (has (rootsAt env row) y) true (eqb x y)
+
+-- After noting, where the first of these links that borrows is exclusive, that x has such a link.
+pub record ExclusiveNoted (n : ℕ) (env : List ℕ) (x links : ℕ) (env′ : List ℕ) : Type 0 where
+  pub others : (y k : ℕ) → k < 8 → (y ≡ n → (k ≡ 2 → ⊥) × (k ≡ 6 → ⊥)) → entryWord env′ y k ≡ entryWord env y k
+  pub kept : (y : ℕ) → has (rootsAt env n) y ≡ true → has (rootsAt env′ n) y ≡ true
+  pub new : isExclusive (chainOf links) ≡ true → has (rootsAt env′ n) x ≡ true
+
+-- Variables that are in scope.
+abbrev pub InScope : List ℕ → Roots → Type 0
+InScope env s = (y : ℕ) → has s y ≡ true → 2 ≤ entryWord env y 0
+
+-- The variables in scope that live at the level or around it.
+abbrev pub Around : List ℕ → Roots → ℕ → Type 0
+Around env s level = (y : ℕ) → has s y ≡ pick (leb 2 (entryWord env y 0)) (leb (entryWord env y 5) level) false
+
+-- Any borrow, or an exclusive one.
+unfoldable pub borrowsBy : Bool → Borrow → ℕ → Bool
+borrowsBy true = borrowsAny
+borrowsBy false = borrowsExclusive
+
+-- All who hold a borrow of a place with the root, any or an exclusive one, are in the set.
+abbrev pub MayHold : List ℕ → Bool → ℕ → Roots → Type 0
+MayHold env any root s = (y : ℕ) → heldBy (borrowsBy any) (environmentOf env y) root ≡ true → has s y ≡ true
 
 -- No place that is recorded has the root x, in the table or in a borrow end.
 abbrev pub Unrecorded : List ℕ → ℕ → Borrow → Type 0
@@ -141,15 +170,6 @@ putSet words x k s = putAt (putAt words x k (s .low)) x (k + 4) (s .high)
 -- The note of row x raised where it is less.
 unfoldable pub raised : (ℕ → ℕ → ℕ) → ℕ → ℕ → ℕ → ℕ → ℕ
 raised words x least = pick (ltb (words x 7) least) (putAt words x 7 least) words
-
--- In scope, in a block inside that of the level.
-abbrev pub isDeeper : List ℕ → ℕ → ℕ → Bool
-isDeeper env x level = pick (leb 2 (entryWord env x 0)) (ltb level (entryWord env x 5)) false
-
--- Any borrow, or an exclusive one.
-unfoldable pub borrowsBy : Bool → Borrow → ℕ → Bool
-borrowsBy true = borrowsAny
-borrowsBy false = borrowsExclusive
 
 -- The code's places in the rules' terms.
 abbrev pub asPlace : Place → script.Place

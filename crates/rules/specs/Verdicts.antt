@@ -1,12 +1,12 @@
 -- What the rules' functions answer, in the rules' terms: the refusal or the values of each case (LANGUAGE 3.17).
-use Prim.Native.Nat.{ℕ, _<_, _≤_}
+use Prim.Native.Nat.{ℕ, _-_, _%_, _<_, _≤_}
 use mathlib.Core.Path.{_≡_}
 use mathlib.Core.Bool.{true}
 use mathlib.Core.Option.{Option, none, some}
-use mathlib.Core.List.{List}
+use mathlib.Core.List.{List, [], _∷_}
 use lib.ListN.{length, drop}
-use lib.Dec.{leb}
-use Rattle.reader.specs.Result.{Result, ok, err, need, _>>=_}
+use lib.Dec.{leb, eqb}
+use Rattle.reader.specs.Result.{Result, ok, err, pick, need, _>>=_}
 use Rattle.reader.specs.Script as script
 use Rattle.rules.specs.declared.roots.Roots.{Roots}
 use Rattle.rules.specs.declared.rules.Located.{Located}
@@ -15,11 +15,12 @@ use Rattle.rules.specs.declared.rules.Readable.{Readable}
 use Rattle.rules.specs.declared.rules.Readable.the-variants as readable
 use Rattle.rules.specs.declared.rules.Requirement.{Requirement}
 use Rattle.rules.specs.declared.rules.Requirement.the-variants as requirement
+use Rattle.rules.specs.declared.verdicts.Told.{Told}
 use Rattle.rules.specs.declared.verdicts.Value.{Value}
 use Rattle.rules.specs.declared.verdicts.Value.the-variants as value
 use Rattle.rules.specs.declared.verdicts.Verdict.{Verdict}
 use Rattle.rules.specs.declared.verdicts.Verdict.the-variants as verdict
-use Rattle.rules.specs.Links.{Link, maxLinks}
+use Rattle.rules.specs.Links.{Link, leadingBoxes, maxLinks}
 use Rattle.rules.specs.Environment.{Borrow, places, Variable, used, live, Environment, Ty, update, isFree}
 use Rattle.rules.specs.Rules as rules
 use Rattle.rules.specs.Rules.{Judged, Out, judgeBox}
@@ -39,10 +40,19 @@ unfoldable pub asValue : List ℕ → Value → Option Ty
 asValue env value.None = none
 asValue env (value.Of t) = some (typeOf (chainOf (t .links)) (endIn env (chainOf (t .links)) (t .roots)))
 
--- A term's verdict, with the table afterwards.
-unfoldable pub answered : List ℕ → Verdict → Judged Out
-answered env (verdict.Fine v) = ok (environmentOf env, asValue env v)
-answered env (verdict.Refused n at) = err (n, at)
+-- The verdict that is told in numbers: 0 where there is no value, one more than the links of a value, and from 2 ^ 40 on the number of a refusal.
+unfoldable pub verdictOf : Told → Verdict
+verdictOf t =
+    pick (leb 1099511627776 (t .code)) (verdict.Refused ((t .code - 1099511627776) % 4294967296))
+    (pick (eqb (t .code) 0) (verdict.Fine value.None) (verdict.Fine (value.Of (record { links = (t .code - 1) % 4294967296; roots = t .roots }))))
+
+-- The verdict of the term i, with the table afterwards: its own refusals are at i.
+unfoldable pub answeredAs : List ℕ → ℕ → Verdict → Judged Out
+answeredAs env i (verdict.Fine v) = ok (environmentOf env, asValue env v)
+answeredAs env i (verdict.Refused n) = err (n, i)
+
+abbrev pub answered : List ℕ → ℕ → Told → Judged Out
+answered env i t = answeredAs env i (verdictOf t)
 
 -- The roots of the places that the value borrows, if there are any (LANGUAGE 3.3).
 abbrev pub RootsIn : Value → Roots → Type 0
@@ -65,10 +75,6 @@ pub record PlaceFound (nv : ℕ) (Γ : Environment) (p : script.Place) (links re
   pub low : (y : ℕ) → has s y ≡ true → y < nv
   pub to : SameSet (located .to) (placesOf nv (has s) (lengths Γ) (length (chainOf rest)))
 
-abbrev pub LocatedIs : (nv : ℕ) → Environment → script.Place → Judged rules.Located → Located → Type 0
-LocatedIs nv Γ p judged (located.At links rest s) = PlaceFound nv Γ p links rest s judged
-LocatedIs nv Γ p judged (located.Refused n at) = judged ≡ err (n, at)
-
 -- A place that passes 31 and 32 (LANGUAGE 3.16), and the links after it.
 pub record Named (Γ : Environment) (p : script.Place) (rest : ℕ) : Type 0 where
   pub variable : Variable
@@ -76,10 +82,22 @@ pub record Named (Γ : Environment) (p : script.Place) (rest : ℕ) : Type 0 whe
   pub long : p .follows ≤ length (variable .chain)
   pub after : drop (p .follows) (variable .chain) ≡ chainOf rest
 
--- What 31 and 32 say of a place: a refusal is the rule's, otherwise 33 is still to be judged.
+-- A place that leads to an own link of its root: only boxes are passed, so that following it gives the place itself (LANGUAGE 3.13).
+pub record OwnFound (nv : ℕ) (Γ : Environment) (i : ℕ) (p : script.Place) (rest : ℕ) : Type 0 where
+  pub named : Named Γ p rest
+  pub own : p .follows ≤ leadingBoxes (named .variable .chain)
+  pub is : rules.judgePlace nv Γ i p ≡ ok (record { root = named .variable; to = p ∷ [] })
+
+abbrev pub LocatedIs : (nv : ℕ) → Environment → ℕ → script.Place → Located → Type 0
+LocatedIs nv Γ i p (located.Own rest) = OwnFound nv Γ i p rest
+LocatedIs nv Γ i p (located.At links rest s) = PlaceFound nv Γ p links rest s (rules.judgePlace nv Γ i p)
+LocatedIs nv Γ i p (located.Refused n) = rules.judgePlace nv Γ i p ≡ err (n, i)
+
+-- What 31 and 32 say of a place: a refusal is the rule's, of the place and of its move, which asks 38 before 33 (LANGUAGE 3.20); otherwise 33 is
+-- still to be judged.
 abbrev pub NamedIs : (nv : ℕ) → Environment → ℕ → script.Place → Readable → Type 0
 NamedIs nv Γ i p (readable.Rest rest) = Named Γ p rest
-NamedIs nv Γ i p (readable.Refused n at) = rules.judgePlace nv Γ i p ≡ err (n, at)
+NamedIs nv Γ i p (readable.Refused n) = (rules.judgePlace nv Γ i p ≡ err (n, i)) × (rules.judgeMove nv Γ i p ≡ err (n, i))
 
 -- A place that may be read (LANGUAGE 3.19), and the links after it; where it leads is not told.
 pub record Read (nv : ℕ) (Γ : Environment) (i : ℕ) (p : script.Place) (rest : ℕ) : Type 0 where
@@ -89,7 +107,12 @@ pub record Read (nv : ℕ) (Γ : Environment) (i : ℕ) (p : script.Place) (rest
 
 abbrev pub ReadableIs : (nv : ℕ) → Environment → ℕ → script.Place → Readable → Type 0
 ReadableIs nv Γ i p (readable.Rest rest) = Read nv Γ i p rest
-ReadableIs nv Γ i p (readable.Refused n at) = rules.judgeReadable nv Γ i p ≡ err (n, at)
+ReadableIs nv Γ i p (readable.Refused n) = rules.judgeReadable nv Γ i p ≡ err (n, i)
+
+-- A place that is to be a number (LANGUAGE 3.27, 3.31): `judged` is the rule's answer at the term i.
+abbrev pub NumberIs : Judged (Unit {0}) → ℕ → Readable → Type 0
+NumberIs judged i (readable.Rest rest) = judged ≡ ok tt
+NumberIs judged i (readable.Refused n) = judged ≡ err (n, i)
 
 unfoldable pub asRequirement : Requirement → Judged (Unit {0})
 asRequirement requirement.Met = ok tt
@@ -113,20 +136,20 @@ abbrev pub judgeAnswer : ℕ → Option Ty → Judged (Unit {0})
 judgeAnswer nv o = need (isAnswer nv o) (43, 0)
 
 -- The verdict of a term that leaves every table as it is.
-abbrev pub Answers : Verdict → (List ℕ → Judged Out) → Type 0
-Answers r judged = (env : List ℕ) → answered env r ≡ judged env
+abbrev pub Answers : Told → (List ℕ → ℕ → Judged Out) → Type 0
+Answers r judged = (env : List ℕ) (i : ℕ) → answered env i r ≡ judged env i
 
-abbrev pub valueOf : (List ℕ → Ty) → List ℕ → Judged Out
-valueOf t env = ok (environmentOf env, some (t env))
+abbrev pub valueOf : (List ℕ → Ty) → List ℕ → ℕ → Judged Out
+valueOf t env i = ok (environmentOf env, some (t env))
 
 -- A value of at most 8 links (42; LANGUAGE 3.21 to 3.23).
-abbrev pub atMost8 : ℕ → (List ℕ → Ty) → List ℕ → Judged Out
-atMost8 i t env = need (leb (length (t env .links)) maxLinks) (42, i) >>= λ _. valueOf t env
+abbrev pub atMost8 : (List ℕ → Ty) → List ℕ → ℕ → Judged Out
+atMost8 t env i = need (leb (length (t env .links)) maxLinks) (42, i) >>= λ _. valueOf t env i
 
 -- The verdict of a box (LANGUAGE 3.23).
-abbrev pub Boxes : ℕ → Value → Verdict → Type 0
-Boxes i inner r = (nv : ℕ) → Answers r (λ env. judgeBox nv (environmentOf env) i (asValue env inner))
+abbrev pub Boxes : Value → Told → Type 0
+Boxes inner r = (nv : ℕ) → Answers r (λ env i. judgeBox nv (environmentOf env) i (asValue env inner))
 
 -- The value of a choice (LANGUAGE 3.31): the values of its blocks agree (39), and it has the places of both.
-abbrev pub Joins : ℕ → Value → Value → Verdict → Type 0
-Joins i first second r = Answers r (λ env. need (agreeing (asValue env first) (asValue env second)) (39, i) >>= λ _. ok (environmentOf env, either (asValue env first) (asValue env second)))
+abbrev pub Joins : Value → Value → Told → Type 0
+Joins first second r = Answers r (λ env i. need (agreeing (asValue env first) (asValue env second)) (39, i) >>= λ _. ok (environmentOf env, either (asValue env first) (asValue env second)))

@@ -3,6 +3,8 @@ ghost use mathlib.Core.Path.{_≡_};
 ghost use mathlib.Core.Bool.{true};
 ghost use Prim.Native.Nat.{ℕ, _<_};
 ghost use lib.Dec.{leb};
+ghost use Rattle.rules.specs.declared.rules.Located.the-variants as located;
+ghost use Rattle.rules.specs.declared.verdicts.Value.the-variants as value;
 ghost use Rattle.rules.specs.Places.{every};
 ghost use Rattle.rules.specs.Environment.{levelOf};
 ghost use Rattle.rules.specs.Rules.{judgeAssign};
@@ -10,7 +12,7 @@ ghost use Rattle.rules.specs.Neat.{NeatValue};
 ghost use Rattle.rules.specs.Roots.{lengths, placesOf};
 ghost use Rattle.rules.specs.Masks.{has};
 ghost use Rattle.rules.specs.Table.{TableFor, environmentOf, longAt, WidenedAll, Written, asPlace};
-ghost use Rattle.rules.specs.Verdicts.{NeatTable, asValue, answered};
+ghost use Rattle.rules.specs.Verdicts.{NeatTable, LocatedIs, asValue, answered};
 use crate::bars::write_barred;
 use crate::chains::no_shared;
 use crate::environment::level_at;
@@ -26,8 +28,11 @@ use crate::roots::without;
 use crate::rules::Located;
 use crate::rules::judge_place;
 use crate::table::Place;
+use crate::verdicts::Told;
 use crate::verdicts::Value;
-use crate::verdicts::Verdict;
+use crate::verdicts::ValueType;
+use crate::verdicts::fine;
+use crate::verdicts::refused;
 use reader::fields::index_of;
 
 // The roots live long enough for each variable that may be written (40; LANGUAGE 3.25).
@@ -35,6 +40,9 @@ fn live_long_enough(env: &[u64], variables: usize, roots: Roots, to: Roots) -> b
     requires { ⌜ TableFor (now env) variables × ((y : ℕ) → has to y ≡ true → y < variables) ⌝ }
     ensures { λ r. ⌜ ((m k : ℕ) → r ≡ every (λ q. every (λ p. leb (levelOf (environmentOf (now (env .entry)) (p .root))) (levelOf (environmentOf (now (env .entry)) (q .root)))) (placesOf 128 (has roots) (longAt (now (env .entry))) m)) (placesOf variables (has to) (lengths (environmentOf (now (env .entry)))) k)) ⌝ }
 {
+    if is_empty(roots) {
+        return true;
+    }
     let mut left = to;
     while !is_empty(left) {
         let x = lowest(left);
@@ -77,42 +85,74 @@ fn write_to(env: &mut [u64], variables: usize, to: Roots, roots: Roots)
     }
 }
 
-// Assign (LANGUAGE 3.25), after the right side: it has a value (41), the path of the place (31, 32, 33), no shared link
-// passed (36), the same links (39), every borrowed root lives long enough for every variable that may be written (40).
-// With the new value in place, writing the named root is not barred (35).
-pub fn judge_assign(
+// Assign to an own link of the root of the place (LANGUAGE 3.25): no shared link is passed, the same links (39), every
+// borrowed root lives long enough for the root (40), which is whole again. Then writing it is not barred (35).
+fn assign_own(env: &mut [u64], variables: usize, place: Place, rest: u32, of: ValueType) -> Told
+    requires { ⌜ NeatTable (now env) variables × ((i : ℕ) → LocatedIs variables (environmentOf (now env)) i (asPlace place) (located.Own rest)) ⌝ }
+    ensures { λ r. ⌜ ((i : ℕ) → answered (now (env .exit)) i r ≡ judgeAssign variables (environmentOf (now (env .entry))) i (asPlace place) (asValue (now (env .entry)) (value.Of of))) × TableFor (now (env .exit)) variables ⌝ }
+{
+    if rest != of.links {
+        return refused(refusals::OTHER_LINKS);
+    }
+    let root = index_of(place.root);
+    let of_roots = of.roots;
+    let roots = recorded_roots(rest, of_roots);
+    if !lives_at(env, variables, roots, level_at(env, variables, root)) {
+        return refused(refusals::LIVES_TOO_SHORT);
+    }
+    refill(env, variables, root, roots);
+    if write_barred(env, variables, root) {
+        return refused(refusals::WRITING_BARRED);
+    }
+    fine(Value::None)
+}
+
+// Assign beyond a borrow link (LANGUAGE 3.25): no shared link passed (36), the same links (39), every borrowed root
+// lives long enough for every variable that may be written (40). With the new value in place, writing the named root is
+// not barred (35).
+fn assign_beyond(
     env: &mut [u64],
     variables: usize,
-    term: usize,
     place: Place,
-    inner: Value,
-) -> Verdict
+    links: u32,
+    rest: u32,
+    to: Roots,
+    of: ValueType,
+) -> Told
+    requires { ⌜ NeatTable (now env) variables × ((i : ℕ) → LocatedIs variables (environmentOf (now env)) i (asPlace place) (located.At links rest to)) ⌝ }
+    ensures { λ r. ⌜ ((i : ℕ) → answered (now (env .exit)) i r ≡ judgeAssign variables (environmentOf (now (env .entry))) i (asPlace place) (asValue (now (env .entry)) (value.Of of))) × TableFor (now (env .exit)) variables ⌝ }
+{
+    if !no_shared(links, index_of(place.follows)) {
+        return refused(refusals::SHARED_PASSED);
+    }
+    if rest != of.links {
+        return refused(refusals::OTHER_LINKS);
+    }
+    let of_roots = of.roots;
+    let roots = recorded_roots(rest, of_roots);
+    if !live_long_enough(env, variables, roots, to) {
+        return refused(refusals::LIVES_TOO_SHORT);
+    }
+    write_to(env, variables, to, roots);
+    if write_barred(env, variables, index_of(place.root)) {
+        return refused(refusals::WRITING_BARRED);
+    }
+    fine(Value::None)
+}
+
+// Assign (LANGUAGE 3.25), after the right side: it has a value (41), the path of the place (31, 32, 33); then by where
+// the place leads.
+pub fn judge_assign(env: &mut [u64], variables: usize, place: Place, inner: Value) -> Told
     requires { ⌜ NeatTable (now env) variables × ((level : ℕ) × NeatValue (environmentOf (now env)) level (asValue (now env) inner)) ⌝ }
-    ensures { λ r. ⌜ (answered (now (env .exit)) r ≡ judgeAssign variables (environmentOf (now (env .entry))) term (asPlace place) (asValue (now (env .entry)) inner)) × TableFor (now (env .exit)) variables ⌝ }
+    ensures { λ r. ⌜ ((i : ℕ) → answered (now (env .exit)) i r ≡ judgeAssign variables (environmentOf (now (env .entry))) i (asPlace place) (asValue (now (env .entry)) inner)) × TableFor (now (env .exit)) variables ⌝ }
 {
     let Value::Of(of) = inner else {
-        return Verdict::Refused(refusals::NO_VALUE, term);
+        return refused(refusals::NO_VALUE);
     };
-    let located = judge_place(env, variables, term, place);
+    let located = judge_place(env, variables, place);
     match located {
-        Located::Refused(number, at) => Verdict::Refused(number, at),
-        Located::At(links, rest, to) => {
-            if !no_shared(links, index_of(place.follows)) {
-                return Verdict::Refused(refusals::SHARED_PASSED, term);
-            }
-            if rest != of.links {
-                return Verdict::Refused(refusals::OTHER_LINKS, term);
-            }
-            let of_roots = of.roots;
-            let roots = recorded_roots(rest, of_roots);
-            if !live_long_enough(env, variables, roots, to) {
-                return Verdict::Refused(refusals::LIVES_TOO_SHORT, term);
-            }
-            write_to(env, variables, to, roots);
-            if write_barred(env, variables, index_of(place.root)) {
-                return Verdict::Refused(refusals::WRITING_BARRED, term);
-            }
-            Verdict::Fine(Value::None)
-        }
+        Located::Refused(number) => refused(number),
+        Located::Own(rest) => assign_own(env, variables, place, rest, of),
+        Located::At(links, rest, to) => assign_beyond(env, variables, place, links, rest, to, of),
     }
 }

@@ -1,69 +1,53 @@
 // What the borrows that are held bar (LANGUAGE 3.10 to 3.12): the note of the root tells who may hold one.
 ghost use mathlib.Core.Path.{_≡_};
-ghost use Prim.Native.Nat.{_<_, _≤_, _+_, _*_};
-ghost use lib.ListN.{length};
+ghost use Prim.Native.Nat.{_<_};
 ghost use Rattle.rules.specs.Bars.{heldBy, held, readBarred, writeBarred};
-ghost use Rattle.rules.specs.Masks.{has};
-ghost use Rattle.rules.specs.Table.{TableFor, environmentOf, rootsAt, borrowsBy};
+ghost use Rattle.rules.specs.Table.{TableFor, environmentOf, borrowsBy, MayHold};
 use crate::chains::leading_boxes;
+use crate::environment::in_scope;
+use crate::roots::Roots;
+use crate::roots::common;
 use crate::roots::is_empty;
 use crate::roots::is_member;
 use crate::roots::lowest;
 use crate::roots::without;
 use crate::table::BorrowEnd;
-use crate::table::LIVE;
-use crate::table::MOVED_FROM;
-use crate::table::STATUS;
-use crate::table::borrow_end_of;
+use crate::table::Entry;
 use crate::table::holders_at;
-use crate::table::links_at;
+use crate::table::load;
 use crate::table::roots_at;
-use crate::table::word_at;
 
-// The variable x is in scope, records the root, and its first borrow link is not moved away: what holding (LANGUAGE 3.10)
-// asks apart from the kind of that link.
-fn records(env: &[u64], x: usize, root: usize) -> bool
-    requires { ⌜ x * 8 + 8 ≤ length (now env) ⌝ }
-    ensures { λ r. ⌜ r ≡ heldBy (λ b y. has (rootsAt (now (env .entry)) x) y) (environmentOf (now (env .entry)) x) root ⌝ }
-{
-    if is_member(roots_at(env, x), root) {
-        if word_at(env, x, STATUS) < LIVE {
-            return false;
-        }
-        let boxes = leading_boxes(links_at(env, x)) as u64;
-        return boxes < word_at(env, x, MOVED_FROM);
-    }
-    false
-}
-
-// Holding (LANGUAGE 3.10): x holds a borrow of a place with the root; any, or an exclusive one. The kind of the borrow
-// link comes first: where an exclusive one is asked for, it is what most often decides.
+// Holding (LANGUAGE 3.10): x holds a borrow of a place with the root; any, or an exclusive one.
 fn holds(env: &[u64], variables: usize, x: usize, root: usize, any: bool) -> bool
     requires { ⌜ TableFor (now env) variables × (root < variables) ⌝ }
     ensures { λ r. ⌜ r ≡ heldBy (borrowsBy any) (environmentOf (now (env .entry)) x) root ⌝ }
 {
-    if variables <= x {
+    let entry = load(env, variables, x);
+    let Entry::Live(state) = entry else {
+        return false;
+    };
+    if state.moved_from <= leading_boxes(state.links) as u64 {
         return false;
     }
-    let end = borrow_end_of(links_at(env, x), roots_at(env, x));
+    let end = state.borrow_end;
     match end {
         BorrowEnd::None => false,
-        BorrowEnd::Shared(_) => {
+        BorrowEnd::Shared(roots) => {
             if any {
-                return records(env, x, root);
+                return is_member(roots, root);
             }
             false
         }
-        BorrowEnd::Exclusive(_) => records(env, x, root),
+        BorrowEnd::Exclusive(roots) => is_member(roots, root),
     }
 }
 
 // Some variable holds a borrow of a place with the root; any, or an exclusive one.
-fn is_held(env: &[u64], variables: usize, root: usize, any: bool) -> bool
-    requires { ⌜ TableFor (now env) variables × (root < variables) ⌝ }
+fn is_held(env: &[u64], variables: usize, root: usize, any: bool, may: Roots) -> bool
+    requires { ⌜ TableFor (now env) variables × (root < variables) × MayHold (now env) any root may ⌝ }
     ensures { λ r. ⌜ r ≡ held (borrowsBy any) variables (environmentOf (now (env .entry))) root ⌝ }
 {
-    let mut left = holders_at(env, root);
+    let mut left = may;
     while !is_empty(left) {
         let x = lowest(left);
         if holds(env, variables, x, root, any) {
@@ -79,10 +63,11 @@ pub fn read_barred(env: &[u64], variables: usize, root: usize) -> bool
     requires { ⌜ TableFor (now env) variables × (root < variables) ⌝ }
     ensures { λ r. ⌜ r ≡ readBarred variables (environmentOf (now (env .entry))) root ⌝ }
 {
-    if is_empty(holders_at(env, root)) {
+    let may = common(holders_at(env, root), roots_at(env, variables));
+    if is_empty(may) {
         return false;
     }
-    is_held(env, variables, root, false)
+    is_held(env, variables, root, false, may)
 }
 
 // Writing barred (LANGUAGE 3.12): someone holds a borrow of the root, of either kind.
@@ -90,8 +75,9 @@ pub fn write_barred(env: &[u64], variables: usize, root: usize) -> bool
     requires { ⌜ TableFor (now env) variables × (root < variables) ⌝ }
     ensures { λ r. ⌜ r ≡ writeBarred variables (environmentOf (now (env .entry))) root ⌝ }
 {
-    if is_empty(holders_at(env, root)) {
+    let may = common(holders_at(env, root), in_scope(env, variables));
+    if is_empty(may) {
         return false;
     }
-    is_held(env, variables, root, true)
+    is_held(env, variables, root, true, may)
 }

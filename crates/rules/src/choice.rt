@@ -8,10 +8,12 @@ ghost use Rattle.rules.specs.Choice.{carried, earlier, joined};
 ghost use Rattle.rules.specs.Neat.{Neat};
 ghost use Rattle.rules.specs.Table.{TableFor, environmentOf, entryWord, noteAt, SameLinks, putAt};
 ghost use Rattle.rules.specs.Verdicts.{NeatTable, Joins};
-ghost use Rattle.rules.specs.Kept.{keptMovedFrom, keptRoots, KeepsAll, Stays, PutKept};
+ghost use Rattle.rules.specs.Kept.{keptMovedFrom, keptRoots, KeepsAll, Stays, PutKept, Exchanged, RootsAdded};
 use crate::notes::note_holder;
 use crate::refusals;
 use crate::roots::Roots;
+use crate::roots::is_empty;
+use crate::roots::less;
 use crate::roots::unite;
 use crate::table::MOVED_FROM;
 use crate::table::NOTE;
@@ -19,8 +21,10 @@ use crate::table::put_roots;
 use crate::table::put_word;
 use crate::table::roots_at;
 use crate::table::word_at;
+use crate::verdicts::Told;
 use crate::verdicts::Value;
-use crate::verdicts::Verdict;
+use crate::verdicts::fine;
+use crate::verdicts::refused;
 use crate::verdicts::value_of;
 
 // The words kept of a number.
@@ -65,6 +69,25 @@ pub fn keep(env: &[u64], variables: usize, kept: &mut [u64], count: usize)
     }
 }
 
+// What is kept of x becomes the table's, and what the table has is kept. Most variables are as they were: nothing is
+// written then.
+fn exchange_one(env: &mut [u64], variables: usize, kept: &mut [u64], x: usize)
+    requires { ⌜ TableFor (now env) variables × (x < variables) × (x * 3 + 3 ≤ length (now kept)) ⌝ }
+    ensures { λ _. ⌜ Exchanged variables (now (env .entry)) (now (kept .entry)) x (now (env .exit)) (now (kept .exit)) ⌝ }
+{
+    let moved_from = kept[x * KEPT];
+    let roots = kept_roots(kept, x);
+    let moved_now = word_at(env, x, MOVED_FROM);
+    let roots_now = roots_at(env, x);
+    if moved_from == moved_now && roots.low == roots_now.low && roots.high == roots_now.high {
+        return;
+    }
+    keep_one(kept, x, moved_now, roots_now);
+    put_word(env, x, MOVED_FROM, moved_from);
+    put_roots(env, x, roots);
+    note_holder(env, variables, x, roots);
+}
+
 // After the first block: the state that was kept is the table's again, but for numbers taken since (LANGUAGE 3.31); the
 // state after the block is kept instead.
 pub fn exchange(env: &mut [u64], variables: usize, kept: &mut [u64], count: usize)
@@ -73,12 +96,7 @@ pub fn exchange(env: &mut [u64], variables: usize, kept: &mut [u64], count: usiz
 {
     let mut x: usize = 0;
     while x < count {
-        let moved_from = kept[x * KEPT];
-        let roots = kept_roots(kept, x);
-        keep_one(kept, x, word_at(env, x, MOVED_FROM), roots_at(env, x));
-        put_word(env, x, MOVED_FROM, moved_from);
-        put_roots(env, x, roots);
-        note_holder(env, variables, x, roots);
+        exchange_one(env, variables, kept, x);
         x += 1;
     }
 }
@@ -93,6 +111,19 @@ fn move_earlier(env: &mut [u64], x: usize, k: u64)
     }
 }
 
+// The variable x records these roots too. Most often it does already: nothing is written then.
+fn add_roots(env: &mut [u64], variables: usize, x: usize, roots: Roots)
+    requires { ⌜ TableFor (now env) variables × (x < variables) ⌝ }
+    ensures { λ _. ⌜ RootsAdded variables (now (env .entry)) x roots (now (env .exit)) ⌝ }
+{
+    let recorded = roots_at(env, x);
+    if is_empty(less(roots, recorded)) {
+        return;
+    }
+    put_roots(env, x, unite(recorded, roots));
+    note_holder(env, variables, x, roots);
+}
+
 // After the second block: each variable is moved away from the earlier of the two links, and records the roots of both
 // (LANGUAGE 3.31).
 pub fn join(env: &mut [u64], variables: usize, kept: &[u64], count: usize)
@@ -102,29 +133,26 @@ pub fn join(env: &mut [u64], variables: usize, kept: &[u64], count: usize)
     let mut x: usize = 0;
     while x < count {
         move_earlier(env, x, kept[x * KEPT]);
-        let roots = kept_roots(kept, x);
-        let all = unite(roots_at(env, x), roots);
-        put_roots(env, x, all);
-        note_holder(env, variables, x, roots);
+        add_roots(env, variables, x, kept_roots(kept, x));
         x += 1;
     }
 }
 
 // The value of a choice (LANGUAGE 3.31): those of its blocks have equal links, or both are none (39).
-pub fn judge_either(term: usize, first: Value, second: Value) -> Verdict
-    ensures { λ r. ⌜ Joins term first second r ⌝ }
+pub fn judge_either(first: Value, second: Value) -> Told
+    ensures { λ r. ⌜ Joins first second r ⌝ }
 {
     let Value::Of(one) = first else {
         let Value::None = second else {
-            return Verdict::Refused(refusals::OTHER_LINKS, term);
+            return refused(refusals::OTHER_LINKS);
         };
-        return Verdict::Fine(Value::None);
+        return fine(Value::None);
     };
     let Value::Of(other) = second else {
-        return Verdict::Refused(refusals::OTHER_LINKS, term);
+        return refused(refusals::OTHER_LINKS);
     };
     if one.links != other.links {
-        return Verdict::Refused(refusals::OTHER_LINKS, term);
+        return refused(refusals::OTHER_LINKS);
     }
     let one_roots = one.roots;
     let other_roots = other.roots;

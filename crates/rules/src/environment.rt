@@ -1,8 +1,7 @@
 // What the rules ask of a variable number (LANGUAGE 3.6 to 3.8), and what they do to it.
 ghost use mathlib.Core.Path.{_≡_};
 ghost use mathlib.Core.List.{List};
-ghost use Prim.Native.Nat.{ℕ, _≤_, _+_, _*_};
-ghost use lib.ListN.{length};
+ghost use Prim.Native.Nat.{ℕ, suc};
 ghost use lib.Dec.{leb};
 ghost use Rattle.reader.specs.Script.{Place};
 ghost use Rattle.rules.specs.Places.{every};
@@ -10,10 +9,10 @@ ghost use Rattle.rules.specs.Environment.{places, isFree, levelOf, leave
 ghost use Rattle.rules.specs.Roots.{placesOf};
 ghost use Rattle.rules.specs.Chains.{chainOf};
 ghost use Rattle.rules.specs.Masks.{has};
-ghost use Rattle.rules.specs.Table.{TableFor, environmentOf, longAt, placesIn, endIn, SameLinks, isDeeper};
-use crate::notes::take_number;
+ghost use Rattle.rules.specs.Table.{TableFor, environmentOf, longAt, rootsAt, placesIn, endIn, SameLinks, InScope, Around};
 use crate::roots::Roots;
 use crate::roots::is_empty;
+use crate::roots::less;
 use crate::roots::lowest;
 use crate::roots::no_roots;
 use crate::roots::without;
@@ -21,10 +20,12 @@ use crate::table::BorrowEnd;
 use crate::table::FREE;
 use crate::table::LEVEL;
 use crate::table::LIVE;
-use crate::table::NOTE;
 use crate::table::STATUS;
+use crate::table::USED;
 use crate::table::borrow_end_of;
+use crate::table::put_roots;
 use crate::table::put_word;
+use crate::table::roots_at;
 use crate::table::word_at;
 
 // The number is free (30; LANGUAGE 3.6).
@@ -79,31 +80,24 @@ pub fn recorded_roots(links: u32, roots: Roots) -> Roots
     }
 }
 
-// In scope, in a block inside that of the level (LANGUAGE 3.28). Most numbers are in none: that is asked first.
-fn is_deeper(env: &[u64], x: usize, level: u64) -> bool
-    requires { ⌜ x * 8 + 8 ≤ length (now env) ⌝ }
-    ensures { λ r. ⌜ r ≡ isDeeper (now (env .entry)) x level ⌝ }
+// The variables in scope (LANGUAGE 3.8).
+pub fn in_scope(env: &[u64], variables: usize) -> Roots
+    requires { ⌜ TableFor (now env) variables ⌝ }
+    ensures { λ r. ⌜ r ≡ rootsAt (now (env .entry)) (suc variables) ⌝ }
 {
-    if word_at(env, x, LEVEL) <= level {
-        return false;
-    }
-    LIVE <= word_at(env, x, STATUS)
+    roots_at(env, variables + 1)
 }
 
-// The end of a block (LANGUAGE 3.28): the variables inside leave scope. Most blocks have none.
-pub fn leave_blocks(env: &mut [u64], variables: usize, level: u64)
-    requires { ⌜ TableFor (now env) variables ⌝ }
-    ensures { λ _. ⌜ (environmentOf (now (env .exit)) ≡ leave level (environmentOf (now (env .entry)))) × TableFor (now (env .exit)) variables × SameLinks (now (env .entry)) (now (env .exit)) ⌝ }
+// The end of a block (LANGUAGE 3.28): the variables inside leave scope, all but those that were in scope before.
+pub fn leave_blocks(env: &mut [u64], variables: usize, before: Roots)
+    requires { ⌜ TableFor (now env) variables × InScope (now env) before ⌝ }
+    ensures { λ _. ⌜ ((level : ℕ) → Around (now (env .entry)) before level → environmentOf (now (env .exit)) ≡ leave level (environmentOf (now (env .entry)))) × TableFor (now (env .exit)) variables × SameLinks (now (env .entry)) (now (env .exit)) ⌝ }
 {
-    if word_at(env, variables, NOTE) <= level {
-        return;
+    let mut left = less(in_scope(env, variables), before);
+    while !is_empty(left) {
+        let x = lowest(left);
+        left = without(left, x);
+        put_word(env, x, STATUS, USED);
     }
-    let mut x = word_at(env, variables + 1, NOTE) as usize;
-    while 0 < x {
-        x -= 1;
-        if is_deeper(env, x, level) {
-            take_number(env, variables, x);
-        }
-    }
-    put_word(env, variables, NOTE, level);
+    put_roots(env, variables + 1, before);
 }

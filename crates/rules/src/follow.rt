@@ -1,7 +1,7 @@
 // Where a place leads (LANGUAGE 3.13): to own links of variables, through boxes, and beyond borrow links through the
 // borrowed places. With so many links left after it, a place is told by its root, so that what is met is a set of roots.
 ghost use mathlib.Core.Path.{_≡_};
-ghost use mathlib.Core.Bool.{true};
+ghost use mathlib.Core.Bool.{true, false};
 ghost use Prim.Native.Nat.{ℕ, _≤_, _<_, _+_, _*_, _-_};
 ghost use lib.ListN.{length};
 ghost use Rattle.rules.specs.declared.follow.Step.the-variants as step;
@@ -27,8 +27,10 @@ use crate::table::links_at;
 use crate::table::roots_at;
 use crate::table::word_at;
 
-// The variables to whose own links a place may lead, or something on the way is moved away (33).
+// Where a place leads: to an own link of its root, the common case, for which no set is made; to own links of these
+// variables; or something on the way is moved away (33).
 pub enum Ends {
+    Own,
     At(Roots),
     MovedAway,
 }
@@ -40,11 +42,11 @@ pub enum Step {
     MovedAway,
 }
 
-// The variable x on the way, with so many links left after the place (LANGUAGE 3.13, 3.14); all of it must be whole if
-// the end of the value is looked for (3.15).
-fn step_at(env: &[u64], x: usize, remaining: usize, deep: bool) -> Step
-    requires { ⌜ (x * 8 + 8 ≤ length (now env)) × (remaining ≤ length (chainOf (linksAt (now env) x))) ⌝ }
-    ensures { λ r. ⌜ Passed deep (variableAt (now (env .entry)) x) (length (chainOf (linksAt (now (env .entry)) x)) - remaining) r ⌝ }
+// The variable x on the way, with so many follows from it (LANGUAGE 3.13, 3.14); all of it must be whole if the end of
+// the value is looked for (3.15).
+fn step_at(env: &[u64], x: usize, follows: usize, deep: bool) -> Step
+    requires { ⌜ (x * 8 + 8 ≤ length (now env)) × (follows ≤ length (chainOf (linksAt (now env) x))) ⌝ }
+    ensures { λ r. ⌜ Passed deep (variableAt (now (env .entry)) x) follows r ⌝ }
 {
     let links = links_at(env, x);
     let boxes = leading_boxes(links) as u64;
@@ -54,7 +56,7 @@ fn step_at(env: &[u64], x: usize, remaining: usize, deep: bool) -> Step
             return Step::MovedAway;
         }
     }
-    let follows = (chain_length(links) - remaining) as u64;
+    let follows = follows as u64;
     if follows <= boxes {
         if follows <= moved_from {
             return Step::Here;
@@ -80,7 +82,8 @@ fn search_beyond(env: &[u64], variables: usize, root: usize, remaining: usize, d
     while !is_empty(todo) {
         let x = lowest(todo);
         todo = without(todo, x);
-        let step = step_at(env, x, remaining, deep);
+        let follows = chain_length(links_at(env, x)) - remaining;
+        let step = step_at(env, x, follows, deep);
         match step {
             Step::MovedAway => {
                 return Ends::MovedAway;
@@ -98,17 +101,23 @@ fn search_beyond(env: &[u64], variables: usize, root: usize, remaining: usize, d
     Ends::At(ends)
 }
 
-// All that is met from the variable root on, which is in scope, with so many links left. Most often that is the root
-// alone.
-pub fn search(env: &[u64], variables: usize, root: usize, remaining: usize, deep: bool) -> Ends
-    requires { ⌜ NeatTable (now env) variables × (environmentOf (now env) root ≡ live (variableAt (now env) root)) × (remaining ≤ length (chainOf (linksAt (now env) root))) ⌝ }
-    ensures { λ r. ⌜ Searched variables (environmentOf (now (env .entry))) root remaining deep r ⌝ }
+// All that is met from the variable root on, which is in scope, with so many follows from it. Most often that is the
+// root alone; the links left are counted only where its borrow link is passed.
+pub fn search(env: &[u64], variables: usize, root: usize, follows: usize) -> Ends
+    requires { ⌜ NeatTable (now env) variables × (environmentOf (now env) root ≡ live (variableAt (now env) root)) × (follows ≤ length (chainOf (linksAt (now env) root))) ⌝ }
+    ensures { λ r. ⌜ Searched variables (environmentOf (now (env .entry))) root (length (chainOf (linksAt (now (env .entry)) root)) - follows) false r ⌝ }
 {
-    let step = step_at(env, root, remaining, deep);
+    let step = step_at(env, root, follows, false);
     match step {
         Step::MovedAway => Ends::MovedAway,
-        Step::Here => Ends::At(only(root)),
-        Step::Through => search_beyond(env, variables, root, remaining, deep),
+        Step::Here => Ends::Own,
+        Step::Through => search_beyond(
+            env,
+            variables,
+            root,
+            chain_length(links_at(env, root)) - follows,
+            false,
+        ),
     }
 }
 
@@ -126,8 +135,9 @@ pub fn value_whole(env: &[u64], variables: usize, x: usize) -> bool
     if chain_length(links) == boxes {
         return true;
     }
-    let ends = search(env, variables, x, 0, true);
+    let ends = search_beyond(env, variables, x, 0, true);
     match ends {
+        Ends::Own => true,
         Ends::At(_) => true,
         Ends::MovedAway => false,
     }

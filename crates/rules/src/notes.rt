@@ -1,12 +1,13 @@
 // What the table notes beside its entries, so that no rule has to look at all variables: of each root, who may hold a
-// borrow of it; and of all variables, how deep they live and how far their numbers are taken. The note of a root may have
-// more than its holders: nothing is taken out of it but where a variable leaves scope.
+// borrow of it; and in two rows after those of the variables, whose borrow link is exclusive, who is in scope, and how
+// far the numbers are taken. Nothing is taken out of the first two, so that they may have more than is so.
 ghost use mathlib.Core.Path.{_≡_};
+ghost use mathlib.Core.Bool.{true};
 ghost use Prim.Native.Nat.{ℕ, _<_, _≤_, _+_, _*_};
 ghost use lib.ListN.{length};
-ghost use Rattle.rules.specs.Environment.{used, live, fresh, update, movedAwayAt, refilled, widened};
+ghost use Rattle.rules.specs.Environment.{used, live, isFree, fresh, update, movedAwayAt, refilled, widened};
 ghost use Rattle.rules.specs.Chains.{chainOf};
-ghost use Rattle.rules.specs.Table.{TableFor, entryWord, environmentOf, linksAt, endIn, HolderNoted, Unrecorded, SameLinks, raised};
+ghost use Rattle.rules.specs.Table.{TableFor, entryWord, environmentOf, linksAt, endIn, HolderNoted, MemberAdded, ExclusiveNoted, Unrecorded, SameLinks, raised};
 use crate::chains::leading_boxes;
 use crate::roots::Roots;
 use crate::roots::is_empty;
@@ -14,6 +15,7 @@ use crate::roots::lowest;
 use crate::roots::only;
 use crate::roots::unite;
 use crate::roots::without;
+use crate::table::BorrowEnd;
 use crate::table::LEVEL;
 use crate::table::LINKS;
 use crate::table::LIVE;
@@ -21,6 +23,7 @@ use crate::table::MOVED_FROM;
 use crate::table::NOTE;
 use crate::table::STATUS;
 use crate::table::USED;
+use crate::table::borrow_end_of;
 use crate::table::holders_at;
 use crate::table::links_at;
 use crate::table::put_holders;
@@ -45,7 +48,7 @@ pub fn note_holder(env: &mut [u64], variables: usize, x: usize, roots: Roots)
     }
 }
 
-// The note of a row is `least` at least, for how deep variables live and which numbers are taken (LANGUAGE 3.6, 3.7).
+// The note of a row is `least` at least, for which numbers are taken (LANGUAGE 3.6).
 fn raise_note(env: &mut [u64], row: usize, least: u64)
     requires { ⌜ row * 8 + 8 ≤ length (now env) ⌝ }
     ensures { λ _. ⌜ ((y j : ℕ) → j < 8 → entryWord (now (env .exit)) y j ≡ raised (entryWord (now (env .entry))) row least y j) ⌝ }
@@ -55,10 +58,30 @@ fn raise_note(env: &mut [u64], row: usize, least: u64)
     }
 }
 
+// The variable x comes into the set of a row: of what is in scope, or has an exclusive borrow link (LANGUAGE 3.8, 3.11).
+fn add_member(env: &mut [u64], row: usize, x: usize)
+    requires { ⌜ (row * 8 + 8 ≤ length (now env)) × (x < 128) ⌝ }
+    ensures { λ _. ⌜ MemberAdded (now (env .entry)) row x (now (env .exit)) ⌝ }
+{
+    let all = unite(roots_at(env, row), only(x));
+    put_roots(env, row, all);
+}
+
+// Notes that the first borrow link of x is exclusive, if it is (LANGUAGE 3.11).
+fn note_exclusive(env: &mut [u64], variables: usize, x: usize, links: u32)
+    requires { ⌜ (variables * 8 + 16 ≤ length (now env)) × (x < 128) ⌝ }
+    ensures { λ _. ⌜ ExclusiveNoted variables (now (env .entry)) x links (now (env .exit)) ⌝ }
+{
+    let end = borrow_end_of(links, only(x));
+    if let BorrowEnd::Exclusive(_) = end {
+        add_member(env, variables, x);
+    }
+}
+
 // The end of a let (LANGUAGE 3.24): the number x is in scope from here on, with a value of these links. Nothing records
 // x before.
 pub fn store(env: &mut [u64], variables: usize, x: usize, links: u32, roots: Roots, level: u64)
-    requires { ⌜ TableFor (now env) variables × (x < variables) × Unrecorded (now env) x (endIn (now env) (chainOf links) roots) ⌝ }
+    requires { ⌜ TableFor (now env) variables × (x < variables) × (environmentOf (now env) x ≡ used) × Unrecorded (now env) x (endIn (now env) (chainOf links) roots) ⌝ }
     ensures { λ _. ⌜ (environmentOf (now (env .exit)) ≡ update (environmentOf (now (env .entry))) x (live (fresh (chainOf links) (endIn (now (env .entry)) (chainOf links) roots) level))) × TableFor (now (env .exit)) variables ⌝ }
 {
     put_word(env, x, STATUS, LIVE);
@@ -67,13 +90,13 @@ pub fn store(env: &mut [u64], variables: usize, x: usize, links: u32, roots: Roo
     put_word(env, x, LEVEL, level);
     put_roots(env, x, roots);
     note_holder(env, variables, x, roots);
-    raise_note(env, variables, level);
-    raise_note(env, variables + 1, (x + 1) as u64);
+    note_exclusive(env, variables, x, links);
+    add_member(env, variables + 1, x);
 }
 
-// The number x is taken, and not in scope: a let begins (LANGUAGE 3.24), or its block ends (3.28).
+// The number x is taken, and not in scope: a let begins (LANGUAGE 3.24).
 pub fn take_number(env: &mut [u64], variables: usize, x: usize)
-    requires { ⌜ TableFor (now env) variables × (x < variables) ⌝ }
+    requires { ⌜ TableFor (now env) variables × (x < variables) × (isFree (environmentOf (now env) x) ≡ true) ⌝ }
     ensures { λ _. ⌜ (environmentOf (now (env .exit)) ≡ update (environmentOf (now (env .entry))) x used) × TableFor (now (env .exit)) variables × SameLinks (now (env .entry)) (now (env .exit)) ⌝ }
 {
     put_word(env, x, STATUS, USED);

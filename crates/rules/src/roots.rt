@@ -66,6 +66,16 @@ pub fn unite(a: Roots, b: Roots) -> Roots
     }
 }
 
+// What is in both.
+pub fn common(a: Roots, b: Roots) -> Roots
+    ensures { λ r. ⌜ ((x : ℕ) → has r x ≡ pick (has a x) (has b x) false) ⌝ }
+{
+    Roots {
+        low: a.low & b.low,
+        high: a.high & b.high,
+    }
+}
+
 // What is in a and not in b: the bits of either that b does not have.
 pub fn less(a: Roots, b: Roots) -> Roots
     ensures { λ r. ⌜ ((x : ℕ) → has r x ≡ pick (has b x) false (has a x)) ⌝ }

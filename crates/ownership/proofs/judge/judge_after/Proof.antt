@@ -1,10 +1,14 @@
 -- `ownership::judge::judge_after` meets its contract. Assumes nothing.
 use native.Mathlib.Omega.{arith}
 use mathlib.Core.Path.{sym, _∙_}
+use Rattle.ownership.proofs.JudgeLaws.{told-ended}
 use Rattle.ownership.proofs.AroundLaws.{after-refused, after-box, after-let, after-assign}
 use borrow.Author.Needs.{needs}
 use Rattle.ownership.proofs.judge.judge_after.Statement.{statement}
 use Rattle.ownership.proofs.judge.judge_after.Tie as tie
+
+verdict-of-requires : tie.Need-verdict-of-requires
+verdict-of-requires c κs = search needs
 
 enum-known-verdict : tie.Need-enum-known-verdict
 enum-known-verdict c = search needs
@@ -13,86 +17,120 @@ enum-told : tie.Need-enum-told
 enum-told c = search needs
 
 returns : tie.Need-returns
-returns c = (after-refused _ _ _ _ _ _ _ _ (c .enum-told .given .1), c .before .before .before .before .pre .1)
+returns c =
+    let at-verdict-of = c .before .before in
+    let start = at-verdict-of .before .before .before in
+    (after-refused _ _ _ _ _ _ _ (sym (at-verdict-of .verdict-of .ensures) ∙ c .enum-told .given .1), start .pre .1)
 
 field-at-requires : tie.Need-field-at-requires
-field-at-requires c κs = (c .before .before .before .before .before .pre .0 .room, omega arith)
+field-at-requires c κs =
+    let start = c .before .before .before .before .before .before in
+    (start .pre .0 .room, omega arith)
 
 judge-box-requires : tie.Need-judge-box-requires
 judge-box-requires c κs = search needs
 
+judged-term-requires : tie.Need-judged-term-requires
+judged-term-requires c κs = search needs
+
 index-at-requires : tie.Need-index-at-requires
-index-at-requires c κs = (c .before .before .before .before .before .before .before .pre .0 .room, omega arith)
+index-at-requires c κs =
+    let start = c .before .before .before .before .before .before .before .before in
+    (start .pre .0 .room, omega arith)
 
 judge-let-requires : tie.Need-judge-let-requires
 judge-let-requires c κs =
-    let at-field-at = c .before .before .before in
+    let at-index-at = c .before in
+    let at-match2 = at-index-at .before in
+    let at-field-at = at-match2 .before in
     let at-verdict = at-field-at .before .before in
-    let fine = at-verdict .verdict .given .1 in
-    let start = at-verdict .before .before .before .before in
+    let at-verdict-of = at-verdict .before .before in
+    let start = at-verdict-of .before .before .before in
+    let fine = sym (at-verdict-of .verdict-of .ensures) ∙ at-verdict .verdict .given .1 in
     let ready = start .pre .2 in
-    let k = sym (at-field-at .field-at .ensures) ∙ c .before .before .match2 .keys2 in
-    let x = c .before .index-at .ensures in
+    let k = sym (at-field-at .field-at .ensures) ∙ at-match2 .match2 .keys2 in
+    let x = at-index-at .index-at .ensures in
     ((start .pre .1, (_, ready .neat _ fine)), omega (arith, x, start .pre .0 .number k), rw x (ready .taken _ fine k), ready .value _ fine)
 
+judged-term-requires-2 : tie.Need-judged-term-requires-2
+judged-term-requires-2 c κs = search needs
+
 place-at-requires : tie.Need-place-at-requires
-place-at-requires c κs = (c .before .before .before .before .before .before .before .pre .0 .room, omega arith)
+place-at-requires c κs =
+    let start = c .before .before .before .before .before .before .before .before in
+    (start .pre .0 .room, omega arith)
 
 judge-assign-requires : tie.Need-judge-assign-requires
 judge-assign-requires c κs =
     let at-verdict = c .before .before .before .before .before in
-    let fine = at-verdict .verdict .given .1 in
-    let start = at-verdict .before .before .before .before in
+    let at-verdict-of = at-verdict .before .before in
+    let start = at-verdict-of .before .before .before in
+    let fine = sym (at-verdict-of .verdict-of .ensures) ∙ at-verdict .verdict .given .1 in
     let ready = start .pre .2 in
     ((start .pre .1, (_, ready .neat _ fine)), (_, ready .value _ fine))
 
+judged-term-requires-3 : tie.Need-judged-term-requires-3
+judged-term-requires-3 c κs = search needs
+
 returns-2 : tie.Need-returns-2
 returns-2 c =
-    let at-field-at = c .before .before in
+    let at-judge-box = c .before in
+    let at-match2 = at-judge-box .before in
+    let at-field-at = at-match2 .before in
     let at-verdict = at-field-at .before .before in
-    let start = at-verdict .before .before .before .before in
-    (after-box _ _ _ _ _ _ _ (at-verdict .verdict .given .1) _ _ (sym (at-field-at .field-at .ensures) ∙ c .before .match2 .keys1) (c .judge-box .ensures _ _), start .pre .1)
+    let at-verdict-of = at-verdict .before .before in
+    let start = at-verdict-of .before .before .before in
+    let fine = sym (at-verdict-of .verdict-of .ensures) ∙ at-verdict .verdict .given .1 in
+    (after-box _ _ _ _ _ _ _ fine _ _ (sym (at-field-at .field-at .ensures) ∙ at-match2 .match2 .keys1) (told-ended _ _ _ _ _ (c .judged-term .ensures) _ (at-judge-box .judge-box .ensures _ _ _)), start .pre .1)
 
 same-length : tie.Need-same-length
 same-length c = search needs
 
 returns-3 : tie.Need-returns-3
 returns-3 c =
-    let at-judge-let = c .before .before in
+    let at-judge-let = c .before .before .before in
     let at-index-at = at-judge-let .before .before in
     let at-match2 = at-index-at .before in
     let at-field-at = at-match2 .before in
     let at-verdict = at-field-at .before .before in
-    (after-let _ _ _ _ _ _ _ (at-verdict .verdict .given .1) _ _ (sym (at-field-at .field-at .ensures) ∙ at-match2 .match2 .keys2) _ (at-index-at .index-at .ensures) (at-judge-let .judge-let .ensures .0), at-judge-let .judge-let .ensures .1)
+    let at-verdict-of = at-verdict .before .before in
+    let fine = sym (at-verdict-of .verdict-of .ensures) ∙ at-verdict .verdict .given .1 in
+    (after-let _ _ _ _ _ _ _ fine _ _ (sym (at-field-at .field-at .ensures) ∙ at-match2 .match2 .keys2) _ (at-index-at .index-at .ensures) (told-ended _ _ _ _ _ (c .judged-term2 .ensures) _ (at-judge-let .judge-let .ensures .0 _)), at-judge-let .judge-let .ensures .1)
 
 same-length-2 : tie.Need-same-length-2
 same-length-2 c = search needs
 
 returns-4 : tie.Need-returns-4
 returns-4 c =
-    let at-judge-assign = c .before .before in
+    let at-judge-assign = c .before .before .before in
     let at-place-at = at-judge-assign .before .before in
     let at-match2 = at-place-at .before in
     let at-field-at = at-match2 .before in
     let at-verdict = at-field-at .before .before in
-    let start = at-verdict .before .before .before .before in
+    let at-verdict-of = at-verdict .before .before in
+    let start = at-verdict-of .before .before .before in
+    let fine = sym (at-verdict-of .verdict-of .ensures) ∙ at-verdict .verdict .given .1 in
     let rest = at-match2 .match2 .rest in
     let k = at-field-at .field-at .ensures in
-    (after-assign _ _ _ _ _ _ _ (at-verdict .verdict .given .1) _ _ (start .pre .0) (λ e. rest .0 .1 (k ∙ e)) (λ e. rest .1 (k ∙ e)) _ (at-place-at .place-at .ensures) (at-judge-assign .judge-assign .ensures .0), at-judge-assign .judge-assign .ensures .1)
+    (after-assign _ _ _ _ _ _ _ fine _ _ (start .pre .0) (λ e. rest .0 .1 (k ∙ e)) (λ e. rest .1 (k ∙ e)) _ (at-place-at .place-at .ensures) (told-ended _ _ _ _ _ (c .judged-term3 .ensures) _ (at-judge-assign .judge-assign .ensures .0 _)), at-judge-assign .judge-assign .ensures .1)
 
 pub judge-after-spec : {M : Type 1} → statement M
 judge-after-spec =
     tie.close
     (tie.spec
+    verdict-of-requires
     enum-known-verdict
     enum-told
     returns
     field-at-requires
     judge-box-requires
+    judged-term-requires
     index-at-requires
     judge-let-requires
+    judged-term-requires-2
     place-at-requires
     judge-assign-requires
+    judged-term-requires-3
     returns-2
     same-length
     returns-3

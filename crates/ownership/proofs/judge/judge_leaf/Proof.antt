@@ -65,7 +65,7 @@ returns-5 c =
 returns-6 : tie.Need-returns-6
 returns-6 c =
     let r = c .before .match .rest in
-    (c .number-value .ensures _ ∙ sym (leaf-number _ _ _ _ _ _ (r .0 .0 .0 .0 .1) (r .0 .0 .0 .1) (r .0 .0 .1) (r .0 .1) (λ k. r .1 (inl k)) (λ k. r .1 (inr k))), c .before .before .before .pre .0)
+    (λ i. c .number-value .ensures _ i ∙ sym (leaf-number _ _ i _ _ _ (r .0 .0 .0 .0 .1) (r .0 .0 .0 .1) (r .0 .0 .1) (r .0 .1) (λ k. r .1 (inl k)) (λ k. r .1 (inr k))), c .before .before .before .pre .0)
 
 pub judge-leaf-spec : {M : Type 1} → statement M
 judge-leaf-spec =

@@ -1,5 +1,6 @@
 -- `ownership::judge::judge_script` meets its contract. Assumes nothing.
 use native.Mathlib.Omega.{arith}
+use mathlib.Core.Path.{sym, _∙_}
 use borrow.Author.Needs.{needs}
 use Rattle.reader.specs.RowTrees.{treeAt}
 use Rattle.reader.proofs.RowTreeLaws.{rest-one}
@@ -11,8 +12,12 @@ use Rattle.ownership.proofs.judge.judge_script.Tie as tie
 
 judge-terms-requires : tie.Need-judge-terms-requires
 judge-terms-requires c κs =
-    let p = c .before .before .before .pre in
+    let start = c .before .before .before in
+    let p = start .pre in
     (rest-one _ _ (p .0), p .1, rw (p .2) (neat-start _), omega (arith, p .3))
+
+verdict-of-requires : tie.Need-verdict-of-requires
+verdict-of-requires c κs = search needs
 
 enum-known-verdict : tie.Need-enum-known-verdict
 enum-known-verdict c = search needs
@@ -24,31 +29,40 @@ judge-answer-requires : tie.Need-judge-answer-requires
 judge-answer-requires c κs = search needs
 
 same-length : tie.Need-same-length
-same-length c = c .before .before .before .before .before .judge-terms .kept .1 .1 .1 .1 .0
+same-length c =
+    let at-judge-terms = c .before .before .before .before .before .before in
+    at-judge-terms .judge-terms .kept .1 .1 .1 .1 .0
 
 returns : tie.Need-returns
 unfolding asRequirement
 returns c =
     let at-verdict = c .before in
-    let at-judge-terms = at-verdict .before .before .before .before in
+    let at-verdict-of = at-verdict .before .before in
+    let at-judge-terms = at-verdict-of .before .before .before in
     let start = at-judge-terms .before .before .before .before in
-    script-refused _ _ _ (start .pre .0) _ (start .pre .2) _ _ (at-judge-terms .judge-terms .ensures .0) _ _ (at-verdict .verdict .given .1)
+    let refused = sym (at-verdict-of .verdict-of .ensures) ∙ at-verdict .verdict .given .1 in
+    script-refused _ _ _ (start .pre .0) _ (start .pre .2) _ _ (at-judge-terms .judge-terms .ensures .0) _ refused
 
 same-length-2 : tie.Need-same-length-2
-same-length-2 c = c .before .before .before .before .before .before .judge-terms .kept .1 .1 .1 .1 .0
+same-length-2 c =
+    let at-judge-terms = c .before .before .before .before .before .before .before in
+    at-judge-terms .judge-terms .kept .1 .1 .1 .1 .0
 
 returns-2 : tie.Need-returns-2
 returns-2 c =
     let at-verdict2 = c .before .before in
-    let at-judge-terms = at-verdict2 .before .before .before .before in
+    let at-verdict-of = at-verdict2 .before .before in
+    let at-judge-terms = at-verdict-of .before .before .before in
     let start = at-judge-terms .before .before .before .before in
-    script-fine _ (treeAt _ _ _) _ (start .pre .0) _ (start .pre .2) _ _ (at-judge-terms .judge-terms .ensures .0) _ (at-verdict2 .verdict2 .given .1) _ (c .judge-answer .ensures)
+    let fine = sym (at-verdict-of .verdict-of .ensures) ∙ at-verdict2 .verdict2 .given .1 in
+    script-fine _ (treeAt _ _ _) _ (start .pre .0) _ (start .pre .2) _ _ (at-judge-terms .judge-terms .ensures .0) _ fine _ (c .judge-answer .ensures)
 
 pub judge-script-spec : {M : Type 1} → statement M
 judge-script-spec =
     tie.close
     (tie.spec
     judge-terms-requires
+    verdict-of-requires
     enum-known-verdict
     enum-known-verdict-2
     judge-answer-requires

@@ -6,7 +6,7 @@ use borrow.Author.Needs.{needs}
 use Rattle.rules.specs.Masks.{has}
 use Rattle.rules.proofs.ClosureLoop.{count}
 use Rattle.rules.proofs.MaskLaws.{one-out}
-use Rattle.rules.proofs.WriteLaws.{Checked, checked-first, checked-next, checked-all, LivesFor, long-lived, too-short, all-long}
+use Rattle.rules.proofs.WriteLaws.{Checked, checked-first, checked-next, checked-all, LivesFor, long-lived, too-short, all-long, none-recorded}
 use Rattle.rules.proofs.assign.live_long_enough.Statement.{statement}
 use Rattle.rules.proofs.assign.live_long_enough.Tie as tie
 
@@ -16,14 +16,20 @@ Inv-loop env variables roots left₀ left = Checked left₀ left (LivesFor env r
 abbrev μ-loop : tie.MeasureT-loop
 μ-loop env variables roots left₀ left = count (has left) 128
 
-loop-holds : tie.Need-loop-holds Inv-loop μ-loop
-loop-holds c = checked-first _ _
-
 is-empty-requires : tie.Need-is-empty-requires Inv-loop μ-loop
 is-empty-requires c κs = search needs
 
+returns : tie.Need-returns Inv-loop μ-loop
+returns c = none-recorded _ _ _ _ (sym (c .before .is-empty .ensures) ∙ c .if1 .taken)
+
+loop-holds : tie.Need-loop-holds Inv-loop μ-loop
+loop-holds c = checked-first _ _
+
+is-empty-requires-2 : tie.Need-is-empty-requires-2 Inv-loop μ-loop
+is-empty-requires-2 c κs = search needs
+
 lowest-requires : tie.Need-lowest-requires Inv-loop μ-loop
-lowest-requires c κs = sym (c .before .is-empty .ensures) ∙ not-true (c .before .is-empty .result) (c .if1 .taken)
+lowest-requires c κs = sym (c .before .is-empty2 .ensures) ∙ not-true (c .before .is-empty2 .result) (c .if2 .taken)
 
 level-at-requires : tie.Need-level-at-requires Inv-loop μ-loop
 level-at-requires c κs = search needs
@@ -31,15 +37,15 @@ level-at-requires c κs = search needs
 lives-at-requires : tie.Need-lives-at-requires Inv-loop μ-loop
 lives-at-requires c κs = search needs
 
-returns : tie.Need-returns Inv-loop μ-loop
-returns c =
+returns-2 : tie.Need-returns-2 Inv-loop μ-loop
+returns-2 c =
     let at-lives = c .before in
     let at-level = at-lives .before in
     let at-lowest = at-level .before in
     let at-loop = at-lowest .before .before .before in
-    let start = at-loop .before .before in
+    let start = at-loop .before .before .before .before in
     let is-in = at-loop .loop .inv .0 _ (at-lowest .lowest .ensures .0) in
-    too-short _ _ _ _ (at-level .level-at .ensures) (at-lives .lives-at .result) (at-lives .lives-at .ensures) _ _ (not-true (at-lives .lives-at .result) (c .if2 .taken)) (start .pre .1 _ is-in) is-in
+    too-short _ _ _ _ (at-level .level-at .ensures) (at-lives .lives-at .result) (at-lives .lives-at .ensures) _ _ (not-true (at-lives .lives-at .result) (c .if3 .taken)) (start .pre .1 _ is-in) is-in
 
 without-requires : tie.Need-without-requires Inv-loop μ-loop
 without-requires c κs = search needs
@@ -51,10 +57,10 @@ loop-again : tie.Need-loop-again Inv-loop μ-loop
 loop-again c =
     let at-lives = c .before .before in
     let at-level = at-lives .before in
-    checked-next _ _ _ _ _ (c .without .ensures) (long-lived _ _ _ _ (at-level .level-at .ensures) (at-lives .lives-at .result) (at-lives .lives-at .ensures) (not-false (at-lives .lives-at .result) (c .before .if2 .left))) (at-level .before .before .before .before .loop .inv)
+    checked-next _ _ _ _ _ (c .without .ensures) (long-lived _ _ _ _ (at-level .level-at .ensures) (at-lives .lives-at .result) (at-lives .lives-at .ensures) (not-false (at-lives .lives-at .result) (c .before .if3 .left))) (at-level .before .before .before .before .loop .inv)
 
-returns-2 : tie.Need-returns-2 Inv-loop μ-loop
-returns-2 c = all-long _ _ _ _ (checked-all _ _ _ (sym (c .before .is-empty .ensures) ∙ not-false (c .before .is-empty .result) (c .if1 .left)) (c .before .before .loop .inv))
+returns-3 : tie.Need-returns-3 Inv-loop μ-loop
+returns-3 c = all-long _ _ _ _ (checked-all _ _ _ (sym (c .before .is-empty2 .ensures) ∙ not-false (c .before .is-empty2 .result) (c .if2 .left)) (c .before .before .loop .inv))
 
 pub live-long-enough-spec : {M : Type 1} → statement M
 live-long-enough-spec =
@@ -62,13 +68,15 @@ live-long-enough-spec =
     (tie.spec
     Inv-loop
     μ-loop
-    loop-holds
     is-empty-requires
+    returns
+    loop-holds
+    is-empty-requires-2
     lowest-requires
     level-at-requires
     lives-at-requires
-    returns
+    returns-2
     without-requires
     loop-less
     loop-again
-    returns-2)
+    returns-3)

@@ -1,5 +1,4 @@
--- `rules::bars::is_held` meets its contract. All that hold are among those left; at the start that is what the note of the root says. Assumes
--- nothing.
+-- `rules::bars::is_held` meets its contract. All that hold are among those left; at the start that is required. Assumes nothing.
 use native.Mathlib.Omega.{arith}
 use mathlib.Core.Path.{sym, _∙_}
 use borrow.Author.Needs.{needs}
@@ -18,13 +17,8 @@ Inv-loop env variables root any left₀ left = AllIn left (borrowsBy any) (envir
 abbrev μ-loop : tie.MeasureT-loop
 μ-loop env variables root any left₀ left = count (has left) 128
 
-holders-at-requires : tie.Need-holders-at-requires Inv-loop μ-loop
-holders-at-requires c κs = omega (arith, c .before .pre .0 .0, c .before .pre .1)
-
 loop-holds : tie.Need-loop-holds Inv-loop μ-loop
-loop-holds c =
-    let start = c .before .before in
-    λ y h. rw (c .holders-at .ensures) (held-noted _ _ _ (start .pre .0) (start .pre .1) _ y h .1)
+loop-holds c = c .before .pre .2
 
 is-empty-requires : tie.Need-is-empty-requires Inv-loop μ-loop
 is-empty-requires c κs = search needs
@@ -33,10 +27,13 @@ lowest-requires : tie.Need-lowest-requires Inv-loop μ-loop
 lowest-requires c κs = sym (c .before .is-empty .ensures) ∙ not-true _ (c .if1 .taken)
 
 holds-requires : tie.Need-holds-requires Inv-loop μ-loop
-holds-requires c κs = c .before .before .before .before .before .before .pre
+holds-requires c κs = let start = c .before .before .before .before .before in (start .pre .0, start .pre .1)
 
 returns : tie.Need-returns Inv-loop μ-loop
-returns c = sym (held-some _ _ _ _ _ (held-noted _ _ _ (c .before .before .before .before .before .before .before .before .pre .0) (c .before .before .before .before .before .before .before .before .pre .1) _ _ (sym (c .before .holds .ensures) ∙ c .if2 .taken) .0) (sym (c .before .holds .ensures) ∙ c .if2 .taken))
+returns c =
+    let start = c .before .before .before .before .before .before .before in
+    let holds = sym (c .before .holds .ensures) ∙ c .if2 .taken in
+    sym (held-some _ _ _ _ _ (held-noted _ _ _ (start .pre .0) (start .pre .1) _ _ holds .0) holds)
 
 without-requires : tie.Need-without-requires Inv-loop μ-loop
 without-requires c κs = c .before .before .lowest .ensures .1
@@ -56,7 +53,6 @@ is-held-spec =
     (tie.spec
     Inv-loop
     μ-loop
-    holders-at-requires
     loop-holds
     is-empty-requires
     lowest-requires

@@ -1,15 +1,20 @@
 -- `rules::bars::read_barred` meets its contract. Assumes nothing.
 use native.Mathlib.Omega.{arith}
 use mathlib.Core.Path.{sym, _∙_}
-use mathlib.Core.Bool.{false}
 use borrow.Author.Needs.{needs}
 use Rattle.rules.specs.Table.{borrowsBy}
-use Rattle.rules.proofs.HeldLaws.{none-noted}
+use Rattle.rules.proofs.HeldLaws.{nobody-in, exclusive-in}
 use Rattle.rules.proofs.bars.read_barred.Statement.{statement}
 use Rattle.rules.proofs.bars.read_barred.Tie as tie
 
 holders-at-requires : tie.Need-holders-at-requires
 holders-at-requires c κs = omega (arith, c .before .pre .0 .0, c .before .pre .1)
+
+roots-at-requires : tie.Need-roots-at-requires
+roots-at-requires c κs = omega (arith, c .before .before .pre .0 .0)
+
+common-requires : tie.Need-common-requires
+common-requires c κs = search needs
 
 is-empty-requires : tie.Need-is-empty-requires
 is-empty-requires c κs = search needs
@@ -17,15 +22,23 @@ is-empty-requires c κs = search needs
 returns : tie.Need-returns
 unfolding borrowsBy
 returns c =
-    let start = c .before .before .before .before in
-    sym (none-noted _ _ _ (start .pre .0) (start .pre .1) _ (c .before .before .holders-at .ensures) (sym (c .before .is-empty .ensures) ∙ c .if1 .taken) false)
+    let at-common = c .before .before in
+    let at-roots-at = at-common .before in
+    let at-holders = at-roots-at .before in
+    let start = at-holders .before .before in
+    sym (nobody-in _ _ _ _ _ (exclusive-in _ _ _ (start .pre .0) (start .pre .1) _ _ _ (at-holders .holders-at .ensures) (at-common .common .ensures) (at-roots-at .roots-at .ensures)) (sym (c .before .is-empty .ensures) ∙ c .if1 .taken))
 
 is-held-requires : tie.Need-is-held-requires
-is-held-requires c κs = search needs
+is-held-requires c κs =
+    let at-common = c .before .before in
+    let at-roots-at = at-common .before in
+    let at-holders = at-roots-at .before in
+    let start = at-holders .before .before in
+    (start .pre .0, start .pre .1, exclusive-in _ _ _ (start .pre .0) (start .pre .1) _ _ _ (at-holders .holders-at .ensures) (at-common .common .ensures) (at-roots-at .roots-at .ensures))
 
 returns-2 : tie.Need-returns-2
 unfolding borrowsBy
 returns-2 c = c .is-held .ensures
 
 pub read-barred-spec : {M : Type 1} → statement M
-read-barred-spec = tie.close (tie.spec holders-at-requires is-empty-requires returns is-held-requires returns-2)
+read-barred-spec = tie.close (tie.spec holders-at-requires roots-at-requires common-requires is-empty-requires returns is-held-requires returns-2)

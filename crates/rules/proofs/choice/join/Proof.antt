@@ -1,11 +1,10 @@
 -- `rules::choice::join` meets its contract. The loop: rows before x are joined with what was kept, from x on all is as at first. Assumes nothing.
-use Prim.Native.Nat.{_-_, _≤_}
+use Prim.Native.Nat.{_-_, _≤_, _<_}
 use native.Mathlib.Omega.{arith}
 use mathlib.Core.Path.{_≡_, refl, subst, _∙_}
 use lib.ListN.{length}
-use borrow.Author.Needs.{needs}
 use Rattle.rules.specs.Table.{Noted}
-use Rattle.rules.proofs.RowLaws.{fixed-links}
+use Rattle.rules.proofs.RowLaws.{moved-noted, fixed-links}
 use Rattle.rules.proofs.ChoiceLaws.{Joining, joining-first, joining-round, joined-is}
 use Rattle.rules.proofs.choice.join.Statement.{statement}
 use Rattle.rules.proofs.choice.join.Tie as tie
@@ -36,58 +35,38 @@ move-earlier-requires c κs =
     omega (arith, at-test .loop-test .taken, at-loop .loop .inv .1, start .pre .0 .0 .0, start .pre .1)
 
 kept-roots-requires : tie.Need-kept-roots-requires Inv-loop μ-loop
-kept-roots-requires c κs = omega (arith, c .before .before .before .before .before .before .before .before .before .pre .2)
+kept-roots-requires c κs = omega (arith, c .before .before .before .before .before .before .before .before .before .before .pre .2)
 
-roots-at-requires : tie.Need-roots-at-requires Inv-loop μ-loop
-roots-at-requires c κs =
-    let at-test = c .before .before .before .before .before .before .before in
+add-roots-requires : tie.Need-add-roots-requires Inv-loop μ-loop
+add-roots-requires c κs =
+    let at-move = c .before .before .before .before in
+    let at-test = at-move .before .before .before in
     let at-loop = at-test .before in
     let start = at-loop .before .before .before in
-    omega (arith, at-test .loop-test .taken, at-loop .loop .inv .1, start .pre .0 .0 .0, start .pre .1, c .before .before .before .before .move-earlier .kept .0)
-
-unite-requires : tie.Need-unite-requires Inv-loop μ-loop
-unite-requires c κs = search needs
-
-put-roots-requires : tie.Need-put-roots-requires Inv-loop μ-loop
-put-roots-requires c κs =
-    let at-test = c .before .before .before .before .before .before .before .before .before .before in
-    let at-loop = at-test .before in
-    let start = at-loop .before .before .before in
-    omega (arith, at-test .loop-test .taken, at-loop .loop .inv .1, start .pre .0 .0 .0, start .pre .1, c .before .before .before .before .before .before .before .move-earlier .kept .0)
-
-note-holder-requires : tie.Need-note-holder-requires Inv-loop μ-loop
-note-holder-requires c κs =
-    let at-test = c .before .before .before .before .before .before .before .before .before .before .before .before .before .before in
-    let at-loop = at-test .before in
-    let start = at-loop .before .before .before in
-    (omega (arith, at-loop .loop .inv .1, start .pre .0 .0 .0, c .before .before .before .before .before .before .before .before .before .before .before .move-earlier .kept .0, c .before .before .before .put-roots .kept .0), omega (arith, at-test .loop-test .taken, start .pre .1, start .pre .0 .0 .1))
+    let inside : at-loop .loop .x < start .args .variables = omega (arith, at-test .loop-test .taken, start .pre .1) in
+    ((at-move .move-earlier .kept .0 ∙ at-loop .loop .inv .1 ∙ start .pre .0 .0 .0, start .pre .0 .0 .1, moved-noted _ (at-loop .loop .env) (at-move .move-earlier .last .0) _ _ (at-move .move-earlier .ensures) inside (at-loop .loop .inv .2)), inside)
 
 add-x : tie.Need-add-x Inv-loop μ-loop
 add-x c =
-    let at-test = c .before .before .before .before .before .before .before .before .before .before .before .before .before .before .before .before .before in
-    let at-loop = at-test .before in
-    let start = at-loop .before .before .before in
+    let at-test = c .before .before .before .before .before .before .before .before .before .before in
+    let start = at-test .before .before .before .before in
     omega (arith, at-test .loop-test .taken, start .pre .1, start .pre .0 .0 .1)
 
 loop-less : tie.Need-loop-less Inv-loop μ-loop
-loop-less c = omega (arith, c .before .before .before .before .before .before .before .before .before .before .before .before .before .before .before .before .before .loop-test .taken)
+loop-less c = omega (arith, c .before .before .before .before .before .before .before .before .before .before .loop-test .taken)
 
 loop-again : tie.Need-loop-again Inv-loop μ-loop
 loop-again c =
-    let at-note = c .before .before in
-    let at-put-roots = at-note .before .before .before .before in
-    let at-unite = at-put-roots .before .before in
-    let at-roots-at = at-unite .before in
-    let at-kept-roots = at-roots-at .before .before in
-    let at-move = at-kept-roots .before .before .before in
+    let at-add = c .before .before in
+    let at-kept-roots = at-add .before in
+    let at-move = at-kept-roots .before .before .before .before in
     let at-test = at-move .before .before .before in
     let at-loop = at-test .before in
     let start = at-loop .before .before .before in
     let round =
-    joining-round _ (start .args .env .now) (start .args .kept .now) _ (at-loop .loop .env) (at-move .move-earlier .last .0) (at-put-roots .put-roots .last .0) (at-note .note-holder .last .0) _ _ _ _ refl
-    (at-roots-at .roots-at .ensures) (at-kept-roots .kept-roots .ensures) (at-unite .unite .ensures) (at-move .move-earlier .ensures) (at-put-roots .put-roots .ensures) (at-note .note-holder .ensures)
-    (at-loop .loop .inv .2) (at-loop .loop .inv .3) in
-    (omega (arith, at-test .loop-test .taken), at-note .note-holder .kept .0 ∙ at-put-roots .put-roots .kept .0 ∙ at-move .move-earlier .kept .0 ∙ at-loop .loop .inv .1, round .0, round .1)
+    joining-round _ (start .args .env .now) (start .args .kept .now) _ (at-loop .loop .env) (at-move .move-earlier .last .0) (at-add .add-roots .last .0) _ _ refl (at-kept-roots .kept-roots .ensures) (at-move .move-earlier .ensures) (at-add .add-roots .ensures)
+    (at-loop .loop .inv .3) (omega (arith, at-test .loop-test .taken, start .pre .1)) (at-loop .loop .inv .2) in
+    (omega (arith, at-test .loop-test .taken), at-add .add-roots .kept .0 ∙ at-move .move-earlier .kept .0 ∙ at-loop .loop .inv .1, round .0, round .1)
 
 same-length : tie.Need-same-length Inv-loop μ-loop
 same-length c = c .before .loop .inv .1
@@ -112,10 +91,7 @@ join-spec =
     shared-slice-read-move-earlier
     move-earlier-requires
     kept-roots-requires
-    roots-at-requires
-    unite-requires
-    put-roots-requires
-    note-holder-requires
+    add-roots-requires
     add-x
     loop-less
     loop-again

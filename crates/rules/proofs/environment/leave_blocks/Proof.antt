@@ -1,101 +1,89 @@
--- `rules::environment::leave_blocks` meets its contract. The numbers from x on have left scope, the others are as at the start. Assumes nothing.
-use Prim.Native.Nat.{ℕ, _≤_}
+-- `rules::environment::leave_blocks` meets its contract. The variables that are taken out of `left` have left scope, all else is as at the start.
+-- Assumes nothing.
 use native.Mathlib.Omega.{arith}
 use native.Mathlib.Numerals.{add-one}
 use mathlib.Core.Path.{_≡_, refl, sym, _∙_}
 use lib.ListN.{length}
 use borrow.Author.Needs.{needs}
-use Rattle.rules.specs.Table.{environmentOf, TableFor, SameLinks}
-use Rattle.rules.proofs.LeavingLaws.{leftFrom, none-deeper, left-start, left-end, left-stays, left-leaves, left-level, put-environment, put-table}
+use borrow.Author.Tests.{not-true, not-false}
+use Rattle.rules.specs.Masks.{has}
+use Rattle.rules.proofs.ClosureLoop.{count}
+use Rattle.rules.proofs.MaskLaws.{none-in, one-out}
+use Rattle.rules.proofs.LeavingLaws.{Leaving, leaving-first, leaving-next, leaving-inside, all-left}
 use Rattle.rules.proofs.environment.leave_blocks.Statement.{statement}
 use Rattle.rules.proofs.environment.leave_blocks.Tie as tie
 
 abbrev Inv-loop : tie.InvT-loop
-Inv-loop env₀ variables level x₀ env x = (x ≤ variables) × (length env ≡ length env₀) × TableFor env variables × ((y : ℕ) → environmentOf env y ≡ leftFrom x level (environmentOf env₀) y) × SameLinks env₀ env
+Inv-loop env₀ variables before left₀ env left = (length env ≡ length env₀) × Leaving env₀ left₀ left env
 
 abbrev μ-loop : tie.MeasureT-loop
-μ-loop env₀ variables level x₀ env x = x
+μ-loop env₀ variables before left₀ env left = count (has left) 128
 
-word-at-requires : tie.Need-word-at-requires Inv-loop μ-loop
-word-at-requires c κs = search needs
+in-scope-requires : tie.Need-in-scope-requires Inv-loop μ-loop
+in-scope-requires c κs = search needs
 
-same-length : tie.Need-same-length Inv-loop μ-loop
-same-length c = search needs
-
-returns : tie.Need-returns Inv-loop μ-loop
-returns c =
-    let start = c .before .before .before .before in
-    (none-deeper _ _ (start .pre) _ (omega (arith, c .before .word-at .ensures, c .if1 .taken)), start .pre, λ y. refl)
-
-add-word-at : tie.Need-add-word-at Inv-loop μ-loop
-add-word-at c = search needs
-
-word-at-requires-2 : tie.Need-word-at-requires-2 Inv-loop μ-loop
-word-at-requires-2 c κs = search needs
+less-requires : tie.Need-less-requires Inv-loop μ-loop
+less-requires c κs = search needs
 
 loop-holds : tie.Need-loop-holds Inv-loop μ-loop
-loop-holds c =
-    let start = c .before .before .before .before .before .before in
-    let last = simp add-one at (c .word-at2 .ensures) in
-    (omega (arith, last, start .pre .2 .most), refl, start .pre, left-start _ _ _ (λ y h. start .pre .2 .untaken y (omega (arith, last))), λ y. refl)
+loop-holds c = (refl, leaving-first _ _)
 
-sub-x : tie.Need-sub-x Inv-loop μ-loop
-sub-x c = omega arith
+is-empty-requires : tie.Need-is-empty-requires Inv-loop μ-loop
+is-empty-requires c κs = search needs
 
-is-deeper-requires : tie.Need-is-deeper-requires Inv-loop μ-loop
-is-deeper-requires c κs = omega (arith, c .before .before .loop .inv .0, c .before .before .loop .inv .2 .0)
+lowest-requires : tie.Need-lowest-requires Inv-loop μ-loop
+lowest-requires c κs = sym (c .before .is-empty .ensures) ∙ not-true _ (c .if1 .taken)
 
-take-number-requires : tie.Need-take-number-requires Inv-loop μ-loop
-take-number-requires c κs = (c .before .before .before .before .before .loop .inv .2, omega (arith, c .before .before .before .before .before .loop .inv .0))
+without-requires : tie.Need-without-requires Inv-loop μ-loop
+without-requires c κs = c .lowest .ensures .1
+
+put-word-requires : tie.Need-put-word-requires Inv-loop μ-loop
+put-word-requires c κs =
+    let at-lowest = c .before .before in
+    let at-loop = at-lowest .before .before .before in
+    let at-less = at-loop .before in
+    let at-scope = at-less .before in
+    let start = at-scope .before .before .before in
+    let inside = leaving-inside _ _ (start .pre .0) _ _ _ (at-scope .in-scope .ensures) (at-less .less .ensures) _ _ (at-loop .loop .inv .1) _ (at-lowest .lowest .ensures .0) in
+    (omega (arith, inside, at-loop .loop .inv .0, start .pre .0 .0), omega arith)
 
 loop-less : tie.Need-loop-less Inv-loop μ-loop
-loop-less c = omega arith
+loop-less c =
+    let at-without = c .before .before .before .before in
+    omega (arith, one-out _ _ _ (at-without .before .lowest .ensures .0) (at-without .without .ensures))
 
 loop-again : tie.Need-loop-again Inv-loop μ-loop
 loop-again c =
-    let at-take = c .before .before in
-    let at-test = at-take .before .before in
-    let at-deeper = at-test .before in
-    let at-loop-test = at-deeper .before .before in
-    let at-loop = at-loop-test .before in (
-      omega (arith, at-loop .loop .inv .0),
-      at-take .take-number .kept .0 ∙ at-loop .loop .inv .1,
-      at-take .take-number .ensures .1,
-      left-leaves _ _ _ _ _ (at-loop-test .loop-test .taken) refl (at-loop .loop .inv .3) (sym (at-deeper .is-deeper .ensures) ∙ at-test .if2 .taken) _ (at-take .take-number .ensures .0),
-      λ y. at-take .take-number .ensures .2 y ∙ at-loop .loop .inv .4 y,
-    )
-
-loop-less-2 : tie.Need-loop-less-2 Inv-loop μ-loop
-loop-less-2 c = omega arith
-
-loop-again-2 : tie.Need-loop-again-2 Inv-loop μ-loop
-loop-again-2 c =
-    let at-deeper = c .before in
-    let at-loop-test = at-deeper .before .before in
-    let at-loop = at-loop-test .before in (
-      omega (arith, at-loop .loop .inv .0),
-      at-loop .loop .inv .1,
-      at-loop .loop .inv .2,
-      left-stays _ _ _ _ _ (at-loop-test .loop-test .taken) refl (at-loop .loop .inv .3) (sym (at-deeper .is-deeper .ensures) ∙ c .if2 .left),
-      at-loop .loop .inv .4,
-    )
-
-put-word-requires : tie.Need-put-word-requires Inv-loop μ-loop
-put-word-requires c κs = (omega (arith, c .before .before .loop .inv .2 .0), omega arith)
-
-same-length-2 : tie.Need-same-length-2 Inv-loop μ-loop
-same-length-2 c = c .before .before .put-word .kept .0 ∙ c .before .before .before .before .before .loop .inv .1
-
-returns-2 : tie.Need-returns-2 Inv-loop μ-loop
-returns-2 c =
     let at-put = c .before .before in
-    let at-loop = at-put .before .before .before in
-    let left = left-end _ _ _ _ (c .before .before .before .before .loop-test .left) (at-loop .loop .inv .3) in
-    let put = put-environment _ _ _ _ (at-put .put-word .ensures) in (
-      put .0 ∙ left,
-      put-table _ _ _ _ (at-put .put-word .ensures) (at-loop .loop .inv .2) (at-put .put-word .kept .0) (left-level _ _ _ left),
-      λ y. put .1 y ∙ at-loop .loop .inv .4 y,
-    )
+    let at-without = at-put .before .before in
+    let at-lowest = at-without .before in
+    let at-loop = at-lowest .before .before .before in
+    (at-put .put-word .kept .0 ∙ at-loop .loop .inv .0, leaving-next _ _ _ _ _ _ _ (at-loop .loop .inv .1) (at-lowest .lowest .ensures .0) (at-without .without .ensures) (at-put .put-word .ensures))
+
+add-put-roots : tie.Need-add-put-roots Inv-loop μ-loop
+add-put-roots c = search needs
+
+put-roots-requires : tie.Need-put-roots-requires Inv-loop μ-loop
+put-roots-requires c κs =
+    let at-loop = c .before .before .before in
+    let start = at-loop .before .before .before .before .before in
+    omega (arith, at-loop .loop .inv .0, start .pre .0 .0)
+
+same-length : tie.Need-same-length Inv-loop μ-loop
+same-length c = let at-put = c .before .before in at-put .put-roots .kept .0 ∙ at-put .before .before .before .before .loop .inv .0
+
+returns : tie.Need-returns Inv-loop μ-loop
+returns c =
+    let at-put = c .before .before in
+    let at-if = at-put .before .before in
+    let at-empty = at-if .before in
+    let at-loop = at-empty .before in
+    let at-less = at-loop .before in
+    let at-scope = at-less .before in
+    let start = at-scope .before .before .before in
+    let none = none-in _ (sym (at-empty .is-empty .ensures) ∙ not-false _ (at-if .if1 .left)) in
+    let put = simp add-one at (at-put .put-roots .ensures) in
+    all-left _ _ (start .pre .0) _ _ _ (at-scope .in-scope .ensures) (at-less .less .ensures) _ _ _ (start .pre .1) (at-loop .loop .inv .1) none put (at-put .put-roots .kept .0 ∙ at-loop .loop .inv .0)
 
 pub leave-blocks-spec : {M : Type 1} → statement M
 leave-blocks-spec =
@@ -103,19 +91,16 @@ leave-blocks-spec =
     (tie.spec
     Inv-loop
     μ-loop
-    word-at-requires
-    same-length
-    returns
-    add-word-at
-    word-at-requires-2
+    in-scope-requires
+    less-requires
     loop-holds
-    sub-x
-    is-deeper-requires
-    take-number-requires
+    is-empty-requires
+    lowest-requires
+    without-requires
+    put-word-requires
     loop-less
     loop-again
-    loop-less-2
-    loop-again-2
-    put-word-requires
-    same-length-2
-    returns-2)
+    add-put-roots
+    put-roots-requires
+    same-length
+    returns)

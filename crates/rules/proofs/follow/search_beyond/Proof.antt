@@ -1,9 +1,12 @@
 -- `rules::follow::search_beyond` meets its contract. The root has been looked at before the loop. What is met and no longer to do passes, and counts where following ends there; what it
 -- leads to is met. Nothing met is out of scope, so each round leaves one fewer of the variables. Assumes nothing.
+use Prim.Native.Nat.{ℕ}
 use native.Mathlib.Omega.{arith}
-use mathlib.Core.Path.{sym, _∙_}
+use mathlib.Core.Path.{sym, ap, _∙_}
+use lib.ListN.{length}
 use borrow.Author.Needs.{needs}
 use borrow.Author.Tests.{not-true, not-false}
+use Rattle.rules.specs.Chains.{chainOf}
 use Rattle.rules.specs.Masks.{has}
 use Rattle.rules.proofs.ClosureLoop.{count, waiting}
 use Rattle.rules.proofs.MaskLaws.{none-in}
@@ -50,46 +53,63 @@ lowest-requires c κs = sym (c .before .is-empty .ensures) ∙ not-true (c .befo
 without-requires : tie.Need-without-requires Inv-loop μ-loop
 without-requires c κs = c .lowest .ensures .1
 
-step-at-requires : tie.Need-step-at-requires Inv-loop μ-loop
-step-at-requires c κs =
+links-at-requires : tie.Need-links-at-requires Inv-loop μ-loop
+links-at-requires c κs =
     let start = c .before .before .before .before .before .before .before .before .before .before .before in
     let at = in-reach _ _ (start .pre .0) _ _ (start .pre .1) (start .pre .2) _ _ _ _ (c .before .before .before .before .loop .inv) _ (c .before .lowest .ensures .0) in
-    (omega (arith, start .pre .0 .0 .0, at .2), at .1)
+    omega (arith, start .pre .0 .0 .0, at .2)
+
+chain-length-requires : tie.Need-chain-length-requires Inv-loop μ-loop
+chain-length-requires c κs = search needs
+
+sub-follows : tie.Need-sub-follows Inv-loop μ-loop
+sub-follows c =
+    let start = c .before .before .before .before .before .before .before .before .before .before .before .before .before in
+    let at = in-reach _ _ (start .pre .0) _ _ (start .pre .1) (start .pre .2) _ _ _ _ (c .before .before .before .before .before .before .loop .inv) _ (c .before .before .before .lowest .ensures .0) in
+    let long = c .chain-length .ensures .0 ∙ ap (λ (k : ℕ). length (chainOf k)) (c .before .links-at .ensures) in
+    omega (arith, long, at .1)
+
+step-at-requires : tie.Need-step-at-requires Inv-loop μ-loop
+step-at-requires c κs =
+    let start = c .before .before .before .before .before .before .before .before .before .before .before .before .before in
+    let at = in-reach _ _ (start .pre .0) _ _ (start .pre .1) (start .pre .2) _ _ _ _ (c .before .before .before .before .before .before .loop .inv) _ (c .before .before .before .lowest .ensures .0) in
+    let long = c .chain-length .ensures .0 ∙ ap (λ (k : ℕ). length (chainOf k)) (c .before .links-at .ensures) in
+    (omega (arith, start .pre .0 .0 .0, at .2), omega (arith, long))
 
 enum-told : tie.Need-enum-told Inv-loop μ-loop
 enum-told c = search needs
 
 returns : tie.Need-returns Inv-loop μ-loop
 returns c =
-    let start = c .before .before .before .before .before .before .before .before .before .before .before .before .before .before in
-    search-stops _ _ (start .pre .0) _ _ (start .pre .1) (start .pre .2) _ _ _ _ (c .before .before .before .before .before .before .before .loop .inv) _ (c .before .before .before .before .lowest .ensures .0) _ (c .before .before .step-at .ensures) (c .enum-told .given .1)
+    let start = c .before .before .before .before .before .before .before .before .before .before .before .before .before .before .before .before in
+    search-stops _ _ (start .pre .0) _ _ (start .pre .1) (start .pre .2) _ _ _ _ (c .before .before .before .before .before .before .before .before .before .loop .inv) _ (c .before .before .before .before .before .before .lowest .ensures .0) _ _ (c .before .before .before .before .links-at .ensures) (c .before .before .before .chain-length .ensures .0) _ (c .before .before .step-at .ensures) (c .enum-told .given .1)
 
 enum-told-2 : tie.Need-enum-told-2 Inv-loop μ-loop
 enum-told-2 c = search needs
 
 only-requires-2 : tie.Need-only-requires-2 Inv-loop μ-loop
-only-requires-2 c κs = c .before .before .before .before .lowest .ensures .1
+only-requires-2 c κs = c .before .before .before .before .before .before .lowest .ensures .1
 
 unite-requires-2 : tie.Need-unite-requires-2 Inv-loop μ-loop
 unite-requires-2 c κs = search needs
 
 loop-less : tie.Need-loop-less Inv-loop μ-loop
 loop-less c =
-    let start = c .before .before .before .before .before .before .before .before .before .before .before .before .before .before .before .before in
-    here-less _ _ (start .pre .0) _ _ (start .pre .1) (start .pre .2) _ _ _ _ (c .before .before .before .before .before .before .before .before .before .loop .inv) _ (c .before .before .before .before .before .before .lowest .ensures .0) _ (c .before .before .before .before .step-at .ensures) _ (c .before .before .before .before .before .without .ensures) (c .before .before .enum-told2 .given .1)
+    let start = c .before .before .before .before .before .before .before .before .before .before .before .before .before .before .before .before .before .before in
+    here-less _ _ (start .pre .0) _ _ (start .pre .1) (start .pre .2) _ _ _ _ (c .before .before .before .before .before .before .before .before .before .before .before .loop .inv) _ (c .before .before .before .before .before .before .before .before .lowest .ensures .0) _ _ (c .before .before .before .before .before .before .links-at .ensures) (c .before .before .before .before .before .chain-length .ensures .0) _ (c .before .before .before .before .step-at .ensures) _ (c .before .before .before .before .before .before .before .without .ensures) (c .before .before .enum-told2 .given .1)
 
 loop-again : tie.Need-loop-again Inv-loop μ-loop
 loop-again c =
-    let start = c .before .before .before .before .before .before .before .before .before .before .before .before .before .before .before .before in
-    here-again _ _ (start .pre .0) _ _ (start .pre .1) (start .pre .2) _ _ _ _ (c .before .before .before .before .before .before .before .before .before .loop .inv) _ (c .before .before .before .before .before .before .lowest .ensures .0) _ (c .before .before .before .before .step-at .ensures) _ (c .before .before .before .before .before .without .ensures) (c .before .before .enum-told2 .given .1) _ _ (c .before .only2 .ensures) (c .unite2 .ensures)
+    let start = c .before .before .before .before .before .before .before .before .before .before .before .before .before .before .before .before .before .before in
+    here-again _ _ (start .pre .0) _ _ (start .pre .1) (start .pre .2) _ _ _ _ (c .before .before .before .before .before .before .before .before .before .before .before .loop .inv) _ (c .before .before .before .before .before .before .before .before .lowest .ensures .0) _ _ (c .before .before .before .before .before .before .links-at .ensures) (c .before .before .before .before .before .chain-length .ensures .0) _ (c .before .before .before .before .step-at .ensures) _ (c .before .before .before .before .before .before .before .without .ensures) (c .before .before .enum-told2 .given .1) _ _ (c .before .only2 .ensures) (c .unite2 .ensures)
 
 enum-told-3 : tie.Need-enum-told-3 Inv-loop μ-loop
 enum-told-3 c = search needs
 
 roots-at-requires-2 : tie.Need-roots-at-requires-2 Inv-loop μ-loop
 roots-at-requires-2 c κs =
-    let start = c .before .before .before .before .before .before .before .before .before .before .before .before .before .before in
-    let at = in-reach _ _ (start .pre .0) _ _ (start .pre .1) (start .pre .2) _ _ _ _ (c .before .before .before .before .before .before .before .loop .inv) _ (c .before .before .before .before .lowest .ensures .0) in
+    let start = c .before .before .before .before .before .before .before .before .before .before .before .before .before .before .before .before in
+    let at = in-reach _ _ (start .pre .0) _ _ (start .pre .1) (start .pre .2) _ _ _ _ (c .before .before .before .before .before .before .before .before .before .loop .inv) _ (c .before .before .before .before .before .before .lowest .ensures .0) in
     omega (arith, start .pre .0 .0 .0, at .2)
 
 less-requires-2 : tie.Need-less-requires-2 Inv-loop μ-loop
@@ -103,13 +123,13 @@ unite-requires-4 c κs = search needs
 
 loop-less-2 : tie.Need-loop-less-2 Inv-loop μ-loop
 loop-less-2 c =
-    let start = c .before .before .before .before .before .before .before .before .before .before .before .before .before .before .before .before .before .before in
-    through-less _ _ (start .pre .0) _ _ (start .pre .1) (start .pre .2) _ _ _ _ (c .before .before .before .before .before .before .before .before .before .before .before .loop .inv) _ (c .before .before .before .before .before .before .before .before .lowest .ensures .0) _ (c .before .before .before .before .before .before .step-at .ensures) _ (c .before .before .before .before .before .before .before .without .ensures) (c .before .before .before .before .enum-told3 .given .1) _ _ _ _ (c .before .before .before .roots-at2 .ensures) (c .before .before .less2 .ensures) (c .before .unite3 .ensures) (c .unite4 .ensures)
+    let start = c .before .before .before .before .before .before .before .before .before .before .before .before .before .before .before .before .before .before .before .before in
+    through-less _ _ (start .pre .0) _ _ (start .pre .1) (start .pre .2) _ _ _ _ (c .before .before .before .before .before .before .before .before .before .before .before .before .before .loop .inv) _ (c .before .before .before .before .before .before .before .before .before .before .lowest .ensures .0) _ _ (c .before .before .before .before .before .before .before .before .links-at .ensures) (c .before .before .before .before .before .before .before .chain-length .ensures .0) _ (c .before .before .before .before .before .before .step-at .ensures) _ (c .before .before .before .before .before .before .before .before .before .without .ensures) (c .before .before .before .before .enum-told3 .given .1) _ _ _ _ (c .before .before .before .roots-at2 .ensures) (c .before .before .less2 .ensures) (c .before .unite3 .ensures) (c .unite4 .ensures)
 
 loop-again-2 : tie.Need-loop-again-2 Inv-loop μ-loop
 loop-again-2 c =
-    let start = c .before .before .before .before .before .before .before .before .before .before .before .before .before .before .before .before .before .before in
-    through-again _ _ (start .pre .0) _ _ (start .pre .1) (start .pre .2) _ _ _ _ (c .before .before .before .before .before .before .before .before .before .before .before .loop .inv) _ (c .before .before .before .before .before .before .before .before .lowest .ensures .0) _ (c .before .before .before .before .before .before .step-at .ensures) _ (c .before .before .before .before .before .before .before .without .ensures) (c .before .before .before .before .enum-told3 .given .1) _ _ _ _ (c .before .before .before .roots-at2 .ensures) (c .before .before .less2 .ensures) (c .before .unite3 .ensures) (c .unite4 .ensures)
+    let start = c .before .before .before .before .before .before .before .before .before .before .before .before .before .before .before .before .before .before .before .before in
+    through-again _ _ (start .pre .0) _ _ (start .pre .1) (start .pre .2) _ _ _ _ (c .before .before .before .before .before .before .before .before .before .before .before .before .before .loop .inv) _ (c .before .before .before .before .before .before .before .before .before .before .lowest .ensures .0) _ _ (c .before .before .before .before .before .before .before .before .links-at .ensures) (c .before .before .before .before .before .before .before .chain-length .ensures .0) _ (c .before .before .before .before .before .before .step-at .ensures) _ (c .before .before .before .before .before .before .before .before .before .without .ensures) (c .before .before .before .before .enum-told3 .given .1) _ _ _ _ (c .before .before .before .roots-at2 .ensures) (c .before .before .less2 .ensures) (c .before .unite3 .ensures) (c .unite4 .ensures)
 
 returns-2 : tie.Need-returns-2 Inv-loop μ-loop
 returns-2 c =
@@ -131,6 +151,9 @@ search-beyond-spec =
     is-empty-requires
     lowest-requires
     without-requires
+    links-at-requires
+    chain-length-requires
+    sub-follows
     step-at-requires
     enum-told
     returns

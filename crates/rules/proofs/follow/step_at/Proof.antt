@@ -3,7 +3,6 @@ use Prim.Native.Nat.{ℕ}
 use native.Mathlib.Omega.{arith}
 use mathlib.Core.Path.{ap, _∙_}
 use mathlib.Core.Logic.{⊎-elim, inl, inr}
-use lib.ListN.{length}
 use borrow.Author.Needs.{needs}
 use Rattle.rules.specs.Links.{leadingBoxes}
 use Rattle.rules.specs.Chains.{chainOf}
@@ -26,41 +25,29 @@ returns c =
     let moved = c .before .before .word-at .ensures in
     step-moved _ _ _ (stops-deep _ _ _ (c .if2 .taken) (omega (arith, boxes, moved, c .before .if1 .taken)))
 
-chain-length-requires : tie.Need-chain-length-requires
-chain-length-requires c κs = search needs
-
-sub-follows : tie.Need-sub-follows
-sub-follows c =
-    let long = c .chain-length .ensures .0 ∙ ap (λ (k : ℕ). length (chainOf k)) (c .before .before .before .before .links-at .ensures) in
-    omega (arith, long, c .before .before .before .before .before .before .pre .1)
-
 returns-2 : tie.Need-returns-2
 returns-2 c =
-    let boxes = c .before .before .before .before .before .leading-boxes .ensures .0 ∙ ap (λ (k : ℕ). leadingBoxes (chainOf k)) (c .before .before .before .before .before .before .links-at .ensures) in
-    let moved = c .before .before .before .before .word-at .ensures in
-    let long = c .before .before .chain-length .ensures .0 ∙ ap (λ (k : ℕ). length (chainOf k)) (c .before .before .before .before .before .before .links-at .ensures) in
-    step-here _ _ _ (passes-here _ _ _ (⊎-elim (λ w. inl (w .1 .left)) (λ w. inr (omega (arith, boxes, moved, w .left))) (c .before .before .before .if1 .came)) (omega (arith, boxes, long, c .before .if3 .taken)) (omega (arith, moved, long, c .if4 .taken))) (omega (arith, boxes, long, c .before .if3 .taken))
+    let boxes = c .before .before .before .before .leading-boxes .ensures .0 ∙ ap (λ (k : ℕ). leadingBoxes (chainOf k)) (c .before .before .before .before .before .links-at .ensures) in
+    let moved = c .before .before .before .word-at .ensures in
+    step-here _ _ _ (passes-here _ _ _ (⊎-elim (λ w. inl (w .1 .left)) (λ w. inr (omega (arith, boxes, moved, w .left))) (c .before .before .if1 .came)) (omega (arith, boxes, c .before .if3 .taken)) (omega (arith, moved, c .if4 .taken))) (omega (arith, boxes, c .before .if3 .taken))
 
 returns-3 : tie.Need-returns-3
 returns-3 c =
-    let boxes = c .before .before .before .before .before .leading-boxes .ensures .0 ∙ ap (λ (k : ℕ). leadingBoxes (chainOf k)) (c .before .before .before .before .before .before .links-at .ensures) in
-    let moved = c .before .before .before .before .word-at .ensures in
-    let long = c .before .before .chain-length .ensures .0 ∙ ap (λ (k : ℕ). length (chainOf k)) (c .before .before .before .before .before .before .links-at .ensures) in
-    step-moved _ _ _ (stops-here _ _ _ (omega (arith, boxes, long, c .before .if3 .taken)) (omega (arith, moved, long, c .if4 .left)))
+    let boxes = c .before .before .before .before .leading-boxes .ensures .0 ∙ ap (λ (k : ℕ). leadingBoxes (chainOf k)) (c .before .before .before .before .before .links-at .ensures) in
+    let moved = c .before .before .before .word-at .ensures in
+    step-moved _ _ _ (stops-here _ _ _ (omega (arith, boxes, c .before .if3 .taken)) (omega (arith, moved, c .if4 .left)))
 
 returns-4 : tie.Need-returns-4
 returns-4 c =
-    let boxes = c .before .before .before .before .before .leading-boxes .ensures .0 ∙ ap (λ (k : ℕ). leadingBoxes (chainOf k)) (c .before .before .before .before .before .before .links-at .ensures) in
-    let moved = c .before .before .before .before .word-at .ensures in
-    let long = c .before .before .chain-length .ensures .0 ∙ ap (λ (k : ℕ). length (chainOf k)) (c .before .before .before .before .before .before .links-at .ensures) in
-    step-moved _ _ _ (stops-through _ _ _ (omega (arith, boxes, long, c .before .if3 .left)) (omega (arith, boxes, moved, c .if5 .taken)))
+    let boxes = c .before .before .before .before .leading-boxes .ensures .0 ∙ ap (λ (k : ℕ). leadingBoxes (chainOf k)) (c .before .before .before .before .before .links-at .ensures) in
+    let moved = c .before .before .before .word-at .ensures in
+    step-moved _ _ _ (stops-through _ _ _ (omega (arith, boxes, c .before .if3 .left)) (omega (arith, boxes, moved, c .if5 .taken)))
 
 returns-5 : tie.Need-returns-5
 returns-5 c =
-    let boxes = c .before .before .before .before .before .leading-boxes .ensures .0 ∙ ap (λ (k : ℕ). leadingBoxes (chainOf k)) (c .before .before .before .before .before .before .links-at .ensures) in
-    let moved = c .before .before .before .before .word-at .ensures in
-    let long = c .before .before .chain-length .ensures .0 ∙ ap (λ (k : ℕ). length (chainOf k)) (c .before .before .before .before .before .before .links-at .ensures) in
-    step-through _ _ _ (passes-through _ _ _ (omega (arith, boxes, long, c .before .if3 .left)) (omega (arith, boxes, moved, c .if5 .left)) (is-linked _ _ (omega (arith, boxes, long, c .before .if3 .left)))) (omega (arith, boxes, long, c .before .if3 .left))
+    let boxes = c .before .before .before .before .leading-boxes .ensures .0 ∙ ap (λ (k : ℕ). leadingBoxes (chainOf k)) (c .before .before .before .before .before .links-at .ensures) in
+    let moved = c .before .before .before .word-at .ensures in
+    step-through _ _ _ (passes-through _ _ _ (omega (arith, boxes, c .before .if3 .left)) (omega (arith, boxes, moved, c .if5 .left)) (is-linked _ _ (omega (arith, boxes, c .before .if3 .left, c .before .before .before .before .before .before .before .pre .1)))) (omega (arith, boxes, c .before .if3 .left))
 
 pub step-at-spec : {M : Type 1} → statement M
-step-at-spec = tie.close (tie.spec links-at-requires leading-boxes-requires word-at-requires returns chain-length-requires sub-follows returns-2 returns-3 returns-4 returns-5)
+step-at-spec = tie.close (tie.spec links-at-requires leading-boxes-requires word-at-requires returns returns-2 returns-3 returns-4 returns-5)

@@ -7,6 +7,7 @@ use borrow.Author.Needs.{needs}
 use Rattle.rules.specs.Links.{leadingBoxes}
 use Rattle.rules.specs.Chains.{chainOf}
 use Rattle.rules.proofs.EntryLaws.{live-inside}
+use Rattle.rules.proofs.StepLaws.{whole-through}
 use Rattle.rules.proofs.SearchLaws.{whole-found, moved-there, whole-there}
 use Rattle.rules.proofs.follow.value_whole.Statement.{statement}
 use Rattle.rules.proofs.follow.value_whole.Tie as tie
@@ -36,8 +37,13 @@ returns-2 c =
     let long = c .before .chain-length .ensures .0 ∙ ap (λ (k : ℕ). length (chainOf k)) (c .before .before .before .before .before .links-at .ensures) in
     whole-there _ _ (start .pre .0) _ (start .pre .1) (omega (arith, boxes, c .before .before .before .word-at .ensures, c .before .before .if1 .left)) (sym long ∙ c .if2 .taken ∙ boxes)
 
-search-requires : tie.Need-search-requires
-search-requires c κs = let start = c .before .before .before .before .before .before .before in (start .pre .0, start .pre .1, omega arith)
+search-beyond-requires : tie.Need-search-beyond-requires
+search-beyond-requires c κs =
+    let start = c .before .before .before .before .before .before .before in
+    let boxes = c .before .before .before .before .leading-boxes .ensures .0 ∙ ap (λ (k : ℕ). leadingBoxes (chainOf k)) (c .before .before .before .before .before .links-at .ensures) in
+    let long = c .before .chain-length .ensures .0 ∙ ap (λ (k : ℕ). length (chainOf k)) (c .before .before .before .before .before .links-at .ensures) in
+    let passed = whole-through (start .args .env .now) (start .args .x) (omega (arith, boxes, c .before .before .before .word-at .ensures, c .before .before .if1 .left)) (λ e. c .if2 .left (long ∙ e ∙ sym boxes)) in
+    (start .pre .0, start .pre .1, omega arith, passed)
 
 enum-told : tie.Need-enum-told
 enum-told c = search needs
@@ -45,13 +51,19 @@ enum-told c = search needs
 enum-told-2 : tie.Need-enum-told-2
 enum-told-2 c = search needs
 
+enum-told-3 : tie.Need-enum-told-3
+enum-told-3 c = search needs
+
 returns-3 : tie.Need-returns-3
-returns-3 c = let start = c .before .before .before .before .before .before .before .before .before .before in whole-found _ _ (start .pre .0) _ (start .pre .1) _ (c .before .before .search .ensures) .0 _ (c .enum-told .given .1)
+returns-3 c = let start = c .before .before .before .before .before .before .before .before .before .before in whole-found _ _ (start .pre .0) _ (start .pre .1) _ (c .before .before .search-beyond .ensures) .0 (c .enum-told .given .1)
 
 returns-4 : tie.Need-returns-4
-returns-4 c = let start = c .before .before .before .before .before .before .before .before .before .before in whole-found _ _ (start .pre .0) _ (start .pre .1) _ (c .before .before .search .ensures) .1 (c .enum-told2 .given .1)
+returns-4 c = let start = c .before .before .before .before .before .before .before .before .before .before in whole-found _ _ (start .pre .0) _ (start .pre .1) _ (c .before .before .search-beyond .ensures) .1 _ (c .enum-told2 .given .1)
+
+returns-5 : tie.Need-returns-5
+returns-5 c = let start = c .before .before .before .before .before .before .before .before .before .before in whole-found _ _ (start .pre .0) _ (start .pre .1) _ (c .before .before .search-beyond .ensures) .2 (c .enum-told3 .given .1)
 
 pub value-whole-spec : {M : Type 1} → statement M
 value-whole-spec =
     tie.close
-    (tie.spec links-at-requires leading-boxes-requires word-at-requires returns chain-length-requires returns-2 search-requires enum-told enum-told-2 returns-3 returns-4)
+    (tie.spec links-at-requires leading-boxes-requires word-at-requires returns chain-length-requires returns-2 search-beyond-requires enum-told enum-told-2 enum-told-3 returns-3 returns-4 returns-5)

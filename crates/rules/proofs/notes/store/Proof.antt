@@ -6,7 +6,8 @@ use mathlib.Core.Path.{ap, _∙_, subst}
 use borrow.Author.Needs.{needs}
 use Rattle.rules.specs.Links.{leadingBoxes}
 use Rattle.rules.specs.Chains.{chainOf}
-use Rattle.rules.proofs.WordLaws.{Put, raised-next}
+use Rattle.rules.specs.Table.{MemberAdded}
+use Rattle.rules.proofs.WordLaws.{Put}
 use Rattle.rules.proofs.StoreLaws.{entered, stored}
 use Rattle.rules.proofs.notes.store.Statement.{statement}
 use Rattle.rules.proofs.notes.store.Tie as tie
@@ -42,35 +43,32 @@ note-holder-requires c κs =
     let start = at-status .before .before .before in
     (omega (arith, at-roots .put-roots .kept .0, at-level .put-word4 .kept .0, at-moved .put-word3 .kept .0, at-links .put-word2 .kept .0, at-status .put-word .kept .0, start .pre .0 .0), omega (arith, start .pre .0 .1, start .pre .1))
 
-raise-note-requires : tie.Need-raise-note-requires
-raise-note-requires c κs = search needs
+note-exclusive-requires : tie.Need-note-exclusive-requires
+note-exclusive-requires c κs = search needs
 
-add-raise-note : tie.Need-add-raise-note
-add-raise-note c = omega (arith, c .before .before .before .before .before .before .before .before .before .before .before .before .before .before .before .before .before .before .before .before .before .before .before .before .before .before .before .before .before .before .before .pre .0 .1)
+add-add-member : tie.Need-add-add-member
+add-add-member c = omega (arith, c .before .before .before .before .before .before .before .before .before .before .before .before .before .before .before .before .before .before .before .before .before .before .before .before .before .before .before .before .before .before .before .pre .0 .1)
 
-add-raise-note-2 : tie.Need-add-raise-note-2
-add-raise-note-2 c = omega (arith, c .before .before .before .before .before .before .before .before .before .before .before .before .before .before .before .before .before .before .before .before .before .before .before .before .before .before .before .before .before .before .before .pre .0 .1, c .before .before .before .before .before .before .before .before .before .before .before .before .before .before .before .before .before .before .before .before .before .before .before .before .before .before .before .before .before .before .before .pre .1)
-
-raise-note-requires-2 : tie.Need-raise-note-requires-2
-raise-note-requires-2 c κs =
-    let at-deep = c .before .before .before in
-    let at-note = at-deep .before .before .before .before in
+add-member-requires : tie.Need-add-member-requires
+add-member-requires c κs =
+    let at-exclusive = c .before .before .before in
+    let at-note = at-exclusive .before .before .before .before in
     let at-roots = at-note .before .before .before .before in
     let at-level = at-roots .before .before .before .before in
     let at-moved = at-level .before .before .before .before in
     let at-links = at-moved .before .before .before .before .before in
     let at-status = at-links .before .before .before .before in
     let start = at-status .before .before .before in
-    omega (arith, at-deep .raise-note .kept .0, at-note .note-holder .kept .0, at-roots .put-roots .kept .0, at-level .put-word4 .kept .0, at-moved .put-word3 .kept .0, at-links .put-word2 .kept .0, at-status .put-word .kept .0, start .pre .0 .0)
+    (omega (arith, at-exclusive .note-exclusive .kept .0, at-note .note-holder .kept .0, at-roots .put-roots .kept .0, at-level .put-word4 .kept .0, at-moved .put-word3 .kept .0, at-links .put-word2 .kept .0, at-status .put-word .kept .0, start .pre .0 .0), omega (arith, start .pre .0 .1, start .pre .1))
 
 same-length : tie.Need-same-length
 same-length c = search needs
 
 returns : tie.Need-returns
 returns c =
-    let at-high = c .before .before in
-    let at-deep = at-high .before .before .before .before in
-    let at-note = at-deep .before .before .before .before in
+    let at-member = c .before .before in
+    let at-exclusive = at-member .before .before .before .before in
+    let at-note = at-exclusive .before .before .before .before in
     let at-roots = at-note .before .before .before .before in
     let at-level = at-roots .before .before .before .before in
     let at-moved = at-level .before .before .before .before in
@@ -87,15 +85,15 @@ returns c =
     let env₄ = at-level .put-word4 .last .0 in
     let env₅ = at-roots .put-roots .last .0 in
     let env₆ = at-note .note-holder .last .0 in
-    let env₇ = at-deep .raise-note .last .0 in
-    let env₈ = at-high .raise-note2 .last .0 in
+    let env₇ = at-exclusive .note-exclusive .last .0 in
+    let env₈ = at-member .add-member .last .0 in
     let whole = add-one _ ∙ ap suc (at-boxes .leading-boxes .ensures .0) in
-    stored env n x (start .pre .0) (start .pre .1) (start .args .links) (start .args .level) (start .args .roots) (start .pre .2) env₅ env₆ env₇ env₈
-    (at-high .raise-note2 .kept .0 ∙ at-deep .raise-note .kept .0 ∙ at-note .note-holder .kept .0 ∙ at-roots .put-roots .kept .0 ∙ at-level .put-word4 .kept .0 ∙ at-moved .put-word3 .kept .0 ∙ at-links .put-word2 .kept .0 ∙ at-status .put-word .kept .0)
+    stored env n x (start .pre .0) (start .pre .1) (start .pre .2) (start .args .links) (start .args .level) (start .args .roots) (start .pre .3) env₅ env₆ env₇ env₈
+    (at-member .add-member .kept .0 ∙ at-exclusive .note-exclusive .kept .0 ∙ at-note .note-holder .kept .0 ∙ at-roots .put-roots .kept .0 ∙ at-level .put-word4 .kept .0 ∙ at-moved .put-word3 .kept .0 ∙ at-links .put-word2 .kept .0 ∙ at-status .put-word .kept .0)
     (entered env env₁ env₂ env₃ env₄ env₅ x (start .args .links) (suc (leadingBoxes (chainOf (start .args .links)))) (start .args .level) (start .args .roots) (omega arith) (at-status .put-word .ensures) (at-links .put-word2 .ensures) (subst (λ (d : ℕ). Put env₂ x 4 d env₃) whole (at-moved .put-word3 .ensures)) (at-level .put-word4 .ensures) (at-roots .put-roots .ensures))
     (at-note .note-holder .ensures)
-    (at-deep .raise-note .ensures)
-    (raised-next env₇ env₈ n x (at-high .raise-note2 .ensures))
+    (at-exclusive .note-exclusive .ensures)
+    (subst (λ (row : ℕ). MemberAdded env₇ row x env₈) (add-one n) (at-member .add-member .ensures))
 
 pub store-spec : {M : Type 1} → statement M
 store-spec =
@@ -109,9 +107,8 @@ store-spec =
     put-word-requires-4
     put-roots-requires
     note-holder-requires
-    raise-note-requires
-    add-raise-note
-    add-raise-note-2
-    raise-note-requires-2
+    note-exclusive-requires
+    add-add-member
+    add-member-requires
     same-length
     returns)

@@ -29,7 +29,7 @@ returns c =
     let env = start .args .env .now in
     let env₁ = at-put .put-word .last .0 in
     let env₂ = at-raise .raise-note .last .0 in
-    number-taken env (start .args .variables) (start .args .x) (start .pre .0) (start .pre .1) env₁ env₂ (at-raise .raise-note .kept .0 ∙ at-put .put-word .kept .0) (at-put .put-word .ensures) (raised-next env₁ env₂ (start .args .variables) (start .args .x) (at-raise .raise-note .ensures))
+    number-taken env (start .args .variables) (start .args .x) (start .pre .0) (start .pre .1) (start .pre .2) env₁ env₂ (at-raise .raise-note .kept .0 ∙ at-put .put-word .kept .0) (at-put .put-word .ensures) (raised-next env₁ env₂ (start .args .variables) (start .args .x) (at-raise .raise-note .ensures))
 
 pub take-number-spec : {M : Type 1} → statement M
 take-number-spec =

@@ -1,4 +1,5 @@
 -- `rules::rules::begin_let` meets its contract. Assumes nothing.
+use mathlib.Core.Path.{sym, _∙_}
 use borrow.Author.Needs.{needs}
 use borrow.Author.Tests.{not-true, not-false}
 use Rattle.reader.specs.Result.{need, _>>=_}
@@ -20,7 +21,11 @@ returns c =
     (rw (← at-is-free .is-free .ensures, not-true (at-is-free .is-free .result) (c .if1 .taken)), start .pre .0)
 
 take-number-requires : tie.Need-take-number-requires
-take-number-requires c κs = search needs
+take-number-requires c κs =
+    let at-if1 = c .before in
+    let at-is-free = at-if1 .before in
+    let start = at-is-free .before .before .before in
+    (start .pre .0, start .pre .1, sym (at-is-free .is-free .ensures) ∙ not-false (at-is-free .is-free .result) (at-if1 .if1 .left))
 
 same-length-2 : tie.Need-same-length-2
 same-length-2 c = search needs

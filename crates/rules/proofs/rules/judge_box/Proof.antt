@@ -4,7 +4,8 @@ use Rattle.reader.specs.Result.{_>>=_}
 use Rattle.rules.specs.Links.{leadingBoxes}
 use Rattle.rules.specs.Environment.{borrowEnd}
 use Rattle.rules.specs.Rules.{valued, judgeBox}
-use Rattle.rules.specs.Verdicts.{asValue, answered}
+use Rattle.rules.specs.Verdicts.{asValue}
+use Rattle.rules.proofs.ToldLaws.{told-refused}
 use Rattle.rules.proofs.rules.judge_box.Statement.{statement}
 use Rattle.rules.proofs.rules.judge_box.Tie as tie
 
@@ -14,9 +15,12 @@ enum-known-inner c = search needs
 enum-told : tie.Need-enum-told
 enum-told c = search needs
 
+refused-requires : tie.Need-refused-requires
+refused-requires c κs = search needs
+
 returns : tie.Need-returns
-unfolding judgeBox answered asValue valued _>>=_
-returns c = λ nv env. rw (c .enum-told .given .1)
+unfolding judgeBox asValue valued _>>=_
+returns c = λ nv env i. rw (c .before .enum-told .given .1) (told-refused _ _ (c .refused .ensures) env i)
 
 longer-value-requires : tie.Need-longer-value-requires
 longer-value-requires c κs = search needs
@@ -25,7 +29,7 @@ returns-2 : tie.Need-returns-2
 unfolding judgeBox asValue valued borrowEnd leadingBoxes _>>=_
 returns-2 c =
     let at-inner = c .before .before .before in
-    λ nv env. rw (at-inner .inner .given .1) (c .longer-value .ensures env)
+    λ nv env i. rw (at-inner .inner .given .1) (c .longer-value .ensures env i)
 
 pub judge-box-spec : {M : Type 1} → statement M
-judge-box-spec = tie.close (tie.spec enum-known-inner enum-told returns longer-value-requires returns-2)
+judge-box-spec = tie.close (tie.spec enum-known-inner enum-told refused-requires returns longer-value-requires returns-2)

@@ -7,7 +7,7 @@ use Rattle.rules.specs.Chains.{chainOf, restOf}
 use Rattle.rules.specs.Table.{linksAt, environmentOf, asPlace}
 use Rattle.rules.proofs.ChainLaws.{rest-there, rest-missing}
 use Rattle.rules.proofs.EntryLaws.{status-dead, outside-dead}
-use Rattle.rules.proofs.PlaceLaws.{name-unknown, named-root, place-short}
+use Rattle.rules.proofs.PlaceLaws.{name-unknown, named-root, name-short}
 use Rattle.rules.proofs.rules.judge_named.Statement.{statement}
 use Rattle.rules.proofs.rules.judge_named.Tie as tie
 
@@ -20,9 +20,8 @@ returns c =
     let start = at-index-of .before .before in
     let env = start .args .env .now in
     let nv = start .args .variables in
-    let i = start .args .term in
     let p = asPlace (start .args .place) in
-    name-unknown nv (environmentOf env) i p _ (at-index-of .index-of .ensures) (outside-dead env nv (start .pre) _ _ (c .if1 .taken))
+    λ i. name-unknown nv (environmentOf env) i p _ (at-index-of .index-of .ensures) (outside-dead env nv (start .pre) _ _ (c .if1 .taken))
 
 word-at-requires : tie.Need-word-at-requires
 word-at-requires c κs =
@@ -36,9 +35,8 @@ returns-2 c =
     let start = at-index-of .before .before in
     let env = start .args .env .now in
     let nv = start .args .variables in
-    let i = start .args .term in
     let p = asPlace (start .args .place) in
-    name-unknown nv (environmentOf env) i p _ (at-index-of .index-of .ensures) (status-dead env _ _ (omega (arith, at-word-at .word-at .ensures, c .if2 .taken)))
+    λ i. name-unknown nv (environmentOf env) i p _ (at-index-of .index-of .ensures) (status-dead env _ _ (omega (arith, at-word-at .word-at .ensures, c .if2 .taken)))
 
 links-at-requires : tie.Need-links-at-requires
 links-at-requires c κs =
@@ -69,11 +67,10 @@ returns-3 c =
     let start = at-index-of .before .before in
     let env = start .args .env .now in
     let nv = start .args .variables in
-    let i = start .args .term in
     let p = asPlace (start .args .place) in
     let live = named-root env _ _ (at-index-of .index-of .ensures) (omega (arith, at-word-at .word-at .ensures, at-if2 .if2 .left)) in
     let told = at-links-from .links-from .ensures ∙ ap₂ (λ (k l : ℕ). restOf k (chainOf l)) (at-index-of2 .index-of2 .ensures) (at-links-at .links-at .ensures ∙ ap (linksAt env) (at-index-of .index-of .ensures)) in
-    place-short nv (environmentOf env) i p _ live (rest-missing _ _ told (c .enum-told .given .1))
+    λ i. name-short nv (environmentOf env) i p _ live (rest-missing _ _ told (c .enum-told .given .1))
 
 returns-4 : tie.Need-returns-4
 returns-4 c =
@@ -89,7 +86,7 @@ returns-4 c =
     let live = named-root env _ _ (at-index-of .index-of .ensures) (omega (arith, at-word-at .word-at .ensures, at-if2 .if2 .left)) in
     let told = at-links-from .links-from .ensures ∙ ap₂ (λ (k l : ℕ). restOf k (chainOf l)) (at-index-of2 .index-of2 .ensures) (at-links-at .links-at .ensures ∙ ap (linksAt env) (at-index-of .index-of .ensures)) in
     let there = rest-there _ _ told (at-after .after .given .1) in
-    record { variable = _; is = live; long = there .0; after = there .1 }
+    λ i. record { variable = _; is = live; long = there .0; after = there .1 }
 
 pub judge-named-spec : {M : Type 1} → statement M
 judge-named-spec = tie.close (tie.spec index-of-requires returns word-at-requires returns-2 links-at-requires index-of-requires-2 links-from-requires enum-known-after enum-told returns-3 returns-4)

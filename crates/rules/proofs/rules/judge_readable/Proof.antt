@@ -26,9 +26,9 @@ returns c =
     let start = at-judge-named .before .before in
     let env = start .args .env .now in
     let nv = start .args .variables in
-    let i = start .args .term in
     let p = asPlace (start .args .place) in
-    readable-refused nv (environmentOf env) i p (at-judge-named .judge-named .ensures) (c .enum-told2 .given .1)
+    λ i.
+    readable-refused nv (environmentOf env) i p (at-judge-named .judge-named .ensures i) (c .enum-told2 .given .1)
 
 index-of-requires : tie.Need-index-of-requires
 index-of-requires c κs = search needs
@@ -40,10 +40,9 @@ value-whole-requires c κs =
     let start = at-judge-named .before .before in
     let env = start .args .env .now in
     let nv = start .args .variables in
-    let i = start .args .term in
     let p = asPlace (start .args .place) in
-    let F = named-at nv (environmentOf env) i p (at-judge-named .judge-named .ensures) (at-enum-told .enum-told .given .1) in
-    (start .pre, named-live env nv (start .pre) i p F _ (c .index-of .ensures))
+    let F = named-at nv (environmentOf env) 0 p (at-judge-named .judge-named .ensures 0) (at-enum-told .enum-told .given .1) in
+    (start .pre, named-live env nv (start .pre) 0 p F _ (c .index-of .ensures))
 
 returns-2 : tie.Need-returns-2
 returns-2 c =
@@ -54,9 +53,9 @@ returns-2 c =
     let start = at-judge-named .before .before in
     let env = start .args .env .now in
     let nv = start .args .variables in
-    let i = start .args .term in
     let p = asPlace (start .args .place) in
-    let F = named-at nv (environmentOf env) i p (at-judge-named .judge-named .ensures) (at-enum-told .enum-told .given .1) in
+    λ i.
+    let F = named-at nv (environmentOf env) i p (at-judge-named .judge-named .ensures i) (at-enum-told .enum-told .given .1) in
     readable-moved env nv (start .pre) i p F _ (at-index-of .index-of .ensures) _ (at-value-whole .value-whole .ensures) (not-true (at-value-whole .value-whole .result) (c .if1 .taken))
 
 read-barred-requires : tie.Need-read-barred-requires
@@ -67,10 +66,9 @@ read-barred-requires c κs =
     let start = at-judge-named .before .before in
     let env = start .args .env .now in
     let nv = start .args .variables in
-    let i = start .args .term in
     let p = asPlace (start .args .place) in
-    let F = named-at nv (environmentOf env) i p (at-judge-named .judge-named .ensures) (at-enum-told .enum-told .given .1) in
-    (start .pre .0, named-inside env nv (start .pre) i p F _ (at-index-of .index-of .ensures))
+    let F = named-at nv (environmentOf env) 0 p (at-judge-named .judge-named .ensures 0) (at-enum-told .enum-told .given .1) in
+    (start .pre .0, named-inside env nv (start .pre) 0 p F _ (at-index-of .index-of .ensures))
 
 returns-3 : tie.Need-returns-3
 returns-3 c =
@@ -83,9 +81,9 @@ returns-3 c =
     let start = at-judge-named .before .before in
     let env = start .args .env .now in
     let nv = start .args .variables in
-    let i = start .args .term in
     let p = asPlace (start .args .place) in
-    let F = named-at nv (environmentOf env) i p (at-judge-named .judge-named .ensures) (at-enum-told .enum-told .given .1) in
+    λ i.
+    let F = named-at nv (environmentOf env) i p (at-judge-named .judge-named .ensures i) (at-enum-told .enum-told .given .1) in
     readable-barred env nv (start .pre) i p F _ (at-index-of .index-of .ensures) _ (at-value-whole .value-whole .ensures) (not-false (at-value-whole .value-whole .result) (at-if1 .if1 .left)) _ (at-read-barred .read-barred .ensures) (c .if2 .taken)
 
 returns-4 : tie.Need-returns-4
@@ -99,9 +97,9 @@ returns-4 c =
     let start = at-judge-named .before .before in
     let env = start .args .env .now in
     let nv = start .args .variables in
-    let i = start .args .term in
     let p = asPlace (start .args .place) in
-    let F = named-at nv (environmentOf env) i p (at-judge-named .judge-named .ensures) (at-enum-told .enum-told .given .1) in
+    λ i.
+    let F = named-at nv (environmentOf env) i p (at-judge-named .judge-named .ensures i) (at-enum-told .enum-told .given .1) in
     let found = readable-there env nv (start .pre) i p F _ (at-index-of .index-of .ensures) _ (at-value-whole .value-whole .ensures) (not-false (at-value-whole .value-whole .result) (at-if1 .if1 .left)) _ (at-read-barred .read-barred .ensures) (c .if2 .left) in
     subst (λ (k : Readable). ReadableIs nv (environmentOf env) i p k) (sym (at-enum-told .enum-told .given .1)) found
 

@@ -15,7 +15,7 @@ value-of-requires c κs = search needs
 
 returns : tie.Need-returns
 unfolding borrowEnd
-returns c = λ env. c .value-of .ensures env ∙ rw (chain-none 0 (omega arith))
+returns c = λ env i. c .value-of .ensures env i ∙ rw (chain-none 0 (omega arith))
 
 pub number-value-spec : {M : Type 1} → statement M
 number-value-spec = tie.close (tie.spec no-roots-requires value-of-requires returns)

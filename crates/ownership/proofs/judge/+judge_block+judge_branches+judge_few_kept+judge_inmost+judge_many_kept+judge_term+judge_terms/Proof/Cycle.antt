@@ -11,7 +11,7 @@ use Rattle.rules.specs.declared.verdicts.Verdict.the-variants as verdict
 use Rattle.rules.specs.Environment.{Environment}
 use Rattle.rules.specs.Neat.{Neat}
 use Rattle.rules.specs.Table.{TableFor, environmentOf}
-use Rattle.rules.specs.Verdicts.{asValue}
+use Rattle.rules.specs.Verdicts.{asValue, verdictOf}
 use Rattle.ownership.specs.JudgeRows.{restAt}
 use Rattle.ownership.proofs.InwardsLaws.{Inwards, Outwards}
 use borrow.Fn.Kinds.{In}
@@ -38,13 +38,18 @@ use Rattle.ownership.proofs.judge.judge_terms.Reads as judge-terms
 use Rattle.ownership.proofs.judge.judge_terms.Kinds as judge-terms-kinds
 use Rattle.ownership.proofs.judge.+judge_block+judge_branches+judge_few_kept+judge_inmost+judge_many_kept+judge_term+judge_terms.Lts-judge_terms as judge-terms-lts
 use Rattle.rules.proofs.exchange.Reads as exchange-reads
+use Rattle.rules.proofs.fine.Reads as fine-reads
+use Rattle.rules.proofs.in_scope.Reads as in-scope-reads
 use Rattle.rules.proofs.join.Reads as join-reads
 use Rattle.rules.proofs.judge_either.Reads as judge-either-reads
 use Rattle.rules.proofs.keep.Reads as keep-reads
 use Rattle.rules.proofs.numbers_taken.Reads as numbers-taken-reads
+use Rattle.rules.proofs.refused.Reads as refused-reads
+use Rattle.rules.proofs.verdict_of.Reads as verdict-of-reads
 use Rattle.ownership.proofs.judge.judge_after.Reads as judge-after-reads
 use Rattle.ownership.proofs.judge.judge_before.Reads as judge-before-reads
 use Rattle.ownership.proofs.judge.judge_leaf.Reads as judge-leaf-reads
+use Rattle.ownership.proofs.judge.judged_term.Reads as judged-term-reads
 use Rattle.ownership.proofs.row.place_at.Reads as place-at-reads
 use Rattle.rules.proofs.judge_block_end.Reads as judge-block-end-reads
 use Rattle.rules.proofs.judge_number.Reads as judge-number-reads
@@ -134,29 +139,29 @@ judge-term-μ-loop2 rows i levels env₁ variables level around₁ judged₁ env
 abbrev pub judge-terms-Inv-loop : judge-terms-lts.InvT-loop
 judge-terms-Inv-loop rows i count levels env₀ variables level judged₀ left₀ env judged left =
     IsRest (treeAt variables levels rows) left (judged .next) × (length env ≡ length env₀) × TableFor env variables × Neat variables (environmentOf env) level
-    × (v : Value) × (judged .verdict ≡ verdict.Fine v)
+    × (v : Value) × (verdictOf (judged .told) ≡ verdict.Fine v)
     × (restAt variables (treeAt variables levels rows) level left (judged .next) (asValue env v) (environmentOf env) ≡ restAt variables (treeAt variables levels rows) level count i none (environmentOf env₀))
 
 abbrev pub judge-terms-μ-loop : judge-terms-lts.MeasureT-loop
 judge-terms-μ-loop rows i count levels env₀ variables level judged₀ left₀ env judged left = left
 
 abbrev pub judge-block-claims : ℕ → judge-block-lts.Claims
-judge-block-claims t = (index-at-reads.Asked, index-at-reads.Learnt, judge-terms-below t, judge-terms.Post, judge-block-end-reads.Asked, judge-block-end-reads.Learnt)
+judge-block-claims t = (index-at-reads.Asked, index-at-reads.Learnt, in-scope-reads.Asked, in-scope-reads.Learnt, judge-terms-below t, judge-terms.Post, verdict-of-reads.Asked, verdict-of-reads.Learnt, judge-block-end-reads.Asked, judge-block-end-reads.Learnt, judged-term-reads.Asked, judged-term-reads.Learnt)
 
 abbrev pub judge-branches-claims : ℕ → judge-branches-lts.Claims
-judge-branches-claims t = (keep-reads.Asked, keep-reads.Learnt, judge-block-below t, judge-block.Post, exchange-reads.Asked, exchange-reads.Learnt, join-reads.Asked, join-reads.Learnt, judge-either-reads.Asked, judge-either-reads.Learnt)
+judge-branches-claims t = (keep-reads.Asked, keep-reads.Learnt, judge-terms-below t, judge-terms.Post, verdict-of-reads.Asked, verdict-of-reads.Learnt, exchange-reads.Asked, exchange-reads.Learnt, join-reads.Asked, join-reads.Learnt, judge-either-reads.Asked, judge-either-reads.Learnt, judged-term-reads.Asked, judged-term-reads.Learnt)
 
 abbrev pub judge-few-kept-claims : ℕ → judge-few-kept-lts.Claims
 judge-few-kept-claims t = (judge-branches-below t, judge-branches.Post)
 
 abbrev pub judge-inmost-claims : ℕ → judge-inmost-lts.Claims
-judge-inmost-claims t = (field-at-reads.Asked, field-at-reads.Learnt, judge-block-below t, judge-block.Post, place-at-reads.Asked, place-at-reads.Learnt, judge-number-reads.Asked, judge-number-reads.Learnt, numbers-taken-reads.Asked, numbers-taken-reads.Learnt, judge-few-kept-below t, judge-few-kept.Post, judge-many-kept-below t, judge-many-kept.Post, judge-leaf-reads.Asked, judge-leaf-reads.Learnt)
+judge-inmost-claims t = (field-at-reads.Asked, field-at-reads.Learnt, judge-block-below t, judge-block.Post, place-at-reads.Asked, place-at-reads.Learnt, judge-number-reads.Asked, judge-number-reads.Learnt, refused-reads.Asked, refused-reads.Learnt, numbers-taken-reads.Asked, numbers-taken-reads.Learnt, judge-few-kept-below t, judge-few-kept.Post, judge-many-kept-below t, judge-many-kept.Post, judge-leaf-reads.Asked, judge-leaf-reads.Learnt, judged-term-reads.Asked, judged-term-reads.Learnt)
 
 abbrev pub judge-many-kept-claims : ℕ → judge-many-kept-lts.Claims
 judge-many-kept-claims t = (judge-branches-below t, judge-branches.Post)
 
 abbrev pub judge-term-claims : ℕ → judge-term-lts.Claims
-judge-term-claims t = (field-at-reads.Asked, field-at-reads.Learnt, wraps-reads.Asked, wraps-reads.Learnt, judge-before-reads.Asked, judge-before-reads.Learnt, judge-inmost-below t, judge-inmost.Post, judge-after-reads.Asked, judge-after-reads.Learnt)
+judge-term-claims t = (field-at-reads.Asked, field-at-reads.Learnt, wraps-reads.Asked, wraps-reads.Learnt, judge-before-reads.Asked, judge-before-reads.Learnt, refused-reads.Asked, refused-reads.Learnt, judge-inmost-below t, judge-inmost.Post, judge-after-reads.Asked, judge-after-reads.Learnt)
 
 abbrev pub judge-terms-claims : ℕ → judge-terms-lts.Claims
-judge-terms-claims t = (judge-term-below t, judge-term.Post)
+judge-terms-claims t = (fine-reads.Asked, fine-reads.Learnt, judge-term-below t, judge-term.Post, verdict-of-reads.Asked, verdict-of-reads.Learnt)

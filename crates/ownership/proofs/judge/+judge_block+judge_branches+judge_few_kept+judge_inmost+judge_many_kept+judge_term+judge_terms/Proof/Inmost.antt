@@ -3,11 +3,9 @@ use Prim.Native.Nat.{ℕ, _-_}
 use native.Mathlib.Omega.{arith}
 use mathlib.Core.Path.{sym, _∙_}
 use borrow.Author.Needs.{needs}
-use Rattle.reader.specs.Result.{_>>=_}
 use Rattle.reader.proofs.KindBytes.{not-wrapping}
 use Rattle.reader.proofs.RowTreeLaws.{has-room}
-use Rattle.rules.specs.Verdicts.{answered}
-use Rattle.ownership.specs.JudgeRows.{ended}
+use Rattle.ownership.proofs.JudgeLaws.{told-ended}
 use Rattle.ownership.proofs.BranchLaws.{choice-refused, choice-met}
 use Rattle.ownership.proofs.LeafLaws.{leaf-judged}
 use Rattle.ownership.proofs.judge.judge_block.Reads as judge-block
@@ -47,13 +45,15 @@ judge-inmost-judge-number-requires t c κs =
 pub judge-inmost-enum-known-number : (t : ℕ) → judge-inmost-lts.Need-enum-known-number (judge-inmost-claims t) (judge-inmost-at t) judge-inmost.Post
 judge-inmost-enum-known-number t c = search needs
 
+pub judge-inmost-refused-requires : (t : ℕ) → judge-inmost-lts.Need-refused-requires (judge-inmost-claims t) (judge-inmost-at t) judge-inmost.Post
+judge-inmost-refused-requires t c κs = search needs
+
 pub judge-inmost-same-length-2 : (t : ℕ) → judge-inmost-lts.Need-same-length-2 (judge-inmost-claims t) (judge-inmost-at t) judge-inmost.Post
 judge-inmost-same-length-2 t c = search needs
 
 pub judge-inmost-returns-2 : (t : ℕ) → judge-inmost-lts.Need-returns-2 (judge-inmost-claims t) (judge-inmost-at t) judge-inmost.Post
-unfolding ended answered _>>=_
 judge-inmost-returns-2 t c =
-    let at-number = c .before in
+    let at-number = c .before .before in
     let at-judge-number = at-number .before .before in
     let at-if2 = at-judge-number .before .before in
     let at-place-at = at-if2 .before in
@@ -61,7 +61,7 @@ judge-inmost-returns-2 t c =
     let start = at-field-at .before .before .before in
     let p = start .pre .1 in
     let k = sym (at-field-at .field-at .ensures) ∙ at-if2 .if2 .taken in
-    (choice-refused _ _ _ _ (p .0) k _ (at-place-at .place-at .ensures) _ _ _ (at-judge-number .judge-number .ensures) _ _ (at-number .number .given .1), p .2)
+    (choice-refused _ _ _ _ (p .0) k _ (at-place-at .place-at .ensures) _ _ _ (at-judge-number .judge-number .ensures _) _ (at-number .number .given .1) _ (c .refused .ensures) _, p .2)
 
 pub judge-inmost-enum-told : (t : ℕ) → judge-inmost-lts.Need-enum-told (judge-inmost-claims t) (judge-inmost-at t) judge-inmost.Post
 judge-inmost-enum-told t c = search needs
@@ -96,7 +96,7 @@ judge-inmost-returns-3 t c =
     let start = at-field-at .before .before .before in
     let p = start .pre .1 in
     let k = sym (at-field-at .field-at .ensures) ∙ at-if2 .if2 .taken in
-    (choice-met _ _ _ _ (p .0) k _ (at-place-at .place-at .ensures) _ _ _ (at-judge-number .judge-number .ensures) (at-enum-told .enum-told .given .1) _ _ (at-judge-few-kept .judge-few-kept .ensures .0), at-judge-few-kept .judge-few-kept .ensures .1)
+    (choice-met _ _ _ _ (p .0) k _ (at-place-at .place-at .ensures) _ _ _ (at-judge-number .judge-number .ensures _) _ (at-enum-told .enum-told .given .1) _ _ (at-judge-few-kept .judge-few-kept .ensures .0), at-judge-few-kept .judge-few-kept .ensures .1)
 
 pub judge-inmost-judge-many-kept-requires : (t : ℕ) → judge-inmost-lts.Need-judge-many-kept-requires (judge-inmost-claims t) (judge-inmost-at t) judge-inmost.Post
 judge-inmost-judge-many-kept-requires t c κs =
@@ -122,15 +122,15 @@ judge-inmost-returns-4 t c =
     let start = at-field-at .before .before .before in
     let p = start .pre .1 in
     let k = sym (at-field-at .field-at .ensures) ∙ at-if2 .if2 .taken in
-    (choice-met _ _ _ _ (p .0) k _ (at-place-at .place-at .ensures) _ _ _ (at-judge-number .judge-number .ensures) (at-enum-told .enum-told .given .1) _ _ (at-judge-many-kept .judge-many-kept .ensures .0), at-judge-many-kept .judge-many-kept .ensures .1)
+    (choice-met _ _ _ _ (p .0) k _ (at-place-at .place-at .ensures) _ _ _ (at-judge-number .judge-number .ensures _) _ (at-enum-told .enum-told .given .1) _ _ (at-judge-many-kept .judge-many-kept .ensures .0), at-judge-many-kept .judge-many-kept .ensures .1)
 
 pub judge-inmost-place-at-requires-2 : (t : ℕ) → judge-inmost-lts.Need-place-at-requires-2 (judge-inmost-claims t) (judge-inmost-at t) judge-inmost.Post
 judge-inmost-place-at-requires-2 t c κs =
     let start = c .before .before .before .before .before .before in
     (has-room _ _ _ _ (start .pre .1 .0), omega arith)
 
-pub judge-inmost-add-t27 : (t : ℕ) → judge-inmost-lts.Need-add-t27 (judge-inmost-claims t) (judge-inmost-at t) judge-inmost.Post
-judge-inmost-add-t27 t c =
+pub judge-inmost-add-judged-term : (t : ℕ) → judge-inmost-lts.Need-add-judged-term (judge-inmost-claims t) (judge-inmost-at t) judge-inmost.Post
+judge-inmost-add-judged-term t c =
     let start = c .before .before .before .before .before .before .before in
     omega (arith, has-room _ _ _ _ (start .pre .1 .0))
 
@@ -139,12 +139,17 @@ judge-inmost-judge-leaf-requires t c κs =
     let start = c .before .before .before .before .before .before .before .before in
     (start .pre .1 .2, (_, start .pre .1 .3))
 
+pub judge-inmost-judged-term-requires : (t : ℕ) → judge-inmost-lts.Need-judged-term-requires (judge-inmost-claims t) (judge-inmost-at t) judge-inmost.Post
+judge-inmost-judged-term-requires t c κs = search needs
+
 pub judge-inmost-same-length-5 : (t : ℕ) → judge-inmost-lts.Need-same-length-5 (judge-inmost-claims t) (judge-inmost-at t) judge-inmost.Post
-judge-inmost-same-length-5 t c = c .before .before .judge-leaf .kept .0
+judge-inmost-same-length-5 t c =
+    let at-judge-leaf = c .before .before .before in
+    at-judge-leaf .judge-leaf .kept .0
 
 pub judge-inmost-returns-5 : (t : ℕ) → judge-inmost-lts.Need-returns-5 (judge-inmost-claims t) (judge-inmost-at t) judge-inmost.Post
 judge-inmost-returns-5 t c =
-    let at-judge-leaf = c .before .before in
+    let at-judge-leaf = c .before .before .before in
     let at-place-at2 = at-judge-leaf .before .before in
     let at-if2 = at-place-at2 .before in
     let at-place-at = at-if2 .before in
@@ -153,4 +158,5 @@ judge-inmost-returns-5 t c =
     let start = at-field-at .before .before .before in
     let p = start .pre .1 in
     let k = at-field-at .field-at .ensures in
-    (leaf-judged _ _ _ _ (p .0) _ _ _ k (not-wrapping k (p .1)) (at-if1 .if1 .left) (at-if2 .if2 .left) _ _ (at-place-at .place-at .ensures) (at-place-at2 .place-at2 .ensures) _ _ (at-judge-leaf .judge-leaf .ensures .0), at-judge-leaf .judge-leaf .ensures .1)
+    let out = told-ended _ _ _ _ _ (c .judged-term .ensures) _ (at-judge-leaf .judge-leaf .ensures .0 _) in
+    (leaf-judged _ _ _ _ (p .0) _ _ _ k (not-wrapping k (p .1)) (at-if1 .if1 .left) (at-if2 .if2 .left) _ _ (at-place-at .place-at .ensures) (at-place-at2 .place-at2 .ensures) _ _ out, at-judge-leaf .judge-leaf .ensures .1)

@@ -3,11 +3,9 @@ use Prim.Native.Nat.{ℕ, _-_}
 use native.Mathlib.Omega.{arith}
 use mathlib.Core.Path.{refl, sym, _∙_, ap}
 use borrow.Author.Needs.{needs}
-use Rattle.reader.specs.Result.{_>>=_}
 use Rattle.reader.specs.Kinds.{wrapsOf}
 use Rattle.reader.proofs.RowTreeLaws.{has-level, has-room}
-use Rattle.rules.specs.Verdicts.{answered}
-use Rattle.ownership.specs.JudgeRows.{ended}
+use Rattle.ownership.proofs.JudgeLaws.{refused-ended}
 use Rattle.ownership.proofs.AroundLaws.{met-begun, refused-begun, wrapped}
 use Rattle.ownership.proofs.InwardsLaws.{inwards-start, inwards-more, inwards-neat, inwards-tree, inwards-refused, outwards-none, outwards-less, outwards-wraps, outwards-ready}
 use Rattle.ownership.proofs.judge.judge_inmost.Reads as judge-inmost
@@ -46,16 +44,18 @@ judge-term-judge-before-requires t c κs =
 pub judge-term-enum-known-begun : (t : ℕ) → judge-term-lts.Need-enum-known-begun (judge-term-claims t) (judge-term-at t) judge-term.Post judge-term-Inv-loop judge-term-μ-loop judge-term-Inv-loop2 judge-term-μ-loop2
 judge-term-enum-known-begun t c = search needs
 
+pub judge-term-refused-requires : (t : ℕ) → judge-term-lts.Need-refused-requires (judge-term-claims t) (judge-term-at t) judge-term.Post judge-term-Inv-loop judge-term-μ-loop judge-term-Inv-loop2 judge-term-μ-loop2
+judge-term-refused-requires t c κs = search needs
+
 pub judge-term-same-length : (t : ℕ) → judge-term-lts.Need-same-length (judge-term-claims t) (judge-term-at t) judge-term.Post judge-term-Inv-loop judge-term-μ-loop judge-term-Inv-loop2 judge-term-μ-loop2
 judge-term-same-length t c =
-    let at-judge-before = c .before .before .before .before .before in
+    let at-judge-before = c .before .before .before .before .before .before in
     let at-loop = at-judge-before .before .before .before .before .before in
     at-judge-before .judge-before .kept .1 .1 .0 ∙ at-loop .loop .inv .0
 
 pub judge-term-returns : (t : ℕ) → judge-term-lts.Need-returns (judge-term-claims t) (judge-term-at t) judge-term.Post judge-term-Inv-loop judge-term-μ-loop judge-term-Inv-loop2 judge-term-μ-loop2
-unfolding ended answered _>>=_
 judge-term-returns t c =
-    let at-begun = c .before in
+    let at-begun = c .before .before in
     let at-judge-before = at-begun .before .before .before .before in
     let at-if1 = at-judge-before .before .before in
     let at-wraps = at-if1 .before in
@@ -63,7 +63,8 @@ judge-term-returns t c =
     let at-loop = at-field-at .before in
     let start = at-loop .before .before .before in
     let w = sym (at-wraps .wraps .ensures ∙ ap wrapsOf (at-field-at .field-at .ensures)) ∙ at-if1 .if1 .taken in
-    (inwards-refused _ _ _ _ (start .pre .1 .0) _ _ _ _ (at-loop .loop .inv .2) w _ (refused-begun _ (at-begun .begun .given .1) (at-judge-before .judge-before .ensures .0)), at-judge-before .judge-before .ensures .1)
+    let begun = refused-begun _ (at-begun .begun .given .1) (at-judge-before .judge-before .ensures .0) in
+    (refused-ended _ _ _ (c .refused .ensures) ∙ inwards-refused _ _ _ _ (start .pre .1 .0) _ _ _ _ (at-loop .loop .inv .2) w _ begun, at-judge-before .judge-before .ensures .1)
 
 pub judge-term-enum-told : (t : ℕ) → judge-term-lts.Need-enum-told (judge-term-claims t) (judge-term-at t) judge-term.Post judge-term-Inv-loop judge-term-μ-loop judge-term-Inv-loop2 judge-term-μ-loop2
 judge-term-enum-told t c = search needs

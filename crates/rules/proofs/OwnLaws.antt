@@ -1,0 +1,181 @@
+-- A place that leads to an own link of its root: only boxes are passed, so that following gives the place itself. What a copy of it borrows, and the
+-- answer of an assign to it.
+use Prim.Native.Nat.{ℕ, zero, suc, _-_, _≤_}
+use native.Mathlib.Omega.{arith}
+use mathlib.Core.Path.{_≡_, refl, sym, ap, ap₂, fun-ext, _∙_, subst}
+use mathlib.Core.Logic.{inl, inr}
+use mathlib.Core.Bool.{Bool, true, false}
+use mathlib.Core.Option.{none, some}
+use mathlib.Core.List.{List, [], _∷_}
+use lib.ListN.{length, take}
+use lib.Dec.{leb}
+use borrow.Author.Tests.{le-leb, eq-eqb, ne-eqb}
+use Rattle.reader.specs.Result.{ok, err, need, _>>=_}
+use Rattle.reader.specs.Script.{Place}
+use Rattle.rules.specs.declared.roots.Roots.{Roots}
+use Rattle.rules.specs.declared.follow.Ends.{Ends}
+use Rattle.rules.specs.declared.follow.Ends.the-variants as ends
+use Rattle.rules.specs.declared.verdicts.Value.the-variants as value
+use Rattle.rules.specs.declared.verdicts.ValueType.{ValueType}
+use Rattle.rules.specs.Links.{Link, boxed, shared, exclusive, leadingBoxes, noShared, copies}
+use Rattle.rules.specs.Places.{member, unite, every, only}
+use Rattle.rules.specs.Environment.{Borrow, places, borrowEnd, Variable, Slot, live, Environment, update, refilled, write, levelOf, borrowOf, borrowsAt, livesAt}
+use Rattle.rules.specs.Follow.{onward, meetAll, follow, ownLink, ownPath}
+use Rattle.rules.specs.Bars.{writeBarred}
+use Rattle.rules.specs.Rules as rules
+use Rattle.rules.specs.Rules.{inScope, reached, valued, judgePlace, judgeCopy, judgeAssign}
+use Rattle.rules.specs.Neat.{Ordered}
+use Rattle.rules.specs.Roots.{linksOf, lengths, placesOf, left}
+use Rattle.rules.specs.Chains.{chainOf}
+use Rattle.rules.specs.Masks.{has}
+use Rattle.rules.specs.Steps.{passesSlot, passes, Searched}
+use Rattle.rules.specs.Table.{linksAt, longAt, rootsAt, variableAt, placesIn, endIn, environmentOf}
+use Rattle.rules.specs.Verdicts.{NeatTable, Named, OwnFound, Read, typeOf, asValue}
+use Rattle.rules.proofs.EqualChains.{same-links}
+use Rattle.rules.proofs.SetLaws.{unite-out, unite-left}
+use Rattle.rules.proofs.SetOrder.{unite-ordered, end-ordered, end-again}
+use Rattle.rules.proofs.SetEquality.{same-list}
+use Rattle.rules.proofs.NeatTerms.{readable-place}
+use Rattle.rules.proofs.RootSets.{from-ordered}
+use Rattle.rules.proofs.FollowRoots.{every-root}
+use Rattle.rules.proofs.FollowRoots as paths
+use Rattle.rules.proofs.NeatPaths.{own-link}
+use Rattle.rules.proofs.ValueLaws.{end-drop, end-recorded}
+use Rattle.rules.proofs.StepLaws.{passes-at}
+use Rattle.rules.proofs.PlaceLaws.{variable-is, named-live, named-inside, on-chain, copy-is}
+use Rattle.rules.proofs.WriteLaws.{write-one}
+
+-- Nothing is followed, so the place is judged by its own path alone.
+own-place : (nv : ℕ) (Γ : Environment) (i : ℕ) (p : Place) (v : Variable) → Γ (p .root) ≡ live v → p .follows ≤ length (v .chain) → p .follows ≤ leadingBoxes (v .chain)
+    → ownPath (live v) (p .follows) ≡ true → judgePlace nv Γ i p ≡ ok (paths.located v (p ∷ []))
+unfolding judgePlace inScope need reached follow meetAll onward member every only ownLink _>>=_
+own-place nv Γ i p v e l o h = let b = le-leb (p .follows) (leadingBoxes (v .chain)) o in rw (e, le-leb (p .follows) (length (v .chain)) l, b, e, h, b) refl
+
+-- The boxes before an own link are not shared.
+boxes-unshared : (d : ℕ) (ks : List Link) → d ≤ leadingBoxes ks → noShared (take d ks) ≡ true
+unfolding leadingBoxes noShared
+boxes-unshared zero ks h = refl
+boxes-unshared (suc d) [] h = refl
+boxes-unshared (suc d) (boxed ∷ ks) h = boxes-unshared d ks (omega arith)
+boxes-unshared (suc d) (shared ∷ ks) h = absurd (omega arith)
+boxes-unshared (suc d) (exclusive ∷ ks) h = absurd (omega arith)
+
+-- A set united with none.
+unite-none : (ps : List Place) → Ordered ps → unite ps [] ≡ ps
+unite-none ps o = same-list (unite ps []) ps (unite-ordered ps [] tt) o (λ q i. elim (unite-out q ps [] i) [ inl j ↦ j | inr j ↦ absurd j ]) (λ q i. unite-left q ps [] i)
+
+module _ (env : List ℕ) (nv : ℕ) (T : NeatTable env nv) (i : ℕ) (p : Place) {rest : ℕ} where
+  -- ---- the search that ends in the root
+
+  module _ (F : Named (environmentOf env) p rest) (x : ℕ) (at : x ≡ p .root) (f : ℕ) (follows : f ≡ p .follows) (r : Ends)
+      (S : Searched nv (environmentOf env) x (longAt env x - f) false r) (e : r ≡ ends.Own) where
+    abbrev m : ℕ
+    m = longAt env x - f
+
+    is : environmentOf env x ≡ live (variableAt env x)
+    is = named-live env nv T i p F x at
+
+    chain-is : F .variable ≡ variableAt env x
+    chain-is = variable-is env nv T i p F ∙ ap (variableAt env) (sym at)
+
+    fits : longAt env x - m ≡ p .follows
+    fits =
+        let a = F .long in
+        let b : length (F .variable .chain) ≡ longAt env x = ap (λ (v : Variable). length (v .chain)) chain-is in
+        omega (arith, follows)
+
+    own-there : p .follows ≤ leadingBoxes (F .variable .chain)
+    unfolding linksOf
+    own-there =
+        let z = own-link (environmentOf env x) (variableAt env x) (lengths (environmentOf env) x - m) is (S .own e .1) in
+        let b : lengths (environmentOf env) x ≡ longAt env x = ap linksOf is in
+        let d : leadingBoxes (F .variable .chain) ≡ leadingBoxes (chainOf (linksAt env x)) = ap (λ (v : Variable). leadingBoxes (v .chain)) chain-is in
+        omega (arith, fits)
+
+    path-there : ownPath (live (F .variable)) (p .follows) ≡ true
+    unfolding passesSlot
+    path-there =
+        ap₂ (λ (v : Variable) (k : ℕ). ownPath (live v) k) chain-is (sym fits)
+        ∙ sym (passes-at env x m is false)
+        ∙ every-root nv (S .met) (environmentOf env) m (passes false (environmentOf env)) .0 (S .own e .0) x (named-inside env nv T i p F x at) (S .is .start x (eq-eqb x x refl))
+
+    pub found-own : OwnFound nv (environmentOf env) i p rest
+    found-own = record { named = F; own = own-there; is = own-place nv (environmentOf env) i p (F .variable) (F .is) (F .long) own-there path-there }
+
+  module _ (F : OwnFound nv (environmentOf env) i p rest) where
+    own-links : p .follows ≤ leadingBoxes (chainOf (linksAt env (p .root)))
+    own-links = subst (λ (v : Variable). p .follows ≤ leadingBoxes (v .chain)) (variable-is env nv T i p (F .named)) (F .own)
+
+    -- The links after the place are the root's without some boxes, so the borrow end is the root's.
+    own-end : (s : Roots) → endIn env (chainOf (linksAt env (p .root))) s ≡ endIn env (chainOf rest) s
+    own-end s = sym (end-drop env (p .follows) (chainOf (linksAt env (p .root))) s own-links) ∙ ap (λ (ks : List Link). endIn env ks s) (on-chain env nv T i p (F .named))
+
+    -- ---- copy (LANGUAGE 3.19): it borrows what the root does
+
+    own-borrows : borrowsAt (environmentOf env) (p ∷ []) ≡ places (endIn env (chainOf rest) (rootsAt env (p .root)))
+    unfolding borrowsAt borrowOf placesOf
+    own-borrows =
+        let ks = chainOf (linksAt env (p .root)) in
+        ap (λ (sl : Slot). unite (places (borrowOf sl)) []) (named-live env nv T i p (F .named) (p .root) refl)
+        ∙ unite-none (places (endIn env ks (rootsAt env (p .root)))) (end-ordered ks (placesIn env ks (rootsAt env (p .root))) (from-ordered (has (rootsAt env (p .root))) (longAt env) (left ks) 0 128))
+        ∙ ap places (own-end (rootsAt env (p .root)))
+
+    pub copy-own : Read nv (environmentOf env) i p rest → copies (chainOf rest) ≡ true → (x : ℕ) → x ≡ p .root → (r : Roots) → r ≡ rootsAt env x
+        → judgeCopy nv (environmentOf env) i p ≡ ok (environmentOf env, some (typeOf (chainOf rest) (endIn env (chainOf rest) r)))
+    copy-own R copied x at r e =
+        let there = readable-place nv (environmentOf env) i p (paths.located (R .named .variable) (R .to)) (R .is) in
+        let same : paths.located (R .named .variable) (R .to) ≡ paths.located (F .named .variable) (p ∷ []) = (let z = sym there ∙ F .is in cc) in
+        let recorded : r ≡ rootsAt env (p .root) = e ∙ ap (rootsAt env) at in
+        copy-is env nv T i p R copied
+        ∙ ap (λ (b : Borrow). ok (environmentOf env, some (typeOf (chainOf rest) b)))
+        (ap (borrowEnd (chainOf rest)) (ap (λ (l : rules.Located). borrowsAt (environmentOf env) (l .to)) same ∙ own-borrows)
+        ∙ sym (end-again (chainOf rest) (placesIn env (chainOf rest) (rootsAt env (p .root))))
+        ∙ ap (endIn env (chainOf rest)) (sym recorded))
+
+    -- ---- assign (LANGUAGE 3.25): the tests, one after the other
+
+    passed : noShared (take (p .follows) (F .named .variable .chain)) ≡ true
+    passed = boxes-unshared (p .follows) (F .named .variable .chain) (F .own)
+
+    module _ (t : ValueType) where
+      pub own-other-links : (rest ≡ t .links → ⊥) → judgeAssign nv (environmentOf env) i p (asValue env (value.Of t)) ≡ err (39, i)
+      unfolding judgeAssign asValue valued need _>>=_
+      own-other-links h = rw (F .is, passed, F .named .after, same-links rest (t .links), ne-eqb rest (t .links) h) refl
+
+      module _ (same : rest ≡ t .links) (s : Roots) (recorded : places (endIn env (chainOf rest) (t .roots)) ≡ placesIn env (chainOf rest) s) (x : ℕ) (at : x ≡ p .root) (level : ℕ)
+          (level-is : level ≡ levelOf (environmentOf env x)) (long : Bool) (asked : (m : ℕ) → long ≡ every (λ q. leb (levelOf (environmentOf env (q .root))) level) (placesOf 128 (has s) (longAt env) m)) where
+        abbrev b : Borrow
+        b = endIn env (chainOf (t .links)) (t .roots)
+
+        is-b : endIn env (chainOf rest) (t .roots) ≡ b
+        is-b = ap (λ (k : ℕ). endIn env (chainOf k) (t .roots)) same
+
+        lives : livesAt (environmentOf env) b (levelOf (environmentOf env (p .root))) ≡ long
+        unfolding livesAt
+        lives =
+            ap₂ (λ (ps : List Place) (l : ℕ). every (λ q. leb (levelOf (environmentOf env (q .root))) l) ps) (ap places (sym is-b) ∙ recorded) (ap (λ (y : ℕ). levelOf (environmentOf env y)) (sym at) ∙ sym level-is)
+            ∙ sym (asked (left (chainOf rest)))
+
+        pub own-too-short : long ≡ false → judgeAssign nv (environmentOf env) i p (asValue env (value.Of t)) ≡ err (40, i)
+        unfolding judgeAssign asValue valued need every _>>=_
+        own-too-short h = rw (F .is, passed, F .named .after, same-links rest (t .links), eq-eqb rest (t .links) same, lives, h) refl
+
+        module _ (enough : long ≡ true) (env′ : List ℕ) (E : environmentOf env′ ≡ update (environmentOf env) x (refilled (environmentOf env x) (endIn env (chainOf (linksAt env x)) s))) where
+          -- The root has the value's borrow end.
+          written-is : environmentOf env′ ≡ write (environmentOf env) (p ∷ []) b
+          written-is =
+              E ∙ ap (λ (y : ℕ). update (environmentOf env) y (refilled (environmentOf env y) (endIn env (chainOf (linksAt env y)) s))) at
+              ∙ ap (λ (c : Borrow). update (environmentOf env) (p .root) (refilled (environmentOf env (p .root)) c)) (own-end s ∙ end-recorded env (chainOf rest) (t .roots) s recorded ∙ is-b)
+              ∙ fun-ext (λ y. sym (write-one (environmentOf env) (p .root) (p .follows) b y))
+
+          module _ (w : Bool) (asked-barred : w ≡ writeBarred nv (environmentOf env′) x) where
+            barred : (c : Bool) → w ≡ c → writeBarred nv (environmentOf env′) (p .root) ≡ c
+            barred c h = ap (writeBarred nv (environmentOf env′)) (sym at) ∙ sym asked-barred ∙ h
+
+            pub own-barred : w ≡ true → judgeAssign nv (environmentOf env) i p (asValue env (value.Of t)) ≡ err (35, i)
+            unfolding judgeAssign asValue valued need every _>>=_
+            own-barred h = rw (F .is, passed, F .named .after, same-links rest (t .links), eq-eqb rest (t .links) same, lives, enough, ← written-is, barred true h) refl
+
+            pub own-assigned : w ≡ false → judgeAssign nv (environmentOf env) i p (asValue env (value.Of t)) ≡ ok (environmentOf env′, none)
+            unfolding judgeAssign asValue valued need every _>>=_
+            own-assigned h = rw (F .is, passed, F .named .after, same-links rest (t .links), eq-eqb rest (t .links) same, lives, enough, ← written-is, barred false h) refl

@@ -1,0 +1,10 @@
+-- `rules::roots::common` meets its contract. Assumes nothing.
+use Rattle.rules.proofs.MaskLaws.{in-both}
+use Rattle.rules.proofs.roots.common.Statement.{statement}
+use Rattle.rules.proofs.roots.common.Tie as tie
+
+returns : tie.Need-returns
+returns c = in-both _ _
+
+pub common-spec : {M : Type 1} → statement M
+common-spec = tie.close (tie.spec returns)
