@@ -152,7 +152,7 @@ module _ (set : Limits) where
     unfolding since
     first-outcome = let z : n - n ≡ 0 = omega arith in rw (z, (empty-is set))
 
-    pub going-starts : BlockReady set rows block levels readings w₀ opened₀ n taken
+    going-starts : BlockReady set rows block levels readings w₀ opened₀ n taken
         → Going rows block levels readings w₀ opened₀ n taken w₀ opened₀ (fieldAt rows block 1) (record { fault = 0; term = block; kind = 0; payload = 0; taken = taken; opened = n; next = block + 1 })
     going-starts g = record {
       fine = refl;

@@ -9,35 +9,26 @@ use lib.ListN.{getD}
 use borrow.Author.Tests.{eq-eqb, ne-eqb}
 use Rattle.reader.specs.Limits.{Limits}
 use Rattle.reader.specs.Result.{Result, ok, err, pick, _>>=_}
-use Rattle.machine.specs.Values.{Location, variable, cell, Value, empty, num, reference, Row, closed, givenBack, openWith}
+use Rattle.machine.specs.Values.{Location, variable, cell, Value, empty, num, reference, closed, givenBack, openWith}
 use Rattle.machine.specs.Store.{Store, put, isOpen, valueIn, State, withStore, Ran, fault}
 use Rattle.machine.specs.Drop.{cellsLeft, InOrder, dropValue, closeAll}
 use Rattle.machine.specs.Encode.{locationOf}
 use Rattle.machine.specs.Words.{valueOf, rowFrom, storeOf, Tidy, Loaded, Written}
 use Rattle.machine.specs.Parts.{stateAt, left, Dropped, ClosedOne, since, ClosedAll}
 use Rattle.machine.specs.declared.store.Entry.{Entry}
-use Rattle.machine.proofs.StoreLaws.{put-other}
 use Rattle.machine.proofs.DropLaws.{without, without-in-order, one-fewer, drop-owner, drop-not-open, drop-empty, drop-num, drop-reference}
-use Rattle.machine.proofs.Kept.{Lasting, keeps-ok, drop-keeps, close-keeps}
+use Rattle.machine.proofs.Kept.{keeps-ok, drop-keeps, close-keeps}
+use Rattle.machine.proofs.RunOrder.{variable-kept, lasting}
 use Rattle.machine.proofs.EncodeLaws.{variable-location, cell-location}
 use Rattle.machine.proofs.WordLaws.{back-is, closed-is, out-cell}
 use Rattle.machine.proofs.LocateLaws.{loaded-shut, loaded-open, value-owner}
 
 -- ---- closing, in any state
 
-cell≢variable : {c x : ℕ} → cell c ≡ variable x → ⊥
-cell≢variable e = let z : _≡_ {A = ℕ} 0 1 = cc in omega arith
-
-variable-kept : (s : State) (x : ℕ) (r : Row) → InOrder s → InOrder (withStore s (put (s .store) (variable x) r))
-variable-kept s x r h c l = put-other (s .store) (variable x) r (cell c) cell≢variable ∙ h c l
-
-lasting : Lasting InOrder
-lasting = record { back = λ s c v e h. without-in-order s h c v e; close = λ s x h. variable-kept s x closed h }
-
 pub drop-ordered : (i : ℕ) (s : State) (v : Value) → InOrder s → (s′ : State) → dropValue i s v ≡ ok s′ → InOrder s′
 drop-ordered i s v h s′ e = keeps-ok (drop-keeps lasting i s v h) s′ e
 
-pub close-ordered : (i : ℕ) (s : State) (xs : List ℕ) → InOrder s → (s′ : State) → closeAll i s xs ≡ ok s′ → InOrder s′
+close-ordered : (i : ℕ) (s : State) (xs : List ℕ) → InOrder s → (s′ : State) → closeAll i s xs ≡ ok s′ → InOrder s′
 close-ordered i s xs h s′ e = keeps-ok (close-keeps lasting i xs s h) s′ e
 
 bind-ok : {E A : Type 0} (m : Result E A) → (m >>= λ a. ok a) ≡ m

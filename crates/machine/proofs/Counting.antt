@@ -15,7 +15,7 @@ use Rattle.machine.specs.Drop.{dropValue, closeAll}
 use Rattle.machine.specs.Signed.{compared, heldSum}
 use Rattle.machine.specs.Run.{Outcome, runCopy, runMove, runBorrow, runNumber, runPair, runLet, runAssign, runBox, runBlockEnd, entered, run, runs}
 use Rattle.machine.specs.Boxes.{afterwards, boxesRun, boxesRunAll}
-use Rattle.machine.proofs.Results.{then}
+use Rattle.reader.proofs.Answers.{then}
 use Rattle.machine.proofs.Kept.{keeps-ok, Lasting, drop-keeps, close-keeps}
 
 afterwards-ok : {E A : Type 0} (m : Result E A) (f : A → ℕ) (a : A) → m ≡ ok a → afterwards m f ≡ f a
@@ -126,7 +126,7 @@ module _ (readings : ℕ → ℕ) where
         let y = afterwards-ok (runNumber s i p) (λ n. pick (eqb n 0) (boxesRunAll readings vs k (entered s)) (boxesRunAll readings us j (entered s))) (a .0) (a .1) in
         taken-choice (eqb (a .0) 0) j us k vs s s′ v (λ i s s′ v h. taken-all us i s s′ v h) (λ i s s′ v h. taken-all vs i s s′ v h) (a .2) ∙ ap (λ (q : ℕ). s .taken + q) (sym y)
 
-    pub taken-all : (ts : Terms) (i : ℕ) (s s′ : State) (v : Value) → runs readings ts i s ≡ ok (s′, v)
+    taken-all : (ts : Terms) (i : ℕ) (s s′ : State) (v : Value) → runs readings ts i s ≡ ok (s′, v)
         → s′ .taken ≡ s .taken + boxesRunAll readings ts i s
     taken-all (last t) i s s′ v h = taken-is t s s′ v h
     taken-all (more t ts) i s s′ v h =

@@ -2,7 +2,6 @@
 
 -- The definitions' laws, in checked runs and others: the store, its numbers, dropping, what runs keep.
 pub mod Apart
-pub mod Results
 pub mod StoreLaws
 pub mod EncodeLaws
 pub mod CellCounts

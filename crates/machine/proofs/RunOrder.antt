@@ -22,7 +22,7 @@ cell≢variable e = let z : _≡_ {A = ℕ} 0 1 = cc in omega arith
 
 -- ---- rows written
 
-variable-kept : (s : State) (x : ℕ) (r : Row) → InOrder s → InOrder (withStore s (put (s .store) (variable x) r))
+pub variable-kept : (s : State) (x : ℕ) (r : Row) → InOrder s → InOrder (withStore s (put (s .store) (variable x) r))
 variable-kept s x r h c l = put-other (s .store) (variable x) r (cell c) cell≢variable ∙ h c l
 
 -- An open row may be written: if it is a cell's, the cell is taken.
@@ -32,7 +32,7 @@ open-kept s (cell d) v r e h c l =
     let k = open-taken s h d v e in
     put-other (s .store) (cell d) r (cell c) (λ q. let z : c ≡ d = cc in omega arith) ∙ h c l
 
-lasting : Lasting InOrder
+pub lasting : Lasting InOrder
 lasting = record { back = λ s c v e h. without-in-order s h c v e; close = λ s x h. variable-kept s x closed h }
 
 -- ---- locating and reading, whose faults leave the state as it is

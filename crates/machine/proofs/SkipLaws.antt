@@ -61,16 +61,16 @@ module _ (set : Limits) (rows : List ℕ) where
   unfolding Pending
   pending-more end n k l at e h p = rw e (l, h, p)
 
-  pub pending-one : (l i : ℕ) → IsTree (tree l i) → Pending (endOf (tree l i)) 1 i
+  pending-one : (l i : ℕ) → IsTree (tree l i) → Pending (endOf (tree l i)) 1 i
   unfolding Pending
   pending-one l i h = (l, h, refl)
 
-  pub pending-none : (end n at : ℕ) → n ≤ 0 → Pending end n at → at ≡ end
+  pending-none : (end n at : ℕ) → n ≤ 0 → Pending end n at → at ≡ end
   unfolding Pending
   pending-none end zero at h p = p
   pending-none end (suc n) at h p = absurd (omega arith)
 
-  pub pending-room : (end n at : ℕ) → 0 < n → Pending end n at → 5 * at + 5 ≤ length rows
+  pending-room : (end n at : ℕ) → 0 < n → Pending end n at → 5 * at + 5 ≤ length rows
   unfolding Pending
   pending-room end zero at h p = absurd (omega arith)
   pending-room end (suc n) at h p = has-room (set .variables) (p .0) rows at (p .1)
@@ -144,7 +144,7 @@ module _ (set : Limits) (rows : List ℕ) where
           go false w (no d) (yes c) = rw (w, ne-eqb _ _ d, eq-eqb _ _ c) (pass-choice c)
           go false w (no d) (no c) = rw (w, ne-eqb _ _ d, ne-eqb _ _ c) (pass-leaf w d c)
 
-  pub pending-goes : (end n at m : ℕ) → 0 < n → m ≡ insideAt rows at → Pending end n at → Pending end (n - 1 + m) (at + 1)
+  pending-goes : (end n at m : ℕ) → 0 < n → m ≡ insideAt rows at → Pending end n at → Pending end (n - 1 + m) (at + 1)
   unfolding Pending
   pending-goes end zero at m h e p = absurd (omega arith)
   pending-goes end (suc n) at m h e p = let q : suc n - 1 + m ≡ insideAt rows at + n = omega arith in rw q (pass (p .0) at (p .1) end n (p .2))

@@ -40,11 +40,11 @@ module _ (set : Limits) where
     by-kind : (X : Type 0) → (fieldAt rows i 0 ≡ 7 → X) → (fieldAt rows i 0 ≡ 8 → X) → (fieldAt rows i 0 ≡ 9 → X) → X
     by-kind X a b c = ⊎-elim a (λ m. ⊎-elim b c m) (wrapping (fieldAt rows i 0) h)
 
-    pub wrapped-ready : TermReady set rows (i + 1) (levels - 1) readings w opened n taken
+    wrapped-ready : TermReady set rows (i + 1) (levels - 1) readings w opened n taken
     wrapped-ready = by-kind _ (box-ready set rows i levels readings w opened n taken g) (let-ready set rows i levels readings w opened n taken g) (assign-ready set rows i levels readings w opened n taken g)
 
     module _ (w₁ opened₁ : List ℕ) (inner : Standing) (t : TermRan set rows (i + 1) (levels - 1) readings w opened n taken w₁ opened₁ inner) (long : length opened₁ ≡ length opened) where
-      pub wrapped-after : AfterReady set rows i w₁ opened₁ inner
+      wrapped-after : AfterReady set rows i w₁ opened₁ inner
       wrapped-after = record {
         room = has-room (set .variables) levels rows i (g .is);
         wraps = h;
@@ -53,7 +53,7 @@ module _ (set : Limits) where
         assign = λ e. (assigning set rows i levels readings w opened n taken g e w₁ opened₁ inner t, assign-root (set .variables) levels rows i (g .is) e);
       }
 
-      pub wrapped-returns : (w₂ opened₂ : List ℕ) (r : Standing) → AfterRan set rows i w₁ opened₁ inner w₂ opened₂ r → TermRan set rows i levels readings w opened n taken w₂ opened₂ r
+      wrapped-returns : (w₂ opened₂ : List ℕ) (r : Standing) → AfterRan set rows i w₁ opened₁ inner w₂ opened₂ r → TermRan set rows i levels readings w opened n taken w₂ opened₂ r
       wrapped-returns w₂ opened₂ r a = by-kind _
           (λ e. subst (λ (o : List ℕ). TermRan set rows i levels readings w opened n taken w₂ o r) (sym (a .box e .1)) (box-returns set rows i levels readings w opened n taken g e w₁ opened₁ inner t w₂ r (a .box e .0)))
           (λ e. let-returns set rows i levels readings w opened n taken g e w₁ opened₁ inner t long w₂ opened₂ r (a .bind e))
@@ -142,7 +142,7 @@ module _ (set : Limits) where
           pub outwards-after : AfterReady set rows (i + (around - 1)) w opened r
           outwards-after = wrapped-after rows (i + (around - 1)) (levels - (around - 1)) readings w₀ opened₀ n taken outer wraps w opened r inner (u .same ∙ s)
 
-          pub outwards-ran : (w₂ opened₂ : List ℕ) (r₂ : Standing) → AfterRan set rows (i + (around - 1)) w opened r w₂ opened₂ r₂ → TermRan set rows (i + (around - 1)) (levels - (around - 1)) readings w₀ opened₀ n taken w₂ opened₂ r₂
+          outwards-ran : (w₂ opened₂ : List ℕ) (r₂ : Standing) → AfterRan set rows (i + (around - 1)) w opened r w₂ opened₂ r₂ → TermRan set rows (i + (around - 1)) (levels - (around - 1)) readings w₀ opened₀ n taken w₂ opened₂ r₂
           outwards-ran w₂ opened₂ r₂ a = wrapped-returns rows (i + (around - 1)) (levels - (around - 1)) readings w₀ opened₀ n taken outer wraps w opened r inner (u .same ∙ s) w₂ opened₂ r₂ a
 
       pub outwards-goes : 0 < around → (w₂ opened₂ : List ℕ) (r₂ : Standing) → AfterRan set rows (i + (around - 1)) w opened r w₂ opened₂ r₂ → length opened₂ ≡ length opened → Outwards rows i levels readings n taken w₁ opened₁ around₁ r₁ w₂ opened₂ (around - 1) r₂

@@ -61,15 +61,15 @@ module _ (Γ : Environment) {r : Requirement} {j : Judged Environment} where
 
 -- The rule that follows, by kind.
 module _ (nv level : ℕ) (rows : List ℕ) (i : ℕ) where
-  pub box-rule : fieldAt rows i 0 ≡ 7 → ruleAfter nv level rows i ≡ (λ o. judgeBox nv (o .0) i (o .1))
+  box-rule : fieldAt rows i 0 ≡ 7 → ruleAfter nv level rows i ≡ (λ o. judgeBox nv (o .0) i (o .1))
   unfolding ruleAfter
   box-rule e = fun-ext λ o. rw e
 
-  pub let-rule : fieldAt rows i 0 ≡ 8 → ruleAfter nv level rows i ≡ (λ o. judgeLet nv level (o .0) i (fieldAt rows i 1) (o .1))
+  let-rule : fieldAt rows i 0 ≡ 8 → ruleAfter nv level rows i ≡ (λ o. judgeLet nv level (o .0) i (fieldAt rows i 1) (o .1))
   unfolding ruleAfter
   let-rule e = fun-ext λ o. rw e
 
-  pub assign-rule : fieldAt rows i 0 ≡ 9 → ruleAfter nv level rows i ≡ (λ o. judgeAssign nv (o .0) i (placeAt rows i 1) (o .1))
+  assign-rule : fieldAt rows i 0 ≡ 9 → ruleAfter nv level rows i ≡ (λ o. judgeAssign nv (o .0) i (placeAt rows i 1) (o .1))
   unfolding ruleAfter
   assign-rule e = fun-ext λ o. rw e
 

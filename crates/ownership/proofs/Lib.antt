@@ -6,7 +6,6 @@ pub mod TreeStates
 pub mod InwardsLaws
 pub mod BlockTerm
 pub mod ScopeLaws
-pub mod ChoiceTrees
 pub mod ChoiceValues
 pub mod BranchLaws
 pub mod LeafLaws

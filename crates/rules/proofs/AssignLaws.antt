@@ -19,8 +19,7 @@ use Rattle.rules.specs.Links.{Link, leadingBoxes, noShared}
 use Rattle.rules.specs.Places.{every}
 use Rattle.rules.specs.Environment.{Borrow, places, borrowEnd, Variable, Environment, write, levelOf, livesAt}
 use Rattle.rules.specs.Bars.{writeBarred}
-use Rattle.rules.specs.Rules as rules
-use Rattle.rules.specs.Rules.{Judged, valued, judgePlace, judgeAssign}
+use Rattle.rules.specs.Rules.{valued, judgePlace, judgeAssign}
 use Rattle.rules.specs.Neat.{Among, Neat}
 use Rattle.rules.specs.Roots.{lengths, placeAt, placesOf, left}
 use Rattle.rules.specs.Chains.{chainOf}

@@ -18,7 +18,6 @@ use Rattle.rules.specs.Roots.{placesFrom, placesOf, left}
 use Rattle.rules.specs.Chains.{linkOf, chainOf}
 use Rattle.rules.specs.Masks.{has}
 use Rattle.rules.specs.Table.{longAt, placesIn, endIn, borrowEndOf}
-use Rattle.rules.proofs.Answers.{same-bool}
 use Rattle.rules.proofs.ChainLaws.{chain-none, chain-more}
 use Rattle.rules.proofs.MaskLaws.{has-below}
 use Rattle.rules.proofs.SetLaws.{rooted-in, rooted-out, end-out}
@@ -91,7 +90,7 @@ unfolding placesOf
 no-places n f long m h =
     nothing-in (placesFrom f long m 0 n) (λ q i. let k = from-out f long m 0 n q i in false≢true (sym (h (q .root)) ∙ k .2))
 
--- With a borrow link the end has all places given, without one it has none.
+-- With a borrow link the end has all places given.
 pub linked-places : (ks : List Link) (ps : List Place) → leadingBoxes ks < length ks → places (borrowEnd ks ps) ≡ ps
 unfolding leadingBoxes borrowEnd
 linked-places [] ps h = absurd (omega arith)
@@ -99,19 +98,9 @@ linked-places (boxed ∷ ks) ps h = linked-places ks ps (omega arith)
 linked-places (shared ∷ ks) ps h = refl
 linked-places (exclusive ∷ ks) ps h = refl
 
-pub unlinked-places : (ks : List Link) (ps : List Place) → length ks ≤ leadingBoxes ks → places (borrowEnd ks ps) ≡ []
-unfolding leadingBoxes borrowEnd
-unlinked-places [] ps h = refl
-unlinked-places (boxed ∷ ks) ps h = unlinked-places ks ps (omega arith)
-unlinked-places (shared ∷ ks) ps h = absurd (omega arith)
-unlinked-places (exclusive ∷ ks) ps h = absurd (omega arith)
-
 -- The roots of the places of a set are the set, whatever the number: none from 128 on is in either.
 pub rooted-in-set : (s : Roots) (long : ℕ → ℕ) (m x : ℕ) → rooted (placesOf 128 (has s) long m) x ≡ has s x
-unfolding placesOf
-rooted-in-set s long m x = same-bool (rooted (placesFrom (has s) long m 0 128) x) (has s x)
-    (λ h. let k = rooted-out (placesFrom (has s) long m 0 128) x h in ap (has s) (sym (k .2)) ∙ from-out (has s) long m 0 128 (k .0) (k .1) .2)
-    (λ h. rooted-places (has s) long m 128 x (has-below s x h) ∙ h)
+rooted-in-set s long m x = rooted-places (has s) long m 128 x (has-below s x)
 
 module _ (env : List ℕ) (ks : List Link) (s : Roots) where
   pub end-rooted : (x : ℕ) → leadingBoxes ks < length ks → rooted (places (endIn env ks s)) x ≡ has s x

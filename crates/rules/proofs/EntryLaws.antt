@@ -14,10 +14,10 @@ use Rattle.rules.specs.declared.table.VariableState.{VariableState}
 use Rattle.rules.specs.declared.table.Entry.{Entry}
 use Rattle.rules.specs.declared.table.Entry.the-variants as entry
 use Rattle.rules.proofs.table.Entry.{the-type}
-use Rattle.rules.specs.Environment.{Variable, Slot, free, used, live}
+use Rattle.rules.specs.Environment.{Variable, live}
 use Rattle.rules.specs.Rules.{inScope}
 use Rattle.rules.proofs.Slots.{free≢live, used≢live}
-use Rattle.rules.specs.Table.{entryWord, entryAt, stateAt, variableAt, slotAs, environmentOf, TableFor}
+use Rattle.rules.specs.Table.{entryWord, entryAt, stateAt, variableAt, slotAs, environmentOf, Noted, TableFor}
 
 -- What an `else` knows: the entry is one of the first two.
 abbrev pub NotLive : Entry → Type 0
@@ -58,18 +58,18 @@ live-status env x v h = go (entryWord env x 0) h
     go (suc (suc n)) e = let z = sym (by-status (variableAt env x) (stateAt env x) (suc (suc n)) (omega arith) .0) ∙ e in (omega arith, cc)
 
 -- A variable in scope is one that the table has.
-pub status-inside : (env : List ℕ) (n : ℕ) → TableFor env n → (x : ℕ) → 2 ≤ entryWord env x 0 → x < n
-status-inside env n T x h = go (decLt x n)
+pub status-inside : (env : List ℕ) (n : ℕ) → Noted env n → (x : ℕ) → 2 ≤ entryWord env x 0 → x < n
+status-inside env n N x h = go (decLt x n)
   where
     go : Dec (x < n) → x < n
     go (yes l) = l
     go (no l) =
-        let m = T .2 .most in
-        let z = T .2 .untaken x (omega arith) in
+        let m = N .most in
+        let z = N .untaken x (omega arith) in
         absurd (omega arith)
 
 pub live-inside : (env : List ℕ) (n : ℕ) → TableFor env n → (x : ℕ) (v : Variable) → environmentOf env x ≡ live v → x < n
-live-inside env n T x v h = status-inside env n T x (live-status env x v h .0)
+live-inside env n T x v h = status-inside env n (T .2) x (live-status env x v h .0)
 
 -- A number that the table does not have is free.
 pub outside-dead : (env : List ℕ) (n : ℕ) → TableFor env n → (x : ℕ) (r : Refusal) → n ≤ x → inScope (environmentOf env x) r ≡ err r

@@ -24,7 +24,7 @@ module _ (n : ℕ) (f : Place → Bool) (long : ℕ → ℕ) (m : ℕ) where
   abbrev pub AllPass : Roots → Type 0
   AllPass s = (x : ℕ) → x < n → has s x ≡ true → f (placeAt long m x) ≡ true
 
-  pub every-out : (s : Roots) → every f (placesOf n (has s) long m) ≡ true → AllPass s
+  every-out : (s : Roots) → every f (placesOf n (has s) long m) ≡ true → AllPass s
   unfolding placesOf
   every-out s h x l e = every-in f (placeAt long m x) (placesFrom (has s) long m 0 n) h (from-in (has s) long m 0 n x (omega arith) (omega arith) e)
 

@@ -29,7 +29,7 @@ use Rattle.rules.proofs.EndLaws.{told-none, told-shared, told-exclusive
 
 -- ---- one of several numbers
 
-pub held-none : (h : Borrow → ℕ → Bool) (n : ℕ) (Γ : Environment) (x : ℕ) → ((y : ℕ) → y < n → heldBy h (Γ y) x ≡ false) → held h n Γ x ≡ false
+held-none : (h : Borrow → ℕ → Bool) (n : ℕ) (Γ : Environment) (x : ℕ) → ((y : ℕ) → y < n → heldBy h (Γ y) x ≡ false) → held h n Γ x ≡ false
 unfolding held
 held-none h zero Γ x k = refl
 held-none h (suc n) Γ x k = rw (k n (omega arith)) (held-none h n Γ x (λ y l. k y (omega arith)))
@@ -48,7 +48,7 @@ held-some h (suc n) Γ x y l e = go (ℕ-discrete y n) (λ k. held-some h n Γ x
 -- ---- one number
 
 -- Who holds is in scope, its borrow link is not moved away, and its borrow end is such.
-pub held-out : (h : Borrow → ℕ → Bool) (sl : Slot) (x : ℕ) → heldBy h sl x ≡ true → (v : Variable) × (sl ≡ live v) × (h (v .borrow) x ≡ true)
+held-out : (h : Borrow → ℕ → Bool) (sl : Slot) (x : ℕ) → heldBy h sl x ≡ true → (v : Variable) × (sl ≡ live v) × (h (v .borrow) x ≡ true)
 unfolding heldBy
 held-out h free x e = absurd (false≢true e)
 held-out h used x e = absurd (false≢true e)
@@ -59,7 +59,7 @@ held-out h (live v) x e = go (holding v) e
     go false k = absurd (false≢true k)
 
 -- A borrow of either sort is of a root of the places.
-pub borrows-rooted : (any : Bool) (b : Borrow) (x : ℕ) → borrowsBy any b x ≡ true → rooted (places b) x ≡ true
+borrows-rooted : (any : Bool) (b : Borrow) (x : ℕ) → borrowsBy any b x ≡ true → rooted (places b) x ≡ true
 unfolding borrowsBy borrowsAny borrowsExclusive
 borrows-rooted true b x e = e
 borrows-rooted false noBorrow x e = absurd (false≢true e)

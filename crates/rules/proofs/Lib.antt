@@ -20,6 +20,7 @@ pub mod NeatJudged
 pub mod RootLaws
 pub mod RootSets
 -- Following: its bound, and what it meets.
+pub mod Choose
 pub mod Pigeon
 pub mod FollowBound
 pub mod FollowClosed

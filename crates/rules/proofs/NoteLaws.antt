@@ -21,12 +21,12 @@ use Rattle.rules.specs.Environment.{Borrow, Slot, free, used, live, isFr
 use Rattle.rules.specs.Chains.{chainOf, isExclusive}
 use Rattle.rules.specs.Roots.{left}
 use Rattle.rules.specs.Masks.{has}
-use Rattle.rules.specs.Table.{entryWord, linksAt, longAt, rootsAt, holdersAt, endIn, variableOf, variableAt, slotAs, environmentOf, noteAt, borrowEndOf, TableFor, HolderNoted, MemberAdded, ExclusiveNoted, SameLinks}
+use Rattle.rules.specs.Table.{entryWord, linksAt, longAt, rootsAt, holdersAt, endIn, variableOf, variableAt, slotAs, environmentOf, noteAt, borrowEndOf, Noted, TableFor, HolderNoted, MemberAdded, ExclusiveNoted, SameLinks}
 use Rattle.rules.proofs.MaskLaws.{in-none}
 use Rattle.rules.proofs.RootLaws.{or, or-true, or-left, or-right}
-use Rattle.rules.proofs.WordLaws.{Put, put-at, put-off, PutSet, set-off, roots-put, holders-put, Raised, raised-off, raised-there, roots-same, holders-same, links-same, end-same, slot-same, updated, slot-changed}
+use Rattle.rules.proofs.WordLaws.{Put, put-at, put-off, PutSet, set-off, roots-put, holders-put, Raised, raised-off, raised-there, roots-same, holders-same, links-same, entry-links, entry-roots, end-same, slot-same, updated, slot-changed}
 use Rattle.rules.proofs.EntryLaws.{status-inside}
-use Rattle.rules.proofs.TableLaws.{SameEntry, free-test, entry-links, entry-roots}
+use Rattle.rules.proofs.TableLaws.{SameEntry, free-test}
 use Rattle.rules.proofs.EndRoots.{end-united}
 
 -- ---- while holders are noted
@@ -119,9 +119,9 @@ module _ (n : ℕ) (env : List ℕ) (x links : ℕ) where
 
 -- ---- one entry changed
 
-module _ (env : List ℕ) (n x : ℕ) (T : TableFor env n) (inside : x < n) where
+module _ (env : List ℕ) (n x : ℕ) (N : Noted env n) (inside : x < n) where
   -- The words of x change, and it is noted where it must be. Rows past the n variables keep their status; their sets may change at x.
-  module _ (env′ : List ℕ) (same : length env′ ≡ length env)
+  module _ (env′ : List ℕ)
       (others : (y : ℕ) → y < n → (x ≡ y → ⊥) → SameEntry env env′ y)
       (status : (y : ℕ) → (x ≡ y → ⊥) → entryWord env′ y 0 ≡ entryWord env y 0)
       (kept : (r y : ℕ) → r < n → has (holdersAt env r) y ≡ true → has (holdersAt env′ r) y ≡ true)
@@ -138,7 +138,7 @@ module _ (env : List ℕ) (n x : ℕ) (T : TableFor env n) (inside : x < n) wher
         go : Dec (x ≡ y) → has (holdersAt env′ r) y ≡ true
         go (yes q) = subst (λ (z : ℕ). 2 ≤ entryWord env′ z 0 → has (rootsAt env′ z) r ≡ true → has (holdersAt env′ r) z ≡ true) q (own r b) l h
         go (no q) =
-            kept r y b (T .2 .held y r a b (subst (λ (k : ℕ). 2 ≤ k) (status y q) l) (ap (λ (k : Roots). has k r) (sym (entry-roots env env′ y (others y a q))) ∙ h))
+            kept r y b (N .held y r a b (subst (λ (k : ℕ). 2 ≤ k) (status y q) l) (ap (λ (k : Roots). has k r) (sym (entry-roots env env′ y (others y a q))) ∙ h))
 
     new-exclusives : (y : ℕ) → 2 ≤ entryWord env′ y 0 → isExclusive (chainOf (linksAt env′ y)) ≡ true → has (rootsAt env′ n) y ≡ true
     new-exclusives y l h = go (ℕ-discrete x y)
@@ -147,46 +147,46 @@ module _ (env : List ℕ) (n x : ℕ) (T : TableFor env n) (inside : x < n) wher
         go (yes q) = subst (λ (z : ℕ). 2 ≤ entryWord env′ z 0 → isExclusive (chainOf (linksAt env′ z)) ≡ true → has (rootsAt env′ n) z ≡ true) q own-exclusive l h
         go (no q) =
             let before : 2 ≤ entryWord env y 0 = subst (λ (k : ℕ). 2 ≤ k) (status y q) l in
-            let links = entry-links env env′ y (others y (status-inside env n T y before) q) in
-            kept-exclusive y (T .2 .exclusives y before (ap (λ (k : ℕ). isExclusive (chainOf k)) (sym links) ∙ h))
+            let links = entry-links env env′ y (others y (status-inside env n N y before) q) in
+            kept-exclusive y (N .exclusives y before (ap (λ (k : ℕ). isExclusive (chainOf k)) (sym links) ∙ h))
 
     new-scope : (y : ℕ) → has (rootsAt env′ (suc n)) y ≡ leb 2 (entryWord env′ y 0)
     new-scope y = go (ℕ-discrete x y)
       where
         go : Dec (x ≡ y) → has (rootsAt env′ (suc n)) y ≡ leb 2 (entryWord env′ y 0)
         go (yes q) = subst (λ (z : ℕ). has (rootsAt env′ (suc n)) z ≡ leb 2 (entryWord env′ z 0)) q scope-at
-        go (no q) = scope-off y q ∙ T .2 .scope y ∙ ap (leb 2) (sym (status y q))
+        go (no q) = scope-off y q ∙ N .scope y ∙ ap (leb 2) (sym (status y q))
 
     new-untaken : (y : ℕ) → noteAt env′ (suc n) ≤ y → entryWord env′ y 0 ≡ 0
     new-untaken y h = go (ℕ-discrete x y)
       where
         go : Dec (x ≡ y) → entryWord env′ y 0 ≡ 0
         go (yes q) = subst (λ (z : ℕ). noteAt env′ (suc n) ≤ z → entryWord env′ z 0 ≡ 0) q none h
-        go (no q) = status y q ∙ T .2 .untaken y (omega arith)
+        go (no q) = status y q ∙ N .untaken y (omega arith)
 
-    pub still-noted : TableFor env′ n
-    still-noted = (same ∙ T .0, T .1, record { held = new-held; exclusives = new-exclusives; scope = new-scope; most = high; untaken = new-untaken })
+    pub still-noted : Noted env′ n
+    still-noted = record { held = new-held; exclusives = new-exclusives; scope = new-scope; most = high; untaken = new-untaken }
 
   -- The sets past the n variables stay: x has the links that it had, and is in scope if it was.
-  module _ (env′ : List ℕ) (same : length env′ ≡ length env) (others : (y : ℕ) → (x ≡ y → ⊥) → SameEntry env env′ y)
+  module _ (env′ : List ℕ) (others : (y : ℕ) → (x ≡ y → ⊥) → SameEntry env env′ y)
       (links : linksAt env′ x ≡ linksAt env x) (live-as : leb 2 (entryWord env′ x 0) ≡ leb 2 (entryWord env x 0)) where
     pub noted-as-before : ((r y : ℕ) → r < n → has (holdersAt env r) y ≡ true → has (holdersAt env′ r) y ≡ true)
         → ((r : ℕ) → r < n → 2 ≤ entryWord env′ x 0 → has (rootsAt env′ x) r ≡ true → has (holdersAt env′ r) x ≡ true)
-        → noteAt env (suc n) ≤ noteAt env′ (suc n) → noteAt env′ (suc n) ≤ n → (noteAt env′ (suc n) ≤ x → entryWord env′ x 0 ≡ 0) → TableFor env′ n
+        → noteAt env (suc n) ≤ noteAt env′ (suc n) → noteAt env′ (suc n) ≤ n → (noteAt env′ (suc n) ≤ x → entryWord env′ x 0 ≡ 0) → Noted env′ n
     noted-as-before kept own higher high none =
         let exclusives : rootsAt env′ n ≡ rootsAt env n = entry-roots env env′ n (others n (λ p. omega arith)) in
         let scope : rootsAt env′ (suc n) ≡ rootsAt env (suc n) = entry-roots env env′ (suc n) (others (suc n) (λ p. omega arith)) in
-        still-noted env′ same
-        (λ y l q. others y q)
+        still-noted env′ (λ y l q. others y q)
         (λ y q. others y q 0 (omega arith) (λ k. omega arith) (λ k. omega arith))
         kept own
         (λ y h. ap (λ (k : Roots). has k y) exclusives ∙ h)
         (λ l h. ap (λ (k : Roots). has k x) exclusives
-        ∙ T .2 .exclusives x (leb-true 2 (entryWord env x 0) (sym live-as ∙ le-leb 2 (entryWord env′ x 0) l)) (ap (λ (k : ℕ). isExclusive (chainOf k)) (sym links) ∙ h))
+        ∙ N .exclusives x (leb-true 2 (entryWord env x 0) (sym live-as ∙ le-leb 2 (entryWord env′ x 0) l)) (ap (λ (k : ℕ). isExclusive (chainOf k)) (sym links) ∙ h))
         (λ y q. ap (λ (k : Roots). has k y) scope)
-        (ap (λ (k : Roots). has k x) scope ∙ T .2 .scope x ∙ sym live-as)
+        (ap (λ (k : Roots). has k x) scope ∙ N .scope x ∙ sym live-as)
         higher high none
 
+module _ (env : List ℕ) (n x : ℕ) (T : TableFor env n) (inside : x < n) where
   -- ---- the number is taken
 
   module _ (is-free : isFree (environmentOf env x) ≡ true) (env₁ env₂ : List ℕ) (same : length env₂ ≡ length env) (put : Put env x 0 1 env₁) (up : Raised env₁ (suc n) (suc x) env₂) where
@@ -220,13 +220,16 @@ module _ (env : List ℕ) (n x : ℕ) (T : TableFor env n) (inside : x < n) wher
         let up-there = raised-there env₁ env₂ (suc n) (suc x) up in
         let before : entryWord env₁ (suc n) 7 ≡ noteAt env (suc n) = put-off env env₁ x 0 1 put (suc n) 7 (omega arith) (λ p q. omega arith) in
         let most : noteAt env (suc n) ≤ n = T .2 .most in
-        let was : entryWord env x 0 ≡ 0 = eqb-true (entryWord env x 0) 0 (free-test env x ∙ is-free) in
-        noted-as-before env₂ same take-others (take-links x) (ap (leb 2) take-status ∙ sym (ap (leb 2) was))
-        (λ r y l h. ap (λ (k : Roots). has k y) (take-holders r l) ∙ h)
-        (λ r l s h. absurd (omega (arith, take-status)))
-        (omega (arith, up-there .0, before))
-        (up-there .2 n (omega arith) (omega arith))
-        (λ h. absurd (omega (arith, up-there .1)))
+        let was : entryWord env x 0 ≡ 0 = eqb-true (entryWord env x 0) 0 (free-test env x ∙ is-free) in (
+          same ∙ T .0,
+          T .1,
+          noted-as-before env n x (T .2) inside env₂ take-others (take-links x) (ap (leb 2) take-status ∙ sym (ap (leb 2) was))
+              (λ r y l h. ap (λ (k : Roots). has k y) (take-holders r l) ∙ h)
+              (λ r l s h. absurd (omega (arith, take-status)))
+              (omega (arith, up-there .0, before))
+              (up-there .2 n (omega arith) (omega arith))
+              (λ h. absurd (omega (arith, up-there .1))),
+        )
 
     pub number-taken : (environmentOf env₂ ≡ update (environmentOf env) x used) × TableFor env₂ n × SameLinks env env₂
     number-taken = (taken-environment, taken-table, take-links)
@@ -291,14 +294,11 @@ module _ (env : List ℕ) (n x : ℕ) (T : TableFor env n) (inside : x < n) wher
           (λ y q. slot-same env env₂ y (value-others y q) (λ l. end-same env env₂ (chainOf (linksAt env y)) (rootsAt env y) (rootsAt env y) (λ z. refl) (λ z h. value-links z)))
           value-slot
 
-      pub value-changed : (environmentOf env₂ ≡ update (environmentOf env) x (f (environmentOf env x))) × TableFor env₂ n × SameLinks env env₂
+      value-changed : (environmentOf env₂ ≡ update (environmentOf env) x (f (environmentOf env x))) × TableFor env₂ n × SameLinks env env₂
       value-changed =
           let at-next = value-notes (suc n) (omega arith) in (
             value-environment,
-            noted-as-before env₂ same value-others (value-links x) (ap (leb 2) value-status) value-kept value-own
-                (omega arith)
-                (omega (arith, T .2 .most))
-                (λ h. value-status ∙ T .2 .untaken x (omega arith)),
+            (same ∙ T .0, T .1, noted-as-before env n x (T .2) inside env₂ value-others (value-links x) (ap (leb 2) value-status) value-kept value-own (omega arith) (omega (arith, T .2 .most)) (λ h. value-status ∙ T .2 .untaken x (omega arith))),
             value-links,
           )
 

@@ -1,7 +1,6 @@
 -- One row of the table after its state was put: from where it is moved away, its roots, and the holders that are noted.
-use Prim.Native.Nat.{ℕ, zero, suc, _%_, _≤_, _<_}
+use Prim.Native.Nat.{ℕ, zero, suc, _≤_, _<_}
 use native.Mathlib.Omega.{arith}
-use native.Mathlib.Decide.{ℕ-discrete}
 use mathlib.Core.Path.{_≡_, refl, sym, ap, ap₂, _∙_, subst}
 use mathlib.Core.Logic.{inl, inr}
 use mathlib.Core.Bool.{Bool, true, false, _&&_}
@@ -12,7 +11,6 @@ use Rattle.reader.specs.Result.{pick}
 use Rattle.rules.specs.declared.roots.Roots.{Roots}
 use Rattle.rules.specs.Environment.{Variable, live}
 use Rattle.rules.specs.Choice.{earlier}
-use Rattle.rules.specs.Chains.{chainOf, isExclusive}
 use Rattle.rules.specs.Masks.{has, isEmpty}
 use Rattle.rules.specs.Table.{entryWord, rootsAt, holdersAt, noteAt, variableAt, slotAs, environmentOf, Noted, HolderNoted, SameLinks, putAt, putSet}
 use Rattle.rules.specs.Kept.{keptMovedFrom, keptRoots, PutKept, Exchanged, RootsAdded}
@@ -20,14 +18,15 @@ use Rattle.rules.proofs.MaskLaws.{none-in}
 use Rattle.rules.proofs.RootLaws.{or-true, or-right}
 use Rattle.rules.proofs.EntryLaws.{status-live}
 use Rattle.rules.proofs.TableLaws as table
-use Rattle.rules.proofs.WordLaws.{put-elsewhere, Put, put-off, PutSet, set-off, roots-put, roots-same, holders-same}
+use Rattle.rules.proofs.NoteLaws.{noted-as-before}
+use Rattle.rules.proofs.WordLaws.{put-elsewhere, Put, put-off, PutSet, set-off, roots-put, roots-same, holders-same, links-same}
 
 -- ---- words put
 
 -- The word that stands there already.
-pub put-same : (words : ℕ → ℕ → ℕ) (x k d : ℕ) → d ≡ words x k → (y j : ℕ) → words y j ≡ putAt words x k d y j
+pub put-again : (words : ℕ → ℕ → ℕ) (x k d : ℕ) → d ≡ words x k → (y j : ℕ) → words y j ≡ putAt words x k d y j
 unfolding putAt
-put-same words x k d e y j = go (eqb x y) refl (eqb k j) refl
+put-again words x k d e y j = go (eqb x y) refl (eqb k j) refl
   where
     go : (a : Bool) → eqb x y ≡ a → (b : Bool) → eqb k j ≡ b → words y j ≡ pick (a && b) d (words y j)
     go true p true q = ap₂ words (sym (eqb-true x y p)) (sym (eqb-true k j q)) ∙ sym e
@@ -69,9 +68,9 @@ module _ (words : ℕ → ℕ → ℕ) (x d : ℕ) (s : Roots) where
   -- The state that it has already.
   state-same : d ≡ words x 4 → s .low ≡ words x 2 → s .high ≡ words x 6 → (y j : ℕ) → words y j ≡ putSet (putAt words x 4 d) x 2 s y j
   state-same e l h y j =
-      put-same words x 4 d e y j
-      ∙ put-same (putAt words x 4 d) x 2 (s .low) (l ∙ sym (put-elsewhere words x 4 d x 2 (λ p q. omega arith))) y j
-      ∙ put-same (putAt (putAt words x 4 d) x 2 (s .low)) x 6 (s .high)
+      put-again words x 4 d e y j
+      ∙ put-again (putAt words x 4 d) x 2 (s .low) (l ∙ sym (put-elsewhere words x 4 d x 2 (λ p q. omega arith))) y j
+      ∙ put-again (putAt (putAt words x 4 d) x 2 (s .low)) x 6 (s .high)
       (h ∙ sym (put-elsewhere (putAt words x 4 d) x 2 (s .low) x 6 (λ p q. omega arith) ∙ put-elsewhere words x 4 d x 6 (λ p q. omega arith))) y j
 
 -- ---- a step that changes no more than the state of one row
@@ -79,6 +78,10 @@ module _ (words : ℕ → ℕ → ℕ) (x d : ℕ) (s : Roots) where
 -- The words that no such step changes: status, links and level.
 abbrev pub SameRow : List ℕ → List ℕ → ℕ → Type 0
 SameRow env env′ y = (entryWord env′ y 0 ≡ entryWord env y 0) × (entryWord env′ y 1 ≡ entryWord env y 1) × (entryWord env′ y 5 ≡ entryWord env y 5)
+
+-- The links of no variable change.
+pub fixed-links : (env env′ : List ℕ) → ((y : ℕ) → SameRow env env′ y) → SameLinks env env′
+fixed-links env env′ F y = links-same env env′ y (F y .1)
 
 -- From where y is moved away, and its roots.
 abbrev pub SameState : List ℕ → List ℕ → ℕ → Type 0
@@ -105,17 +108,10 @@ module _ (n : ℕ) (env : List ℕ) (x : ℕ) (env′ : List ℕ) (R : RowPut n 
 
   -- The notes stay right if those of x are: status, links and the two last rows are as before.
   row-noted : x < n → (2 ≤ entryWord env x 0 → (r : ℕ) → r < n → has (rootsAt env′ x) r ≡ true → has (holdersAt env′ r) x ≡ true) → Noted env n → Noted env′ n
-  row-noted inside own N = record {
-    held = λ y r l m st h. at y r l m (subst (λ (k : ℕ). 2 ≤ k) (row-fixed y .0) st) h (ℕ-discrete x y);
-    exclusives = λ y st h. ap (λ (k : Roots). has k y) (row-there n (λ e. omega arith) .1) ∙ N .exclusives y (subst (λ (k : ℕ). 2 ≤ k) (row-fixed y .0) st) (ap (λ (w : ℕ). isExclusive (chainOf (w % 4294967296))) (sym (row-fixed y .1)) ∙ h);
-    scope = λ y. ap (λ (k : Roots). has k y) (row-there (suc n) (λ e. omega arith) .1) ∙ N .scope y ∙ ap (leb 2) (sym (row-fixed y .0));
-    most = subst (λ (k : ℕ). k ≤ n) (sym (R .notes (suc n) (omega arith))) (N .most);
-    untaken = λ y l. row-fixed y .0 ∙ N .untaken y (subst (λ (k : ℕ). k ≤ y) (R .notes (suc n) (omega arith)) l);
-  }
-    where
-      at : (y r : ℕ) → y < n → r < n → 2 ≤ entryWord env y 0 → has (rootsAt env′ y) r ≡ true → Dec (x ≡ y) → has (holdersAt env′ r) y ≡ true
-      at y r l m st h (yes e) = subst (λ (z : ℕ). 2 ≤ entryWord env z 0 → has (rootsAt env′ z) r ≡ true → has (holdersAt env′ r) z ≡ true) e (λ a k. own a r m k) st h
-      at y r l m st h (no q) = R .held r y m (N .held y r l m st (ap (λ (k : Roots). has k r) (sym (row-there y q .1)) ∙ h))
+  row-noted inside own N =
+      let e = R .notes (suc n) (omega arith) in
+      noted-as-before env n x N inside env′ (λ y q k l a b. R .others y k l a b (λ p. absurd (q (sym p)))) (fixed-links env env′ row-fixed x) (ap (leb 2) (row-fixed x .0)) (R .held)
+      (λ r l st h. own (subst (λ (k : ℕ). 2 ≤ k) (row-fixed x .0) st) r l h) (omega arith) (omega (arith, N .most)) (λ h. row-fixed x .0 ∙ N .untaken x (omega arith))
 
 pub row-then : (n : ℕ) (env : List ℕ) (x : ℕ) (env₁ env₂ : List ℕ) → RowPut n env x env₁ → RowPut n env₁ x env₂ → RowPut n env x env₂
 row-then n env x env₁ env₂ R S = record {
@@ -251,10 +247,6 @@ module _ (n : ℕ) (env : List ℕ) (x : ℕ) (s : Roots) (env′ : List ℕ) (A
       ]
 
 -- ---- the table before and after
-
--- The links of no variable change.
-pub fixed-links : (env env′ : List ℕ) → ((y : ℕ) → SameRow env env′ y) → SameLinks env env′
-fixed-links env env′ F y = ap (λ (w : ℕ). w % 4294967296) (F y .1)
 
 -- What is not in scope is as before.
 pub dead-same : (env env′ : List ℕ) (y : ℕ) → SameRow env env′ y → ((v : Variable) → environmentOf env y ≡ live v → ⊥) → environmentOf env′ y ≡ environmentOf env y

@@ -18,8 +18,8 @@ use Rattle.rules.specs.Masks.{has}
 use Rattle.rules.specs.Table.{entryWord, linksAt, rootsAt, holdersAt, endIn, variableAt, environmentOf, noteAt, TableFor, HolderNoted, ExclusiveNoted, MemberAdded, Unrecorded}
 use Rattle.rules.proofs.RootLaws.{or, or-right}
 use Rattle.rules.proofs.EntryLaws.{status-live}
-use Rattle.rules.proofs.WordLaws.{Put, put-at, put-off, PutSet, set-off, roots-put, roots-same, holders-same, links-same, end-same-but, slot-same, updated}
-use Rattle.rules.proofs.TableLaws.{SameEntry, slot-free, free-test, past-status, entry-links, entry-roots, pick-true}
+use Rattle.rules.proofs.WordLaws.{Put, put-at, put-off, PutSet, set-off, roots-put, roots-same, holders-same, links-same, end-same-but, slot-same, updated, entry-links, entry-roots}
+use Rattle.rules.proofs.TableLaws.{SameEntry, slot-free, free-test, past-status, pick-true}
 use Rattle.rules.proofs.NoteLaws.{still-noted}
 
 -- The words of x are put, the others and its note stay.
@@ -178,15 +178,18 @@ module _ (env : List ℕ) (n x : ℕ) (T : TableFor env n) (inside : x < n) (tak
   store-below h = true≢false (sym (eq-eqb (entryWord env x 0) 0 (T .2 .untaken x h)) ∙ free-test env x ∙ ap isFree taken)
 
   store-table : TableFor env₄ n
-  store-table =
-      still-noted env n x T inside env₄ same store-others (λ y q. store-apart y 0 (omega arith) q) store-kept store-own
-      (λ y h. ap (λ (k : Roots). has k y) store-exclusives ∙ X .kept y (ap (λ (k : Roots). has k y) (sets-before n (omega arith)) ∙ h))
-      (λ l h. ap (λ (k : Roots). has k x) store-exclusives ∙ X .new (ap (λ (k : ℕ). isExclusive (chainOf k)) (sym store-links) ∙ h))
-      (λ y q. store-scope y ∙ ap (λ (b : Bool). or (has (rootsAt env (suc n)) y) b) (ne-eqb x y q) ∙ pick-true (has (rootsAt env (suc n)) y))
-      (store-scope x ∙ or-right (has (rootsAt env (suc n)) x) (eqb x x) (eq-eqb x x refl) ∙ sym (ap (leb 2) store-status))
-      (omega (arith, store-note))
-      (omega (arith, store-note, T .2 .most))
-      (λ h. absurd (store-below (omega (arith, store-note))))
+  store-table = (
+    same ∙ T .0,
+    T .1,
+    still-noted env n x (T .2) inside env₄ store-others (λ y q. store-apart y 0 (omega arith) q) store-kept store-own
+        (λ y h. ap (λ (k : Roots). has k y) store-exclusives ∙ X .kept y (ap (λ (k : Roots). has k y) (sets-before n (omega arith)) ∙ h))
+        (λ l h. ap (λ (k : Roots). has k x) store-exclusives ∙ X .new (ap (λ (k : ℕ). isExclusive (chainOf k)) (sym store-links) ∙ h))
+        (λ y q. store-scope y ∙ ap (λ (b : Bool). or (has (rootsAt env (suc n)) y) b) (ne-eqb x y q) ∙ pick-true (has (rootsAt env (suc n)) y))
+        (store-scope x ∙ or-right (has (rootsAt env (suc n)) x) (eqb x x) (eq-eqb x x refl) ∙ sym (ap (leb 2) store-status))
+        (omega (arith, store-note))
+        (omega (arith, store-note, T .2 .most))
+        (λ h. absurd (store-below (omega (arith, store-note)))),
+  )
 
   pub stored : (environmentOf env₄ ≡ update (environmentOf env) x (live (fresh (chainOf links) (endIn env (chainOf links) s) level))) × TableFor env₄ n
   stored = (store-environment, store-table)

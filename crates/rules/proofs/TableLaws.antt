@@ -1,8 +1,8 @@
 -- The table by its words: a word that is put, numbers by their status, and words that no rule looks at. Assumes nothing.
-use Prim.Native.Nat.{ℕ, _+_, _*_, _%_, _<_, _≤_}
+use Prim.Native.Nat.{ℕ, _+_, _*_, _<_, _≤_}
 use native.Mathlib.Omega.{arith}
 use native.Mathlib.Decide.{ℕ-discrete, decLt}
-use mathlib.Core.Path.{_≡_, refl, sym, ap, ap₂, _∙_, fun-ext}
+use mathlib.Core.Path.{_≡_, refl, sym, ap, ap₂, _∙_}
 use mathlib.Core.Logic.{⊎-elim, _⊎_, inl, inr}
 use mathlib.Core.Bool.{Bool, true, false, _&&_}
 use mathlib.Core.List.{List}
@@ -131,29 +131,7 @@ same-slot env env′ L x y a b c d e =
 abbrev pub SameEntry : List ℕ → List ℕ → ℕ → Type 0
 SameEntry env env′ y = (k : ℕ) → k < 8 → (k ≡ 3 → ⊥) → (k ≡ 7 → ⊥) → entryWord env′ y k ≡ entryWord env y k
 
-pub entry-links : (env env′ : List ℕ) (y : ℕ) → SameEntry env env′ y → linksAt env′ y ≡ linksAt env y
-entry-links env env′ y h = ap (λ (w : ℕ). w % 4294967296) (h 1 (omega arith) (λ e. omega arith) (λ e. omega arith))
-
-pub entry-roots : (env env′ : List ℕ) (y : ℕ) → SameEntry env env′ y → rootsAt env′ y ≡ rootsAt env y
-entry-roots env env′ y h =
-    ap₂ (λ (l g : ℕ). record { low = l; high = g }) (h 2 (omega arith) (λ e. omega arith) (λ e. omega arith)) (h 6 (omega arith) (λ e. omega arith) (λ e. omega arith))
-
-pub entry-slot : (env env′ : List ℕ) → SameLinks env env′ → (y : ℕ) → SameEntry env env′ y → environmentOf env′ y ≡ environmentOf env y
-entry-slot env env′ L y h =
-    same-slot env env′ L y y (h 0 (omega arith) (λ e. omega arith) (λ e. omega arith)) (L y)
-    (h 4 (omega arith) (λ e. omega arith) (λ e. omega arith)) (entry-roots env env′ y h) (h 5 (omega arith) (λ e. omega arith) (λ e. omega arith))
-
--- Notes are no part of the environment.
-pub same-environment : (env env′ : List ℕ) → ((y : ℕ) → SameEntry env env′ y) → (environmentOf env′ ≡ environmentOf env) × SameLinks env env′
-same-environment env env′ h =
-    let L : SameLinks env env′ = λ y. entry-links env env′ y (h y) in
-    (fun-ext λ y. entry-slot env env′ L y (h y), L)
-
--- ---- two tests
-
-pub pick-false : (a : Bool) → pick a false false ≡ false
-pick-false true = refl
-pick-false false = refl
+-- ---- a test
 
 pub pick-true : (a : Bool) → pick a true false ≡ a
 pick-true true = refl

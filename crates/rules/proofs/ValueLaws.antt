@@ -36,7 +36,7 @@ use Rattle.rules.proofs.RootLaws.{from-out, from-in}
 use Rattle.rules.proofs.RootSets.{from-ordered}
 use Rattle.rules.proofs.EntryLaws.{live-status}
 use Rattle.rules.proofs.TableLaws.{kept-end}
-use Rattle.rules.proofs.EndLaws.{no-places}
+use Rattle.rules.proofs.EndLaws.{no-places, linked-places}
 
 -- ---- ends
 
@@ -45,11 +45,6 @@ pub number-type : (ks : List Link) (ps : List Place) → isNumber ks ≡ true �
 unfolding isNumber borrowEnd
 number-type [] ps h = refl
 number-type (k ∷ ks) ps h = absurd (false≢true h)
-
--- A box in front changes neither the borrow link nor what is behind it.
-pub boxed-end : (env : List ℕ) (ks : List Link) (s : Roots) → endIn env (boxed ∷ ks) s ≡ endIn env ks s
-unfolding borrowEnd leadingBoxes
-boxed-end env ks s = refl
 
 -- Nor do boxes taken away.
 pub end-drop : (env : List ℕ) (d : ℕ) (ks : List Link) (s : Roots) → d ≤ leadingBoxes ks → endIn env (drop d ks) s ≡ endIn env ks s
@@ -138,13 +133,6 @@ let-there env env′ nv level i x v t r o h e =
 
 -- ---- what is borrowed at the ends of a place
 
-places-end : (ks : List Link) (ps : List Place) → leadingBoxes ks < length ks → places (borrowEnd ks ps) ≡ ps
-unfolding borrowEnd leadingBoxes
-places-end [] ps h = absurd (omega arith)
-places-end (boxed ∷ ks) ps h = places-end ks ps (omega arith)
-places-end (shared ∷ ks) ps h = refl
-places-end (exclusive ∷ ks) ps h = refl
-
 -- What is copied and no number has a borrow link first.
 pub copied-borrow : (ks : List Link) → copies ks ≡ true → isNumber ks ≡ false → leadingBoxes ks < length ks
 unfolding copies isNumber leadingBoxes
@@ -174,7 +162,7 @@ module _ (env : List ℕ) (nv : ℕ) (ks : List Link) (to : List Place) (s r : R
       let rest : behind (chainOf (linksAt env (q .root))) ≡ behind ks = ap behind (sym chain) ∙ sym (same-behind (q .follows) (v .chain) own) ∙ ap behind (L .rest) in
       let is : environmentOf env (q .root) ≡ live (variableAt env (q .root)) = L .is ∙ ap live (live-status env (q .root) v (L .is) .1) in
       ap (λ (k : Slot). places (borrowOf k)) is
-      ∙ places-end (chainOf (linksAt env (q .root))) (placesIn env (chainOf (linksAt env (q .root))) (rootsAt env (q .root))) (subst (λ (l : List Link). leadingBoxes l < length l) chain longer)
+      ∙ linked-places (chainOf (linksAt env (q .root))) (placesIn env (chainOf (linksAt env (q .root))) (rootsAt env (q .root))) (subst (λ (l : List Link). leadingBoxes l < length l) chain longer)
       ∙ ap (λ (l : List Link). placesOf 128 (has (rootsAt env (q .root))) (longAt env) (length l)) rest
 
   -- They are the places of the united roots.

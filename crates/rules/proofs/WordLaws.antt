@@ -137,6 +137,12 @@ holders-same env env′ y l h = ap₂ setOf l h
 pub links-same : (env env′ : List ℕ) (y : ℕ) → entryWord env′ y 1 ≡ entryWord env y 1 → linksAt env′ y ≡ linksAt env y
 links-same env env′ y e = ap (λ (w : ℕ). w % 4294967296) e
 
+pub entry-links : (env env′ : List ℕ) (y : ℕ) → SameEntry env env′ y → linksAt env′ y ≡ linksAt env y
+entry-links env env′ y h = links-same env env′ y (h 1 (omega arith) (λ e. omega arith) (λ e. omega arith))
+
+pub entry-roots : (env env′ : List ℕ) (y : ℕ) → SameEntry env env′ y → rootsAt env′ y ≡ rootsAt env y
+entry-roots env env′ y h = roots-same env env′ y (h 2 (omega arith) (λ e. omega arith) (λ e. omega arith)) (h 6 (omega arith) (λ e. omega arith) (λ e. omega arith))
+
 -- A borrow end does not change where the links of its roots do not.
 pub end-same : (env env′ : List ℕ) (ks : List Link) (s s′ : Roots) → ((y : ℕ) → has s′ y ≡ has s y) → ((y : ℕ) → has s y ≡ true → linksAt env′ y ≡ linksAt env y)
     → endIn env′ ks s′ ≡ endIn env ks s
@@ -155,7 +161,7 @@ pub end-same-but : (env env′ : List ℕ) (x : ℕ) → x < 128 → ((y : ℕ) 
     → (ks : List Link) (s : Roots) → rooted (places (endIn env ks s)) x ≡ false → endIn env′ ks s ≡ endIn env ks s
 end-same-but env env′ x l links ks s h =
     same-but x ks (placesIn env ks s) (placesIn env′ ks s) h
-    (λ e. let out : has s x ≡ false = sym (rooted-places (has s) (longAt env) (left ks) 128 x l) ∙ e in
+    (λ e. let out : has s x ≡ false = sym (rooted-places (has s) (longAt env) (left ks) 128 x (λ h. l)) ∙ e in
     same-roots 128 (has s) (has s) (longAt env′) (longAt env) (left ks) (λ y. refl)
     (λ y m. ap (λ (l : ℕ). length (chainOf l)) (links y (λ q. true≢false (sym m ∙ ap (has s) (sym q) ∙ out)))))
 
@@ -174,10 +180,10 @@ slot-same env env′ y S e =
     ap (λ (s : ℕ). slotAs s (variableAt env′ y)) (S 0 (omega arith) (λ q. omega arith) (λ q. omega arith))
     ∙ slot-by (entryWord env y 0) (variableAt env y) (variableAt env′ y) (λ h.
     rw (
-      links-same env env′ y (S 1 (omega arith) (λ q. omega arith) (λ q. omega arith)),
+      entry-links env env′ y S,
       S 4 (omega arith) (λ q. omega arith) (λ q. omega arith),
       S 5 (omega arith) (λ q. omega arith) (λ q. omega arith),
-      roots-same env env′ y (S 2 (omega arith) (λ q. omega arith) (λ q. omega arith)) (S 6 (omega arith) (λ q. omega arith) (λ q. omega arith)),
+      entry-roots env env′ y S,
       e h,
     ))
 

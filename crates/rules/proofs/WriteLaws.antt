@@ -6,23 +6,21 @@ use mathlib.Core.Path.{_≡_, refl, sym, ap, ap₂, fun-ext, _∙_, subst}
 use mathlib.Core.Logic.{_⊎_, inl, inr}
 use mathlib.Core.Bool.{Bool, true, false, false≢true, true≢false}
 use mathlib.Core.List.{List, [], _∷_}
-use lib.Dec.{leb, eqb}
+use lib.Dec.{eqb}
 use borrow.Author.Tests.{eqb-true, eq-eqb, ne-eqb}
 use Rattle.reader.specs.Result.{pick}
 use Rattle.reader.specs.Script.{Place}
 use Rattle.rules.specs.declared.roots.Roots.{Roots}
-use Rattle.rules.specs.Places.{every, someOf, rooted}
-use Rattle.rules.specs.Environment.{Borrow, Slot, Environment, update, refilled, widened, single, write, levelOf}
+use Rattle.rules.specs.Places.{someOf, rooted}
+use Rattle.rules.specs.Environment.{Borrow, Slot, Environment, update, refilled, widened, single, write}
 use Rattle.rules.specs.Neat.{place, Among}
 use Rattle.rules.specs.Roots.{lengths, placeAt, placesFrom, placesOf}
 use Rattle.rules.specs.Chains.{chainOf}
 use Rattle.rules.specs.Masks.{has, isEmpty}
-use Rattle.rules.specs.Table.{environmentOf, linksAt, longAt, endIn, SameLinks, WidenedAll, Written}
+use Rattle.rules.specs.Table.{environmentOf, linksAt, endIn, SameLinks, WidenedAll, Written}
 use Rattle.rules.proofs.Answers.{same-bool}
 use Rattle.rules.proofs.Slots.{update-same, update-other}
-use Rattle.rules.proofs.SetLaws.{every-in, rooted-in, rooted-out}
-use Rattle.rules.proofs.SetEquality.{all-pass}
-use Rattle.rules.proofs.RootLaws.{same-roots, from-out, from-in}
+use Rattle.rules.proofs.RootLaws.{same-roots, from-in, rooted-places}
 use Rattle.rules.proofs.RootSets.{one-place}
 use Rattle.rules.proofs.MaskLaws.{none-in, some-in}
 use Rattle.rules.proofs.TableLaws.{kept-end}
@@ -39,73 +37,12 @@ module _ (left left′ : Roots) (x : ℕ) (W : Without left x left′) where
   out-other : (y : ℕ) → (x ≡ y → ⊥) → has left′ y ≡ has left y
   out-other y n = W y ∙ ap (λ (b : Bool). pick b false (has left y)) (ne-eqb x y n)
 
-  out-kept : (y : ℕ) → has left′ y ≡ true → (x ≡ y → ⊥) × (has left y ≡ true)
+  pub out-kept : (y : ℕ) → has left′ y ≡ true → (x ≡ y → ⊥) × (has left y ≡ true)
   out-kept y h = go (ℕ-discrete x y)
     where
       go : Dec (x ≡ y) → (x ≡ y → ⊥) × (has left y ≡ true)
       go (yes e) = absurd (false≢true (sym out-self ∙ ap (has left′) e ∙ h))
       go (no n) = (n, sym (out-other y n) ∙ h)
-
--- ---- something checked for each number of a set, one after the other
-
--- What is still to be checked is in the set, and the others are checked.
-abbrev pub Checked : Roots → Roots → (ℕ → Type 0) → Type 0
-Checked to left J = ((y : ℕ) → has left y ≡ true → has to y ≡ true) × ((y : ℕ) → has to y ≡ true → has left y ≡ false → J y)
-
-pub checked-first : (to : Roots) (J : ℕ → Type 0) → Checked to to J
-checked-first to J = (λ y h. h, λ y h k. absurd (true≢false (sym h ∙ k)))
-
-pub checked-next : (to left left′ : Roots) (J : ℕ → Type 0) (x : ℕ) → Without left x left′ → J x → Checked to left J → Checked to left′ J
-checked-next to left left′ J x W j C = (λ y h. C .0 y (out-kept left left′ x W y h .1), λ y h k. go y h k (ℕ-discrete x y))
-  where
-    go : (y : ℕ) → has to y ≡ true → has left′ y ≡ false → Dec (x ≡ y) → J y
-    go y h k (yes e) = subst J e j
-    go y h k (no n) = C .1 y h (sym (out-other left left′ x W y n) ∙ k)
-
-pub checked-all : (to left : Roots) (J : ℕ → Type 0) → isEmpty left ≡ true → Checked to left J → (y : ℕ) → has to y ≡ true → J y
-checked-all to left J h C y k = C .1 y k (none-in left h y)
-
--- A test on the roots of places.
-module _ (n : ℕ) (f : ℕ → Bool) (long : ℕ → ℕ) (m : ℕ) (g : ℕ → Bool) where
-  all-hold : ((x : ℕ) → f x ≡ true → g x ≡ true) → every (λ q. g (q .root)) (placesOf n f long m) ≡ true
-  unfolding placesOf
-  all-hold h = all-pass (λ q. g (q .root)) (placesFrom f long m 0 n) (λ q i. h (q .root) (from-out f long m 0 n q i .2))
-
-  one-fails : (x : ℕ) → x < n → f x ≡ true → g x ≡ false → every (λ q. g (q .root)) (placesOf n f long m) ≡ false
-  unfolding placesOf
-  one-fails x l e h = go (every (λ q. g (q .root)) (placesFrom f long m 0 n)) refl
-    where
-      go : (b : Bool) → every (λ q. g (q .root)) (placesFrom f long m 0 n) ≡ b → b ≡ false
-      go true k = absurd (true≢false (sym (every-in (λ q. g (q .root)) (placeAt long m x) (placesFrom f long m 0 n) k (from-in f long m 0 n x (omega arith) (omega arith) e)) ∙ h))
-      go false k = refl
-
--- ---- roots that live long enough for a variable
-
-abbrev livesFor : List ℕ → Roots → ℕ → ℕ → Bool
-livesFor env roots m level = every (λ p. leb (levelOf (environmentOf env (p .root))) level) (placesOf 128 (has roots) (longAt env) m)
-
-abbrev pub LivesFor : List ℕ → Roots → ℕ → Type 0
-LivesFor env roots y = (m : ℕ) → livesFor env roots m (levelOf (environmentOf env y)) ≡ true
-
-module _ (env : List ℕ) (roots : Roots) (x level : ℕ) (is : level ≡ levelOf (environmentOf env x)) (r : Bool) (asked : (m : ℕ) → r ≡ livesFor env roots m level) where
-  pub long-lived : r ≡ true → LivesFor env roots x
-  long-lived h m = ap (livesFor env roots m) (sym is) ∙ sym (asked m) ∙ h
-
-  pub too-short : (n : ℕ) (to : Roots) → r ≡ false → x < n → has to x ≡ true
-      → (m k : ℕ) → false ≡ every (λ q. livesFor env roots m (levelOf (environmentOf env (q .root)))) (placesOf n (has to) (lengths (environmentOf env)) k)
-  too-short n to h l i m k =
-      sym (one-fails n (has to) (lengths (environmentOf env)) k (λ y. livesFor env roots m (levelOf (environmentOf env y))) x l i
-      (ap (livesFor env roots m) (sym is) ∙ sym (asked m) ∙ h))
-
-pub all-long : (env : List ℕ) (roots : Roots) (n : ℕ) (to : Roots) → ((y : ℕ) → has to y ≡ true → LivesFor env roots y)
-    → (m k : ℕ) → true ≡ every (λ q. livesFor env roots m (levelOf (environmentOf env (q .root)))) (placesOf n (has to) (lengths (environmentOf env)) k)
-all-long env roots n to h m k = sym (all-hold n (has to) (lengths (environmentOf env)) k (λ y. livesFor env roots m (levelOf (environmentOf env y))) (λ y i. h y i m))
-
--- Without roots there is nothing that could live too short.
-pub none-recorded : (env : List ℕ) (roots : Roots) (n : ℕ) (to : Roots) → isEmpty roots ≡ true
-    → (m k : ℕ) → true ≡ every (λ q. livesFor env roots m (levelOf (environmentOf env (q .root)))) (placesOf n (has to) (lengths (environmentOf env)) k)
-none-recorded env roots n to e =
-    all-long env roots n to (λ y h m. all-hold 128 (has roots) (longAt env) m (λ x. leb (levelOf (environmentOf env x)) (levelOf (environmentOf env y))) (λ x i. absurd (true≢false (sym i ∙ none-in roots e x))))
 
 -- ---- several variables that may be written
 
@@ -150,12 +87,6 @@ widening-over env₀ env to left s h I = record { in-set = λ x k. I .done x k (
 -- ---- a write, by the set of the variables
 
 module _ (n : ℕ) (f : ℕ → Bool) (low : (y : ℕ) → f y ≡ true → y < n) (long : ℕ → ℕ) (m : ℕ) where
-  pub rooted-set : (y : ℕ) → rooted (placesOf n f long m) y ≡ f y
-  unfolding placesOf
-  rooted-set y = same-bool (rooted (placesFrom f long m 0 n) y) (f y)
-      (λ h. let k = rooted-out (placesFrom f long m 0 n) y h in ap f (sym (k .2)) ∙ from-out f long m 0 n (k .0) (k .1) .2)
-      (λ h. rooted-in (placeAt long m y) (placesFrom f long m 0 n) (from-in f long m 0 n y (omega arith) (let z = low y h in omega arith) h))
-
   -- One alone: any two are the same.
   single-once : (ps : List Place) → single ps ≡ true → (p q : Place) → Among p ps → Among q ps → p ≡ q
   single-once [] h p q i j = absurd i
@@ -189,7 +120,7 @@ module _ (env env′ : List ℕ) (n : ℕ) (to s : Roots) (low : (y : ℕ) → h
     is = λ b m k. fun-ext (λ y.
         let qs = placesOf n (has to) (lengths (environmentOf env)) m in
         ap (λ (c : Bool). pick c (pick (single qs) (refilled (environmentOf env y) b) (widened (environmentOf env y) b)) (environmentOf env y))
-        (sym (rooted-set n (has to) low (lengths (environmentOf env)) m y ∙ none-in to h y)));
+        (sym (rooted-places (has to) (lengths (environmentOf env)) m n y (low y) ∙ none-in to h y)));
     links = λ y. refl;
   }
 
@@ -224,7 +155,7 @@ module _ (env env′ : List ℕ) (n : ℕ) (to s : Roots) (low : (y : ℕ) → h
           let qs = placesOf n (has to) (lengths (environmentOf env)) m in
           at b y (λ j. k y j) (has to y) refl
           ∙ ap₂ (λ (c d : Bool). pick c (pick d (refilled (environmentOf env y) b) (widened (environmentOf env y) b)) (environmentOf env y))
-          (sym (rooted-set n (has to) low (lengths (environmentOf env)) m y)) (sym (not-single m (single qs) refl)));
+          (sym (rooted-places (has to) (lengths (environmentOf env)) m n y (low y))) (sym (not-single m (single qs) refl)));
       links = E .links;
     }
       where

@@ -24,8 +24,8 @@ use Rattle.rules.proofs.SetLaws.{every-in}
 use Rattle.machine.specs.Values.{Value}
 use Rattle.machine.specs.Store.{State}
 use Rattle.machine.specs.Run.{runAssign}
-use Rattle.machine.proofs.Apart.{err≢ok}
-use Rattle.machine.proofs.Results.{then, needed}
+use Rattle.rules.proofs.Answers.{err≢ok}
+use Rattle.reader.proofs.Answers.{then, needed}
 use Rattle.safety.proofs.Memory.{Name, inFlight, inDrop, var, has, nameDec, var≢flight, drop≢flight}
 use Rattle.safety.proofs.NameMaps.{upd, upd-same, upd-other}
 use Rattle.safety.proofs.Ghost as Gh
@@ -171,7 +171,7 @@ module _ {nv : ℕ} {Γ : Environment} {t : Ty} {lv : ℕ} {s : State} {v : Valu
       let y : (write Γ (l .to) (t .borrow), none) ≡ out = (let q′ = rw z at q in cc) in
       subst (λ (k : Out). Progress nv Γ (k .0) (k .1) lv (runAssign s i p v)) y R
 
-  pub case-assign : (i : ℕ) (p : Place) (out : Out) → judgeAssign nv Γ i p (some t) ≡ ok out → Progress nv Γ (out .0) (out .1) lv (runAssign s i p v)
+  case-assign : (i : ℕ) (p : Place) (out : Out) → judgeAssign nv Γ i p (some t) ≡ ok out → Progress nv Γ (out .0) (out .1) lv (runAssign s i p v)
   unfolding judgeAssign
   case-assign i p out h =
       let a = then (valued (some t) (41, i)) _ out h in

@@ -16,7 +16,7 @@ use Rattle.machine.specs.Values.{Value, empty}
 use Rattle.machine.specs.Store.{State, withStore}
 use Rattle.machine.specs.Drop.{closeAll}
 use Rattle.machine.specs.Run.{runBlockEnd, entered}
-use Rattle.safety.proofs.Choose.{choose, choose-yes, choose-no}
+use Rattle.rules.proofs.Choose.{choose, choose-yes, choose-no}
 use Rattle.safety.proofs.Memory.{Name, inFlight, inDrop, var, Spot, Content, noRow, var≢flight, drop≢flight}
 use Rattle.safety.proofs.NameMaps.{upd, upd-same, upd-other}
 use Rattle.safety.proofs.Ghost.{vacant}

@@ -19,8 +19,8 @@ use Rattle.machine.specs.Values.{Location, empty, reference}
 use Rattle.machine.specs.Store.{State}
 use Rattle.machine.specs.Locate.{locate}
 use Rattle.machine.specs.Run.{runBorrow}
-use Rattle.machine.proofs.Apart.{none≢some}
-use Rattle.machine.proofs.Results.{then, needed}
+use Rattle.rules.proofs.Answers.{none≢some}
+use Rattle.reader.proofs.Answers.{then, needed}
 use Rattle.safety.proofs.Memory.{Name, inFlight, var, Content, has, p-ref, var≢flight}
 use Rattle.safety.proofs.NameMaps.{upd, upd-same, upd-other}
 use Rattle.safety.proofs.Ghost as Gh

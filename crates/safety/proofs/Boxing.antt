@@ -11,8 +11,8 @@ use Rattle.rules.specs.Rules.{Out, valued, judgeBox}
 use Rattle.machine.specs.Values.{cell, Value, owner, closed, openWith}
 use Rattle.machine.specs.Store.{Store, put, State}
 use Rattle.machine.specs.Run.{runBox}
-use Rattle.machine.proofs.Apart.{err≢ok}
-use Rattle.machine.proofs.Results.{then}
+use Rattle.rules.proofs.Answers.{err≢ok}
+use Rattle.reader.proofs.Answers.{then}
 use Rattle.machine.proofs.StoreLaws.{put-same}
 use Rattle.safety.proofs.Memory.{Name, inFlight, inDrop, var, Content, has, var≢flight, drop≢flight}
 use Rattle.safety.proofs.NameMaps.{upd, upd-same, upd-other}

@@ -8,7 +8,7 @@ use Rattle.rules.specs.Environment.{}
 use Rattle.machine.specs.Values.{Location, variable, Value, Row, closed, openWith}
 use Rattle.machine.specs.Store.{Store, put, valueIn, State, withStore, Ran}
 use Rattle.machine.specs.Drop.{dropValue, closeAll}
-use Rattle.machine.proofs.Results.{after}
+use Rattle.reader.proofs.Answers.{after}
 use Rattle.machine.proofs.StoreLaws.{put-same, put-other}
 use Rattle.machine.proofs.DropLaws.{drop-empty}
 use Rattle.safety.proofs.Memory.{Name, inDrop, var, Spot, top, Content, noRow, has, spotDec, Memory, eitherDec, var≢drop, has≢noRow, row-open}

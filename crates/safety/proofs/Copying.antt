@@ -18,7 +18,7 @@ use Rattle.machine.specs.Values.{Location, empty, reference, openWith}
 use Rattle.machine.specs.Store.{State}
 use Rattle.machine.specs.Locate.{locate, filled}
 use Rattle.machine.specs.Run.{runCopy}
-use Rattle.machine.proofs.Results.{then, needed}
+use Rattle.reader.proofs.Answers.{then, needed}
 use Rattle.safety.proofs.Memory.{Name, inFlight, var, has, p-ref, var≢flight}
 use Rattle.safety.proofs.NameMaps.{upd, upd-same, upd-other}
 use Rattle.safety.proofs.Ghost as Gh

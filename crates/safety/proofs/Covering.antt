@@ -13,7 +13,7 @@ use Rattle.rules.specs.Environment.{Borrow, noBorrow, sharedOf, exclusiveOf, pl
 use Rattle.rules.specs.Follow.{isBorrow}
 use Rattle.rules.specs.Neat.{Among}
 use Rattle.rules.proofs.Slots.{free≢live, used≢live}
-use Rattle.machine.proofs.Apart.{none≢some}
+use Rattle.rules.proofs.Answers.{none≢some}
 use Rattle.safety.proofs.Ghost.{stale, vacant}
 use Rattle.safety.proofs.Ghost as Gh
 use Rattle.safety.proofs.Typing.{borrowed, isExclusive, boxes}

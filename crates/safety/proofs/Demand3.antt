@@ -11,23 +11,25 @@ use Rattle.reader.specs.Limits.{Limits}
 use Rattle.reader.specs.Script.{Term, block, Terms}
 use Rattle.reader.specs.Within.{Within}
 use Rattle.rules.specs.Environment.{Environment, Ty}
+use Rattle.reader.specs.Reader.{branch}
+use Rattle.reader.proofs.Building.{a-block}
 use Rattle.rules.specs.Judge.{judge, isAnswer, nothingTaken, judgeScript}
 use Rattle.machine.specs.Values.{Value, num}
 use Rattle.machine.specs.Store.{Store, State}
 use Rattle.machine.specs.Locate.{numberIn}
 use Rattle.machine.specs.Drop.{closeAll}
+use Rattle.rules.proofs.NeatJudged.{formed-lets}
 use Rattle.machine.specs.Run.{Outcome, runBlockEnd, begun, run, runs, runScript}
 use Rattle.machine.specs.Boxes.{boxesRun}
 use Rattle.safety.specs.Safety.{Safe, Demand3}
-use Rattle.machine.proofs.Apart.{err≢ok}
+use Rattle.rules.proofs.Answers.{err≢ok}
 use Rattle.machine.proofs.FaultLaws.{met-faults}
-use Rattle.machine.proofs.Results.{then, needed}
+use Rattle.reader.proofs.Answers.{then, needed}
 use Rattle.safety.proofs.EndNumbers.{end-numbers}
 use Rattle.machine.proofs.CellCounts.{count-given}
 use Rattle.machine.proofs.Counting.{taken-is, boxes-bound}
 use Rattle.safety.proofs.Inversion.{number-nil}
 use Rattle.safety.proofs.Invariant.{Invariant}
-use Rattle.safety.proofs.Ranges.{formed-ranged, is-block}
 use Rattle.safety.proofs.Soundness.{Sound, sound}
 use Rattle.safety.proofs.Start.{start}
 use Rattle.safety.proofs.ScriptEnd.{answer-num, answer-is, variable-closed, cell-given}
@@ -89,12 +91,12 @@ module _ (l : Limits) (i : ℕ) (ts : Terms) (within : Within l (block i ts)) (r
   unfolding judgeScript Sound
   safe h =
       let a = then (judge (l .variables) (block i ts) 0 (nothingTaken (l .variables))) _ tt h in
-      let R = sound (l .variables) readings (block i ts) 0 (nothingTaken (l .variables)) (begun earlier) (a .0) (formed-ranged l 0 (block i ts) (within .formed)) (a .1) (start (l .variables) earlier) in
+      let R = sound (l .variables) readings (block i ts) 0 (nothingTaken (l .variables)) (begun earlier) (a .0) (formed-lets l 0 (block i ts) (within .formed)) (a .1) (start (l .variables) earlier) in
       let n = answered (l .variables) (a .0 .1) (needed _ _ _ (a .2)) in
       finish (a .0 .0) (a .0 .1) (n .0) (n .1) (n .2) (R .s) (R .v) (R .inv) (R .ran) (opens readings i ts (begun earlier) (R .s) (R .v) (R .ran))
 
 pub demand-three : (l : Limits) → Demand3 l
 demand-three l t within accepted readings earlier =
-    let b = is-block t (within .outermost) in
-    subst (λ (u : Term). Safe l u readings earlier) (sym (b .2))
-    (safe l (b .0) (b .1) (subst (λ (u : Term). Within l u) (b .2) within) readings earlier (subst (λ (u : Term). judgeScript (l .variables) u ≡ ok tt) (b .2) accepted))
+    let e = a-block t (within .outermost) in
+    subst (λ (u : Term). Safe l u readings earlier) e
+    (safe l (branch t .0) (branch t .1) (subst (λ (u : Term). Within l u) (sym e) within) readings earlier (subst (λ (u : Term). judgeScript (l .variables) u ≡ ok tt) (sym e) accepted))

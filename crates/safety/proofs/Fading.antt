@@ -10,7 +10,7 @@ use lib.ListN.{drop}
 use Rattle.reader.specs.Script.{Place}
 use Rattle.rules.specs.Links.{Link, boxed, shared, exclusive, leadingBoxes}
 use Rattle.machine.specs.Values.{Location, reference}
-use Rattle.machine.proofs.Apart.{none≢some}
+use Rattle.rules.proofs.Answers.{none≢some}
 use Rattle.safety.proofs.Memory.{Name, inDrop, var, Spot, Content, has}
 use Rattle.safety.proofs.Ghost.{Borrow, noBorrow, stale, sharedOf, exclusiveOf, Variable, Slot, vacant, live}
 use Rattle.safety.proofs.Typing.{borrowed, Fits, boxes, Reach, here, hop, Ref, At, Holds, Typed}
@@ -78,7 +78,7 @@ module _ {nv : ℕ} {G : Name → Type 0} {Γ : Name → Slot} {H : Name → Con
   none-in x Q p h K = let u = in-X x Q h (K .is) in fade-none (u .0 .borrow) p (ap (λ (k : Variable). borrowed (k .borrow)) (sym (u .2)) ∙ K .at)
 
   -- Where a place leads now, it led before: paths that pass a name which forgot are gone, and no other changed.
-  pub reach-back : {w : Name} {d : ℕ} {y : Name} {r : ℕ} → Reach Γ′ w d y r → Reach Γ w d y r
+  reach-back : {w : Name} {d : ℕ} {y : Name} {r : ℕ} → Reach Γ′ w d y r → Reach Γ w d y r
   reach-back {w} {d} (here Q e a b) = go (xDec w)
     where
       go : Dec (X w) → Reach Γ w d w d
@@ -119,7 +119,7 @@ module _ {nv : ℕ} {G : Name → Type 0} {Γ : Name → Slot} {H : Name → Con
   at-out : (z : Name) (Q : Variable) → At Γ H ρ rank z Q → At Γ′ H ρ rank z Q
   at-out z Q A = record { fits = A .fits; lost = A .lost; number = A .number; outdated = A .outdated; refs = λ g p q. ref-out z Q p (A .refs g p q) }
 
-  pub holds-back : (x : Name) (Q : Variable) (p : Place) → Holds Γ′ x Q p → Holds Γ x Q p
+  holds-back : (x : Name) (Q : Variable) (p : Place) → Holds Γ′ x Q p → Holds Γ x Q p
   holds-back x Q p K = go (xDec x)
     where
       go : Dec (X x) → Holds Γ x Q p

@@ -22,7 +22,7 @@ use Rattle.rules.proofs.NeatPaths.{onward-in}
 use Rattle.rules.proofs.FollowClosed.{all-shut}
 use Rattle.machine.specs.Values.{Value}
 use Rattle.machine.specs.Store.{State}
-use Rattle.machine.proofs.Results.{then, needed}
+use Rattle.reader.proofs.Answers.{then, needed}
 use Rattle.safety.proofs.Certificates.{Path, Own, Passed, Whole}
 use Rattle.safety.proofs.Invariant.{Invariant}
 use Rattle.safety.proofs.Finding.{Found, found}

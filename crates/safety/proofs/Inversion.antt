@@ -17,12 +17,12 @@ use Rattle.rules.specs.Bars.{borrowsAny, borrowsExclusive, heldBy, held, readBa
 use Rattle.rules.specs.Rules.{Located, judgePlace, judgeReadable}
 use Rattle.rules.specs.Neat.{Among}
 use Rattle.rules.proofs.SetLaws.{every-in, rooted-not}
-use Rattle.machine.proofs.Results.{then, needed}
+use Rattle.reader.proofs.Answers.{then, needed}
 use Rattle.safety.proofs.Covering.{exclusiveIn}
 
 -- ---- who holds what
 
-pub not-held : (h : Borrow → ℕ → Bool) (n : ℕ) (Γ : Environment) (x y : ℕ) → held h n Γ x ≡ false → y < n → heldBy h (Γ y) x ≡ false
+not-held : (h : Borrow → ℕ → Bool) (n : ℕ) (Γ : Environment) (x y : ℕ) → held h n Γ x ≡ false → y < n → heldBy h (Γ y) x ≡ false
 unfolding held
 not-held h zero Γ x y e l = absurd (omega arith)
 not-held h (suc n) Γ x y e l = go (λ a b. not-held h n Γ x y a b) (heldBy h (Γ n) x) refl e (ℕ-discrete y n)

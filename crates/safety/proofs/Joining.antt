@@ -21,6 +21,7 @@ use Rattle.rules.proofs.NeatSteps.{Lives, Lived}
 use Rattle.machine.specs.Values.{empty}
 use Rattle.machine.specs.Store.{State, Ran}
 use Rattle.machine.specs.Run.{Outcome}
+use Rattle.rules.proofs.NeatBlocks.{joined-used}
 use Rattle.safety.proofs.Covering.{covered-live, live-covers}
 use Rattle.safety.proofs.Widening.{Wide, wide-same, wide-end, covered-wide}
 use Rattle.safety.proofs.Invariant.{Invariant}
@@ -90,10 +91,6 @@ module _ (Γ Γ₁ Γ₂ : Environment) where
   second-wider : Lives Γ Γ₂ → Lived Γ Γ₂ → Wider Γ₂ (joined Γ Γ₁ Γ₂)
   second-wider li al =
       after-wider Γ₂ li al (λ x v e. joined-moved (Γ x) (Γ₁ x) (Γ₂ x) v e .1) (λ x p i. unite-right p (places (borrowOf (Γ₁ x))) (places (borrowOf (Γ₂ x))) i)
-
-  joined-used : (x : ℕ) → Γ x ≡ used → joined Γ Γ₁ Γ₂ x ≡ used
-  unfolding joined
-  joined-used x e = ap (λ (y : Slot). joinedSlot y (Γ₁ x) (Γ₂ x)) e
 
 -- ---- the value of either block
 

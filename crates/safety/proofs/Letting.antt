@@ -13,7 +13,7 @@ use Rattle.rules.proofs.Slots.{free≢live, used≢live, update-same, update-ot
 use Rattle.machine.specs.Values.{variable, Value, empty, closed, openWith}
 use Rattle.machine.specs.Store.{Store, put, isOpen, State}
 use Rattle.machine.specs.Run.{runLet}
-use Rattle.machine.proofs.Apart.{err≢ok}
+use Rattle.rules.proofs.Answers.{err≢ok}
 use Rattle.machine.proofs.StoreLaws.{put-same}
 use Rattle.safety.proofs.Memory.{Name, inFlight, inDrop, var, Spot, Content, noRow, has, p-empty, Memory, var≢flight, var≢drop, drop≢flight}
 use Rattle.safety.proofs.NameMaps.{upd, upd-same, upd-other}
@@ -62,7 +62,7 @@ module _ {nv : ℕ} {Γ : Environment} {t : Ty} {lv : ℕ} {s : State} {v : Valu
   abbrev U : Variable
   U = fresh (t .links) (t .borrow) lv
 
-  pub letting : (i x : ℕ) → Γ x ≡ used → x < nv
+  letting : (i x : ℕ) → Γ x ≡ used → x < nv
       → (s′ : State) × (runLet s i x v ≡ ok (s′, empty)) × (Invariant nv (update Γ x (live U)) none lv s′ empty)
       × ((y : ℕ) (q : Variable) → update Γ x (live U) y ≡ live q → q .level < lv → (k : Variable) × (Γ y ≡ live k) × (k .level ≡ q .level))
   letting i x ux xn = (

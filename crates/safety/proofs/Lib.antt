@@ -3,7 +3,6 @@
 -- The examples.
 pub mod ExampleTable
 -- What the layers share.
-pub mod Choose
 pub mod EndNumbers
 -- The memory layer: names own chains of cells. No types in it.
 pub mod Memory
@@ -11,6 +10,7 @@ pub mod NameMaps
 pub mod Lifted
 pub mod Transfer
 pub mod Naming
+pub mod OneName
 pub mod Pop
 pub mod Push
 pub mod Dropping
@@ -55,7 +55,6 @@ pub mod Leaving
 pub mod BlockEnd
 pub mod Joining
 -- All terms, and the whole script.
-pub mod Ranges
 pub mod Soundness
 pub mod Start
 pub mod ScriptEnd

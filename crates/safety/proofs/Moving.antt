@@ -21,7 +21,7 @@ use Rattle.machine.specs.Values.{Location, variable, Value, empty, num, owner, 
 use Rattle.machine.specs.Store.{Store, put, State, withStore}
 use Rattle.machine.specs.Locate.{locateFrom, locate, filled}
 use Rattle.machine.specs.Run.{runMove}
-use Rattle.machine.proofs.Results.{then, needed}
+use Rattle.reader.proofs.Answers.{then, needed}
 use Rattle.safety.proofs.Memory.{Name, inFlight, inDrop, var, Spot, top, Content, has, p-empty, Memory, var≢flight, var≢drop, drop≢flight, row-open, top-only}
 use Rattle.safety.proofs.NameMaps.{upd, upd-same, upd-other}
 use Rattle.safety.proofs.Lifted.{spotOf, lift, lift-other, lift-same, lift-flight}

@@ -10,7 +10,7 @@ use Rattle.rules.specs.Environment.{Environment, Ty}
 use Rattle.rules.specs.Rules.{numberTy}
 use Rattle.machine.specs.Values.{Value, empty, num, closed, openWith}
 use Rattle.machine.specs.Store.{State}
-use Rattle.machine.proofs.Apart.{none≢some}
+use Rattle.rules.proofs.Answers.{none≢some}
 use Rattle.safety.proofs.Memory.{Name, inFlight, inDrop, var, has, Plain, p-num, var≢flight, drop≢flight}
 use Rattle.safety.proofs.NameMaps.{upd, upd-same, upd-other}
 use Rattle.safety.proofs.Lifted.{lift, lift-flight}

@@ -10,7 +10,7 @@ use Rattle.machine.specs.Values.{Location, empty, num, openWith}
 use Rattle.machine.specs.Store.{State, Ran}
 use Rattle.machine.specs.Locate.{locate, filled, numberIn}
 use Rattle.machine.specs.Run.{Outcome, runCopy, runNumber, runPair}
-use Rattle.machine.proofs.Results.{then, needed}
+use Rattle.reader.proofs.Answers.{then, needed}
 use Rattle.safety.proofs.Inversion.{number-nil, readable-ok}
 use Rattle.safety.proofs.Invariant.{Invariant}
 use Rattle.safety.proofs.Finding.{number-there}

@@ -33,7 +33,7 @@ pub on-end : {Γ : Name → Slot} {w : Name} {d : ℕ} {x : Name} {r : ℕ} (D :
 on-end (here Q e a b) = refl
 on-end (hop Q p e f a b D) = inr (on-end D)
 
-pub on-start : {Γ : Name → Slot} {w : Name} {d : ℕ} {x : Name} {r : ℕ} (D : Reach Γ w d x r) → On D x
+on-start : {Γ : Name → Slot} {w : Name} {d : ℕ} {x : Name} {r : ℕ} (D : Reach Γ w d x r) → On D x
 on-start (here Q e a b) = refl
 on-start (hop Q p e f a b D) = inl refl
 

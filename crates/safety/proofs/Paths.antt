@@ -16,17 +16,17 @@ use Rattle.safety.proofs.Lifted.{spotOf, lift, lift-at}
 use Rattle.safety.proofs.Ghost.{Borrow, noBorrow, stale, sharedOf, exclusiveOf, Variable, Slot, live}
 use Rattle.safety.proofs.Typing.{borrowed, boxes, Reach, here, hop, Typed}
 
-pub locate-owner : (s : State) (i : ℕ) (l : Location) (c r : ℕ) → s .store l ≡ openWith (owner c)
+locate-owner : (s : State) (i : ℕ) (l : Location) (c r : ℕ) → s .store l ≡ openWith (owner c)
     → locateFrom s i l (suc r) ≡ locateFrom s i (cell c) r
 unfolding locateFrom followed _>>=_
 locate-owner s i l c r e = rw e refl
 
-pub locate-reference : (s : State) (i : ℕ) (l l′ : Location) (r : ℕ) → s .store l ≡ openWith (reference l′)
+locate-reference : (s : State) (i : ℕ) (l l′ : Location) (r : ℕ) → s .store l ≡ openWith (reference l′)
     → locateFrom s i l (suc r) ≡ locateFrom s i l′ r
 unfolding locateFrom followed _>>=_
 locate-reference s i l l′ r e = rw e refl
 
-pub locate-end : (s : State) (i : ℕ) (l : Location) (v : Value) → s .store l ≡ openWith v → locateFrom s i l 0 ≡ ok l
+locate-end : (s : State) (i : ℕ) (l : Location) (v : Value) → s .store l ≡ openWith v → locateFrom s i l 0 ≡ ok l
 unfolding locateFrom need isOpen _>>=_
 locate-end s i l v e = rw e refl
 

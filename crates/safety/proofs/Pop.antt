@@ -2,15 +2,16 @@
 use Prim.Native.Nat.{ℕ, zero, suc, _≤_, _<_, zero-le}
 use native.Mathlib.Omega.{arith}
 use native.Mathlib.Decide.{ℕ-discrete}
-use mathlib.Core.Path.{_≡_, refl, sym, ap, _∙_, subst}
+use mathlib.Core.Path.{_≡_, refl, sym, ap, _∙_}
 use mathlib.Core.Logic.{_≢_, _⊎_, inl, inr}
 use Rattle.machine.specs.Values.{Value, owner, Row, closed, givenBack, openWith}
 use Rattle.machine.proofs.Apart.{open≢closed}
-use Rattle.safety.proofs.Choose.{choose, choose-yes, choose-no}
-use Rattle.safety.proofs.Memory.{Name, Spot, top, inCell, Content, noRow, has, nameDec, Plain, Linked, Owned, Memory, top≢cell, has≢noRow, row-open, top-only}
+use Rattle.rules.proofs.Choose.{choose, choose-yes, choose-no}
+use Rattle.safety.proofs.Memory.{Name, Spot, top, inCell, Content, has, nameDec, Linked, Owned, Memory, top≢cell, row-open, top-only}
+use Rattle.safety.proofs.OneName.{one-name, still-owned}
 
 -- The own link that link i of z was.
-pub wasAt : Name → Name → ℕ → ℕ
+wasAt : Name → Name → ℕ → ℕ
 wasAt b z zero = zero
 wasAt b z (suc i) = choose (nameDec z b) (suc (suc i)) (suc i)
 
@@ -78,30 +79,6 @@ module _ {H : Name → Content} {S : Spot → Row} {k : ℕ} {ρ : Name → ℕ 
   leaf-b (suc i) h =
       rw (wasAt-self b i) (stay b (suc n) v (suc (suc i)) Hb (omega arith) (inr (omega arith)) ∙ ap (λ (t : ℕ). S (ρ b t)) (omega arith) ∙ m .leaf b (suc n) v Hb)
 
-  link′ : (x : Name) (s : ℕ) (u : Value) (i : ℕ) → H′ x ≡ has s u → i < s → Linked S′ ρ′ x i
-  link′ x s u i hx hi = go (nameDec x b)
-    where
-      Goal : Name → Type 0
-      Goal y = Linked S′ ρ′ y i
-
-      go : Dec (x ≡ b) → Goal x
-      go (yes p) = subst Goal (sym p) (link-b i (let q = top-was s u (ap H′ (sym p) ∙ hx) in omega (arith, q .0)))
-      go (no p) =
-          let hz : H x ≡ has s u = sym (H′z x p) ∙ hx in
-          let l = m .link x s u i hz hi in
-          (l .0, rw (popped-other ρ b x i p) (stay x s u i hz (omega arith) (inl p) ∙ l .1), rw (popped-other ρ b x (suc i) p) (l .2))
-
-  leaf′ : (x : Name) (s : ℕ) (u : Value) → H′ x ≡ has s u → (S′ (ρ′ x s) ≡ openWith u) × Plain u
-  leaf′ x s u hx = go (nameDec x b)
-    where
-      go : Dec (x ≡ b) → (S′ (ρ′ x s) ≡ openWith u) × Plain u
-      go (yes p) =
-          let q = top-was s u (ap H′ (sym p) ∙ hx) in
-          (rw (p, q .1) (leaf-b s (q .0)), rw (q .1) (m .plain b (suc n) v Hb))
-      go (no p) =
-          let hz : H x ≡ has s u = sym (H′z x p) ∙ hx in
-          (rw (popped-other ρ b x s p) (stay x s u s hz (omega arith) (inl p) ∙ m .leaf x s u hz), m .plain x s u hz)
-
   -- The position before.
   was : (x : Name) (s : ℕ) (u : Value) (i : ℕ) → H′ x ≡ has s u → i ≤ s → (t : ℕ) × (H x ≡ has t u) × (wasAt b x i ≤ t)
   unfolding wasAt
@@ -139,13 +116,6 @@ module _ {H : Name → Content} {S : Spot → Row} {k : ℕ} {ρ : Name → ℕ 
       let q = m .distinct x y (a .0) (a′ .0) u w (wasAt b x i) (wasAt b y j) (a .1) (a .2) (a′ .1) (a′ .2) r in
       (q .0, same x i j (q .1 ∙ ap (λ (z : Name). wasAt b z j) (sym (q .0))))
 
-  shut′ : (x : Name) → H′ x ≡ noRow → S′ (top x) ≡ closed
-  shut′ x hx = go (nameDec x b)
-    where
-      go : Dec (x ≡ b) → S′ (top x) ≡ closed
-      go (yes p) = absurd (has≢noRow H′b (ap H′ (sym p) ∙ hx))
-      go (no p) = S′q (top x) (λ r. p (cc)) top≢cell ∙ m .shut x (sym (H′z x p) ∙ hx)
-
   owned′ : (d : ℕ) (u : Value) → S′ (inCell d) ≡ openWith u → Owned H′ ρ′ d
   unfolding popped
   owned′ d u h = go (ℕ-discrete d c)
@@ -158,21 +128,12 @@ module _ {H : Name → Content} {S : Spot → Row} {k : ℕ} {ρ : Name → ℕ 
       at-b (suc zero) hi ne r = absurd (ne (let q : inCell c ≡ inCell d = sym first ∙ r in cc))
       at-b (suc (suc i)) hi ne r = (b, n, v, suc i, H′b, omega arith, ap (λ (t : ℕ). ρ b t) (wasAt-self b i) ∙ r)
 
-      from : (x : Name) (s : ℕ) (w : Value) (i : ℕ) → d ≢ c → H x ≡ has s w → i ≤ s → ρ x i ≡ inCell d → Dec (x ≡ b) → Goal
-      from x s w i ne hx hi r (yes p) =
-          let hb : H b ≡ has s w = ap H (sym p) ∙ hx in
-          let sz : s ≡ suc n = cc in
-          at-b i (omega arith) ne (rw (← p) r)
-      from x s w i ne hx hi r (no p) = (x, s, w, i, H′z x p ∙ hx, hi, popped-other ρ b x i p ∙ r)
-
       go : Dec (d ≡ c) → Goal
       go (yes p) =
           let z : _≡_ {A = Row} givenBack (openWith u) = sym S′c ∙ ap (λ (t : ℕ). S′ (inCell t)) (sym p) ∙ h in
           let y : _≡_ {A = ℕ} 0 1 = cc in
           absurd (omega arith)
-      go (no p) =
-          let o = m .owned d u (sym (S′q (inCell d) (λ r. top≢cell (sym r)) (λ r. p (cc))) ∙ h) in
-          from (o .0) (o .1) (o .2) (o .3) p (o .4) (o .5) (o .6) (nameDec (o .0) b)
+      go (no p) = still-owned m b (suc n) n v c Hb H′ H′b H′z S′ S′q ρ′ (popped-other ρ b) d u p h (λ i hi. at-b i hi p)
 
   cell-open : (u : Value) × (S (inCell c) ≡ openWith u)
   cell-open = let o = row-open m b (suc n) v 1 Hb (omega arith) in (o .0, ap S (sym first) ∙ o .1)
@@ -192,12 +153,12 @@ module _ {H : Name → Content} {S : Spot → Row} {k : ℕ} {ρ : Name → ℕ 
 
   pub pop : Memory H′ S′ k (popped ρ b)
   unfolding popped wasAt
-  pop = record {
+  pop = let rest = one-name m b (suc n) n v c Hb H′ H′b H′z S′ S′q ρ′ (popped-other ρ b) (λ x s u i hx hi p. stay x s u i hx hi (inl p)) link-b leaf-b in record {
     base = m .base;
-    link = link′;
-    leaf = λ x s u h. leaf′ x s u h .0;
-    plain = λ x s u h. leaf′ x s u h .1;
-    shut = shut′;
+    link = rest .0;
+    leaf = λ x s u h. rest .1 x s u h .0;
+    plain = λ x s u h. rest .1 x s u h .1;
+    shut = rest .2;
     distinct = distinct′;
     owned = owned′;
     untaken = untaken′;

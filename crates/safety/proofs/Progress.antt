@@ -8,7 +8,7 @@ use Rattle.rules.specs.Environment.{Variable, used, live, Environment, Ty}
 use Rattle.machine.specs.Values.{Value, empty}
 use Rattle.machine.specs.Store.{State, Ran}
 use Rattle.machine.specs.Run.{Outcome}
-use Rattle.machine.proofs.Results.{after}
+use Rattle.reader.proofs.Answers.{after}
 use Rattle.safety.proofs.Invariant.{Invariant}
 
 -- r is the run of a term that is judged from Γ on and leads to Γ′, with a value of type o.

@@ -2,12 +2,13 @@
 use Prim.Native.Nat.{ℕ, zero, suc, _≤_, _<_, zero-le}
 use native.Mathlib.Omega.{arith}
 use native.Mathlib.Decide.{ℕ-discrete}
-use mathlib.Core.Path.{_≡_, refl, sym, ap, _∙_, subst}
+use mathlib.Core.Path.{_≡_, refl, sym, ap, _∙_}
 use mathlib.Core.Logic.{_≢_, _⊎_, inl, inr}
 use Rattle.machine.specs.Values.{Value, owner, Row, closed, openWith}
 use Rattle.machine.proofs.Apart.{open≢closed}
-use Rattle.safety.proofs.Choose.{choose, choose-yes, choose-no}
-use Rattle.safety.proofs.Memory.{Name, Spot, top, inCell, Content, noRow, has, nameDec, Plain, Linked, Owned, Memory, top≢cell, has≢noRow, row-open, top-only}
+use Rattle.rules.proofs.Choose.{choose, choose-yes, choose-no}
+use Rattle.safety.proofs.Memory.{Name, Spot, top, inCell, Content, has, nameDec, Linked, Owned, Memory, top≢cell, row-open, top-only}
+use Rattle.safety.proofs.OneName.{one-name, still-owned}
 
 pub pushed : (Name → ℕ → Spot) → Name → ℕ → Name → ℕ → Spot
 pushed ρ b k z zero = ρ z zero
@@ -65,30 +66,6 @@ module _ {H : Name → Content} {S : Spot → Row} {k : ℕ} {ρ : Name → ℕ 
   leaf-b (suc (suc i)) h =
       rw (pushed-more ρ b k i) (stay b n v (suc i) Hb (omega arith) (inr (omega arith)) ∙ ap (λ (t : ℕ). S (ρ b t)) (omega arith) ∙ m .leaf b n v Hb)
 
-  link′ : (x : Name) (s : ℕ) (u : Value) (i : ℕ) → H′ x ≡ has s u → i < s → Linked S′ ρ′ x i
-  link′ x s u i hx hi = go (nameDec x b)
-    where
-      Goal : Name → Type 0
-      Goal y = Linked S′ ρ′ y i
-
-      go : Dec (x ≡ b) → Goal x
-      go (yes p) = subst Goal (sym p) (link-b i (let q = top-was s u (ap H′ (sym p) ∙ hx) in omega (arith, q .0)))
-      go (no p) =
-          let hz : H x ≡ has s u = sym (H′z x p) ∙ hx in
-          let l = m .link x s u i hz hi in
-          (l .0, rw (pushed-other ρ b k x i p) (stay x s u i hz (omega arith) (inl p) ∙ l .1), rw (pushed-other ρ b k x (suc i) p) (l .2))
-
-  leaf′ : (x : Name) (s : ℕ) (u : Value) → H′ x ≡ has s u → (S′ (ρ′ x s) ≡ openWith u) × Plain u
-  leaf′ x s u hx = go (nameDec x b)
-    where
-      go : Dec (x ≡ b) → (S′ (ρ′ x s) ≡ openWith u) × Plain u
-      go (yes p) =
-          let q = top-was s u (ap H′ (sym p) ∙ hx) in
-          (rw (p, q .1) (leaf-b s (q .0)), rw (q .1) (m .plain b n v Hb))
-      go (no p) =
-          let hz : H x ≡ has s u = sym (H′z x p) ∙ hx in
-          (rw (pushed-other ρ b k x s p) (stay x s u s hz (omega arith) (inl p) ∙ m .leaf x s u hz), m .plain x s u hz)
-
   -- A position after: the new cell, or a position before.
   was : (x : Name) (s : ℕ) (u : Value) (i : ℕ) → H′ x ≡ has s u → i ≤ s
       → ((x ≡ b) × (i ≡ 1)) ⊎ ((t : ℕ) × (j : ℕ) × (H x ≡ has t u) × (j ≤ t) × (ρ′ x i ≡ ρ x j) × ((x ≡ b × 2 ≤ i × i ≡ suc j) ⊎ ((x ≡ b → i ≡ 0) × (i ≡ j))))
@@ -137,13 +114,6 @@ module _ {H : Name → Content} {S : Spot → Row} {k : ℕ} {ρ : Name → ℕ 
           let z = m .distinct x y (p .0) (q .0) u w (p .1) (q .1) (p .2) (p .3) (q .2) (q .3) (sym (p .4) ∙ r ∙ q .4) in
           (z .0, same i j (p .1) (q .1) (z .0) (z .1) (p .5) (q .5))
 
-  shut′ : (x : Name) → H′ x ≡ noRow → S′ (top x) ≡ closed
-  shut′ x hx = go (nameDec x b)
-    where
-      go : Dec (x ≡ b) → S′ (top x) ≡ closed
-      go (yes p) = absurd (has≢noRow H′b (ap H′ (sym p) ∙ hx))
-      go (no p) = S′q (top x) (λ r. p (cc)) top≢cell ∙ m .shut x (sym (H′z x p) ∙ hx)
-
   owned′ : (d : ℕ) (u : Value) → S′ (inCell d) ≡ openWith u → Owned H′ ρ′ d
   owned′ d u h = go (ℕ-discrete d k)
     where
@@ -154,18 +124,9 @@ module _ {H : Name → Content} {S : Spot → Row} {k : ℕ} {ρ : Name → ℕ 
       at-b zero hi r = absurd (top≢cell (sym (m .base b) ∙ r))
       at-b (suc i) hi r = (b, suc n, v, suc (suc i), H′b, omega arith, pushed-more ρ b k i ∙ r)
 
-      from : (x : Name) (s : ℕ) (w : Value) (i : ℕ) → H x ≡ has s w → i ≤ s → ρ x i ≡ inCell d → Dec (x ≡ b) → Goal
-      from x s w i hx hi r (yes p) =
-          let hb : H b ≡ has s w = ap H (sym p) ∙ hx in
-          let sz : s ≡ n = cc in
-          at-b i (omega arith) (rw (← p) r)
-      from x s w i hx hi r (no p) = (x, s, w, i, H′z x p ∙ hx, hi, pushed-other ρ b k x i p ∙ r)
-
       go : Dec (d ≡ k) → Goal
       go (yes p) = (b, suc n, v, 1, H′b, omega arith, pushed-one ρ b k ∙ ap inCell (sym p))
-      go (no p) =
-          let o = m .owned d u (sym (S′q (inCell d) (λ r. top≢cell (sym r)) (λ r. p (cc))) ∙ h) in
-          from (o .0) (o .1) (o .2) (o .3) (o .4) (o .5) (o .6) (nameDec (o .0) b)
+      go (no p) = still-owned m b n (suc n) v k Hb H′ H′b H′z S′ S′q ρ′ (pushed-other ρ b k) d u p h at-b
 
   untaken′ : (d : ℕ) → suc k ≤ d → S′ (inCell d) ≡ closed
   untaken′ d h = S′q (inCell d) (λ r. top≢cell (sym r)) (λ r. let z : d ≡ k = cc in omega arith) ∙ m .untaken d (omega arith)
@@ -179,12 +140,12 @@ module _ {H : Name → Content} {S : Spot → Row} {k : ℕ} {ρ : Name → ℕ 
 
   pub push : Memory H′ S′ (suc k) (pushed ρ b k)
   unfolding pushed
-  push = record {
+  push = let rest = one-name m b n (suc n) v k Hb H′ H′b H′z S′ S′q ρ′ (pushed-other ρ b k) (λ x s u i hx hi p. stay x s u i hx hi (inl p)) link-b leaf-b in record {
     base = m .base;
-    link = link′;
-    leaf = λ x s u h. leaf′ x s u h .0;
-    plain = λ x s u h. leaf′ x s u h .1;
-    shut = shut′;
+    link = rest .0;
+    leaf = λ x s u h. rest .1 x s u h .0;
+    plain = λ x s u h. rest .1 x s u h .1;
+    shut = rest .2;
     distinct = distinct′;
     owned = owned′;
     untaken = untaken′;

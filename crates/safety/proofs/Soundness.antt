@@ -14,13 +14,14 @@ use Rattle.rules.specs.Rules.{Out, numberTy, judgeNumber, judgeBelow, borrowIn,
 use Rattle.rules.specs.Judge.{judge, judges}
 use Rattle.rules.proofs.Answers.{was-free}
 use Rattle.rules.proofs.Slots.{free≢live, used≢live, update-same, update-other, leave-live}
+use Rattle.rules.specs.Neat.{LetsBelow, LetsBelowAll}
 use Rattle.rules.proofs.NeatSteps.{Lived}
 use Rattle.machine.specs.Values.{empty, num}
 use Rattle.machine.specs.Store.{State, Ran}
 use Rattle.machine.specs.Drop.{dropValue}
 use Rattle.machine.specs.Signed.{compared, heldSum}
 use Rattle.machine.specs.Run.{Outcome, runNumber, runPair, runBlockEnd, entered, run, runs}
-use Rattle.machine.proofs.Results.{then, after, needed}
+use Rattle.reader.proofs.Answers.{then, after, needed}
 use Rattle.safety.proofs.Invariant.{Invariant}
 use Rattle.safety.proofs.Progress.{Progress, and-then}
 use Rattle.safety.proofs.Numbers.{case-number, one-number, case-pair}
@@ -34,30 +35,29 @@ use Rattle.safety.proofs.Forgetting.{forget}
 use Rattle.safety.proofs.Leaving.{leave-same, late-level}
 use Rattle.safety.proofs.BlockEnd.{entering, block-ends}
 use Rattle.safety.proofs.Joining.{carrying, after-first, after-second}
-use Rattle.safety.proofs.Ranges.{Ranged, Rangeds}
 
 module _ (nv : ℕ) (readings : ℕ → ℕ) where
   -- If the judge accepts the term where the invariant holds, it runs to its end and the invariant holds after it.
   unfoldable pub Sound : Term → Type 0
-  Sound t = (lv : ℕ) (Γ : Environment) (s : State) (out : Out) → Ranged nv t → judge nv t lv Γ ≡ ok out → Invariant nv Γ none lv s empty → Progress nv Γ (out .0) (out .1) lv (run readings t s)
+  Sound t = (lv : ℕ) (Γ : Environment) (s : State) (out : Out) → LetsBelow nv t → judge nv t lv Γ ≡ ok out → Invariant nv Γ none lv s empty → Progress nv Γ (out .0) (out .1) lv (run readings t s)
 
   unfoldable pub Sounds : Terms → Type 0
-  Sounds ts = (lv : ℕ) (Γ : Environment) (s : State) (i : ℕ) (out : Out) → Rangeds nv ts → judges nv ts lv Γ ≡ ok out → Invariant nv Γ none lv s empty → Progress nv Γ (out .0) (out .1) lv (runs readings ts i s)
+  Sounds ts = (lv : ℕ) (Γ : Environment) (s : State) (i : ℕ) (out : Out) → LetsBelowAll nv ts → judges nv ts lv Γ ≡ ok out → Invariant nv Γ none lv s empty → Progress nv Γ (out .0) (out .1) lv (runs readings ts i s)
 
   sound-box : (i : ℕ) (t : Term) → Sound t → Sound (box i t)
-  unfolding Sound Ranged judge run
+  unfolding Sound LetsBelow judge run
   sound-box i t ih lv Γ s out w h I =
       let a = then (judge nv t lv Γ) _ out h in
       and-then (run readings t s) _ (ih lv Γ s (a .0) w (a .1) I) (λ s′ v J. after-box (a .0 .1) J i out (a .2))
 
   sound-assign : (i : ℕ) (p : Place) (t : Term) → Sound t → Sound (assign i p t)
-  unfolding Sound Ranged judge run
+  unfolding Sound LetsBelow judge run
   sound-assign i p t ih lv Γ s out w h I =
       let a = then (judge nv t lv Γ) _ out h in
       and-then (run readings t s) _ (ih lv Γ s (a .0) w (a .1) I) (λ s′ v J. after-assign (a .0 .1) J i p out (a .2))
 
   sound-let : (i x : ℕ) (t : Term) → Sound t → Sound (declare i x t)
-  unfolding Sound Ranged judge run
+  unfolding Sound LetsBelow judge run
   sound-let i x t ih lv Γ s out w h I =
       let f = then (need (isFree (Γ x)) (30, i)) _ out h in
       let fx = was-free (Γ x) (needed _ _ _ (f .1)) in
@@ -84,7 +84,7 @@ module _ (nv : ℕ) (readings : ℕ → ℕ) where
 
   -- Besides: nothing is in scope after a block that was not before.
   SoundBlock : ℕ → Terms → Type 0
-  SoundBlock i ts = (lv : ℕ) (Γ : Environment) (s : State) (out : Out) → Rangeds nv ts → (judges nv ts (suc lv) Γ >>= λ o. judgeBlockEnd nv lv (o .0) i (o .1)) ≡ ok out → Invariant nv Γ none lv s empty
+  SoundBlock i ts = (lv : ℕ) (Γ : Environment) (s : State) (out : Out) → LetsBelowAll nv ts → (judges nv ts (suc lv) Γ >>= λ o. judgeBlockEnd nv lv (o .0) i (o .1)) ≡ ok out → Invariant nv Γ none lv s empty
       → (Progress nv Γ (out .0) (out .1) lv (runs readings ts i (entered s) >>= λ o. runBlockEnd i (s .opened) o))
       × (Lived Γ (out .0))
 
@@ -116,7 +116,7 @@ module _ (nv : ℕ) (readings : ℕ → ℕ) where
       )
 
   sound-block : (i : ℕ) (ts : Terms) → Sounds ts → Sound (block i ts)
-  unfolding Sound SoundBlock Ranged judge run
+  unfolding Sound SoundBlock LetsBelow judge run
   sound-block i ts ih lv Γ s out w h I = sound-terms i ts ih lv Γ s out w h I .0
 
   run-choice : (i : ℕ) (p : Place) (s : State) (n : ℕ) (a b : Ran Outcome) → runNumber s i p ≡ ok n
@@ -126,7 +126,7 @@ module _ (nv : ℕ) (readings : ℕ → ℕ) where
 
   -- A choice: whichever block runs, what is known after either holds after that one.
   sound-choice : (i : ℕ) (p : Place) (j : ℕ) (us : Terms) (k : ℕ) (vs : Terms) → Sounds us → Sounds vs → Sound (choice i p j us k vs)
-  unfolding Sound SoundBlock Ranged judge run judgeChoice
+  unfolding Sound SoundBlock LetsBelow judge run judgeChoice
   sound-choice i p j us k vs ihu ihv lv Γ s out w h I =
       let a = then (judgeNumber nv Γ i p) _ out h in
       let A = then (judges nv us (suc lv) Γ >>= λ o. judgeBlockEnd nv lv (o .0) j (o .1)) _ out (a .2) in
@@ -157,11 +157,11 @@ module _ (nv : ℕ) (readings : ℕ → ℕ) where
           either-block true = after-second Γ₁ o₁ (S .0) (S .1) agree
 
   sound-last : (t : Term) → Sound t → Sounds (last t)
-  unfolding Sound Sounds Ranged judge run
+  unfolding Sound Sounds LetsBelow judge run
   sound-last t ih lv Γ s i out w h I = ih lv Γ s out w h I
 
   sound-more : (t : Term) (ts : Terms) → Sound t → Sounds ts → Sounds (more t ts)
-  unfolding Sound Sounds Ranged judge run
+  unfolding Sound Sounds LetsBelow judge run
   sound-more t ts ih ihs lv Γ s i out w h I =
       let a = then (judge nv t lv Γ) _ out h in
       let R = ih lv Γ s (a .0) (w .0) (a .1) I in

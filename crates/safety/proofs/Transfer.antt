@@ -6,14 +6,14 @@ use mathlib.Core.Path.{_≡_, refl, sym, ap, _∙_, subst}
 use mathlib.Core.Logic.{_≢_, _⊎_, inl, inr}
 use Rattle.machine.specs.Values.{Value, empty, Row, closed, openWith}
 use Rattle.machine.proofs.Apart.{open≢closed}
-use Rattle.safety.proofs.Choose.{choose, choose-yes, choose-no, choose-same}
+use Rattle.rules.proofs.Choose.{choose, choose-yes, choose-no, choose-same}
 use Rattle.safety.proofs.Memory.{Name, Spot, top, inCell, Content, noRow, has, nameDec, spotDec, Plain, p-empty, Linked, Owned, Memory, has≢noRow, row-open, top-only}
 
 -- Where the own links of z are afterwards.
 pub moved : (Name → ℕ → Spot) → Name → ℕ → Name → ℕ → Name → ℕ → Spot
 moved ρ a d b e z i = choose (nameDec z b) (choose (decLt e i) (ρ a (d + (i - e))) (ρ z i)) (ρ z i)
 
-pub moved-up : (ρ : Name → ℕ → Spot) (a : Name) (d : ℕ) (b : Name) (e i : ℕ) → e < i → moved ρ a d b e b i ≡ ρ a (d + (i - e))
+moved-up : (ρ : Name → ℕ → Spot) (a : Name) (d : ℕ) (b : Name) (e i : ℕ) → e < i → moved ρ a d b e b i ≡ ρ a (d + (i - e))
 unfolding moved
 moved-up ρ a d b e i h = choose-yes (nameDec b b) _ _ refl ∙ choose-yes (decLt e i) _ _ h
 

@@ -119,7 +119,7 @@ module _ (Γ Γ′ : Name → Slot) (X : Name → Type 0)
       (sameH : (z : Name) → (X z → ⊥) → H′ z ≡ H z)
       (sameρ : (z : Name) (i : ℕ) → (X z → ⊥) → ρ′ z i ≡ ρ z i)
       (sameR : (z : Name) → (X z → ⊥) → rank′ z ≡ rank z) where
-    pub ref-off : (x : Name) (Q : Variable) (p : Place) → Γ x ≡ live Q → boxes Q < Q .movedFrom → borrowed (Q .borrow) ≡ some p → (X x → ⊥)
+    ref-off : (x : Name) (Q : Variable) (p : Place) → Γ x ≡ live Q → boxes Q < Q .movedFrom → borrowed (Q .borrow) ≡ some p → (X x → ⊥)
         → Ref Γ H ρ rank x Q p → Ref Γ′ H′ ρ′ rank′ x Q p
     ref-off x Q p e a q h R =
         let n = shut x Q p (record { is = e; whole = a; at = q }) h in

@@ -36,7 +36,7 @@ end-exclusive (shared ∷ ks) ps p f = absurd f
 end-exclusive (exclusive ∷ ks) ps p f = refl
 
 -- A borrow end with more places.
-pub end-in : (ks : List Link) {b : Gh.Borrow} {j : Borrow} (ps : List Place) → Fits ks b → BorrowIn b j
+end-in : (ks : List Link) {b : Gh.Borrow} {j : Borrow} (ps : List Place) → Fits ks b → BorrowIn b j
     → ((p : Place) → Among p (places j) → Among p ps) → BorrowIn b (borrowEnd ks ps)
 end-in ks ps f in-none h = rw (end-none ks ps f) in-none
 end-in ks ps f (in-shared p qs i) h = rw (end-shared ks ps p f) (in-shared p ps (h p i))

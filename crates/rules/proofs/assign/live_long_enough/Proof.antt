@@ -1,29 +1,56 @@
--- `rules::assign::live_long_enough` meets its contract. The loop: every root lives long enough for the variables that are not left. Assumes nothing.
+-- `rules::assign::live_long_enough` meets its contract. The loop: the variables left pass the test if and only if all do. Assumes nothing.
+use Prim.Native.Nat.{ℕ, _<_}
 use native.Mathlib.Omega.{arith}
-use mathlib.Core.Path.{sym, _∙_}
+use mathlib.Core.Path.{_≡_, refl, sym, ap, _∙_}
+use mathlib.Core.Bool.{Bool, true, false}
+use mathlib.Core.List.{List}
+use lib.Dec.{leb}
 use borrow.Author.Tests.{not-true, not-false}
 use borrow.Author.Needs.{needs}
+use Rattle.reader.specs.Script.{Place}
+use Rattle.rules.specs.declared.roots.Roots.{Roots}
+use Rattle.rules.specs.Places.{every}
+use Rattle.rules.specs.Environment.{levelOf}
+use Rattle.rules.specs.Roots.{lengths, placesOf}
 use Rattle.rules.specs.Masks.{has}
+use Rattle.rules.specs.Table.{environmentOf, longAt}
 use Rattle.rules.proofs.ClosureLoop.{count}
 use Rattle.rules.proofs.MaskLaws.{one-out}
-use Rattle.rules.proofs.WriteLaws.{Checked, checked-first, checked-next, checked-all, LivesFor, long-lived, too-short, all-long, none-recorded}
+use Rattle.rules.proofs.EveryRoot.{every-holds, every-over, every-fails, every-on}
+use Rattle.rules.proofs.WriteLaws.{out-kept}
 use Rattle.rules.proofs.assign.live_long_enough.Statement.{statement}
 use Rattle.rules.proofs.assign.live_long_enough.Tie as tie
 
+abbrev lives : List ℕ → Roots → ℕ → ℕ → Bool
+lives env roots m level = every (λ p. leb (levelOf (environmentOf env (p .root))) level) (placesOf 128 (has roots) (longAt env) m)
+
+abbrev outlives : List ℕ → Roots → ℕ → Place → Bool
+outlives env roots m q = lives env roots m (levelOf (environmentOf env (q .root)))
+
+abbrev allOutlive : List ℕ → ℕ → Roots → Roots → ℕ → ℕ → Bool
+allOutlive env variables roots left m k = every (outlives env roots m) (placesOf variables (has left) (lengths (environmentOf env)) k)
+
 abbrev Inv-loop : tie.InvT-loop
-Inv-loop env variables roots left₀ left = Checked left₀ left (LivesFor env roots)
+Inv-loop env variables roots left₀ left = ((y : ℕ) → has left y ≡ true → y < variables) × ((m k : ℕ) → allOutlive env variables roots left m k ≡ allOutlive env variables roots left₀ m k)
 
 abbrev μ-loop : tie.MeasureT-loop
 μ-loop env variables roots left₀ left = count (has left) 128
+
+-- What is asked with the level of x is asked of x.
+of-x : (env : List ℕ) (roots : Roots) (x level : ℕ) → level ≡ levelOf (environmentOf env x) → (r b : Bool) → ((m : ℕ) → r ≡ lives env roots m level) → r ≡ b → (m : ℕ) → lives env roots m (levelOf (environmentOf env x)) ≡ b
+of-x env roots x level is r b asked e m = ap (lives env roots m) (sym is) ∙ sym (asked m) ∙ e
 
 is-empty-requires : tie.Need-is-empty-requires Inv-loop μ-loop
 is-empty-requires c κs = search needs
 
 returns : tie.Need-returns Inv-loop μ-loop
-returns c = none-recorded _ _ _ _ (sym (c .before .is-empty .ensures) ∙ c .if1 .taken)
+returns c =
+    let start = c .before .before .before in
+    let env = start .args .env .now in
+    λ m k. sym (every-holds (start .args .variables) (outlives env (start .args .roots) m) (lengths (environmentOf env)) k (start .args .to) (λ x l h. every-over 128 _ (longAt env) m (start .args .roots) (sym (c .before .is-empty .ensures) ∙ c .if1 .taken)))
 
 loop-holds : tie.Need-loop-holds Inv-loop μ-loop
-loop-holds c = checked-first _ _
+loop-holds c = (c .before .before .before .pre .1, λ m k. refl)
 
 is-empty-requires-2 : tie.Need-is-empty-requires-2 Inv-loop μ-loop
 is-empty-requires-2 c κs = search needs
@@ -44,8 +71,12 @@ returns-2 c =
     let at-lowest = at-level .before in
     let at-loop = at-lowest .before .before .before in
     let start = at-loop .before .before .before .before in
-    let is-in = at-loop .loop .inv .0 _ (at-lowest .lowest .ensures .0) in
-    too-short _ _ _ _ (at-level .level-at .ensures) (at-lives .lives-at .result) (at-lives .lives-at .ensures) _ _ (not-true (at-lives .lives-at .result) (c .if3 .taken)) (start .pre .1 _ is-in) is-in
+    let env = start .args .env .now in
+    let is-in = at-lowest .lowest .ensures .0 in
+    λ m k.
+    sym (every-fails (start .args .variables) (outlives env (start .args .roots) m) (lengths (environmentOf env)) k (at-loop .loop .left) (at-lowest .lowest .result) (at-loop .loop .inv .0 _ is-in) is-in
+    (of-x env (start .args .roots) _ _ (at-level .level-at .ensures) (at-lives .lives-at .result) false (at-lives .lives-at .ensures) (not-true (at-lives .lives-at .result) (c .if3 .taken)) m))
+    ∙ at-loop .loop .inv .1 m k
 
 without-requires : tie.Need-without-requires Inv-loop μ-loop
 without-requires c κs = search needs
@@ -57,10 +88,24 @@ loop-again : tie.Need-loop-again Inv-loop μ-loop
 loop-again c =
     let at-lives = c .before .before in
     let at-level = at-lives .before in
-    checked-next _ _ _ _ _ (c .without .ensures) (long-lived _ _ _ _ (at-level .level-at .ensures) (at-lives .lives-at .result) (at-lives .lives-at .ensures) (not-false (at-lives .lives-at .result) (c .before .if3 .left))) (at-level .before .before .before .before .loop .inv)
+    let at-lowest = at-level .before in
+    let at-loop = at-lowest .before .before .before in
+    let start = at-loop .before .before .before .before in
+    let env = start .args .env .now in (
+      λ y h. at-loop .loop .inv .0 y (out-kept _ _ _ (c .without .ensures) y h .1),
+      λ m k.
+          every-on (start .args .variables) (outlives env (start .args .roots) m) (lengths (environmentOf env)) k (at-loop .loop .left) _ (at-lowest .lowest .result)
+          (of-x env (start .args .roots) _ _ (at-level .level-at .ensures) (at-lives .lives-at .result) true (at-lives .lives-at .ensures) (not-false (at-lives .lives-at .result) (c .before .if3 .left)) m)
+          (c .without .ensures)
+          ∙ at-loop .loop .inv .1 m k,
+    )
 
 returns-3 : tie.Need-returns-3 Inv-loop μ-loop
-returns-3 c = all-long _ _ _ _ (checked-all _ _ _ (sym (c .before .is-empty2 .ensures) ∙ not-false (c .before .is-empty2 .result) (c .if2 .left)) (c .before .before .loop .inv))
+returns-3 c =
+    let at-loop = c .before .before in
+    let start = at-loop .before .before .before .before in
+    let env = start .args .env .now in
+    λ m k. sym (every-over (start .args .variables) (outlives env (start .args .roots) m) (lengths (environmentOf env)) k (at-loop .loop .left) (sym (c .before .is-empty2 .ensures) ∙ not-false (c .before .is-empty2 .result) (c .if2 .left))) ∙ at-loop .loop .inv .1 m k
 
 pub live-long-enough-spec : {M : Type 1} → statement M
 live-long-enough-spec =

@@ -1,5 +1,4 @@
 -- `rules::bars::holds` meets its contract. Assumes nothing.
-use native.Mathlib.Omega.{arith}
 use mathlib.Core.Path.{_∙_}
 use borrow.Author.Needs.{needs}
 use Rattle.rules.proofs.HeldLaws.{dead-held, moved-held, none-held, shared-held, shared-passed, exclusive-held}

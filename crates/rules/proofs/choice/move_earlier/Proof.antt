@@ -4,7 +4,7 @@ use native.Mathlib.Omega.{arith}
 use mathlib.Core.Path.{sym, ap, _∙_}
 use borrow.Author.Needs.{needs}
 use Rattle.rules.specs.Table.{entryWord, putAt}
-use Rattle.rules.proofs.RowLaws.{put-same, earlier-first, earlier-second}
+use Rattle.rules.proofs.RowLaws.{put-again, earlier-first, earlier-second}
 use Rattle.rules.proofs.choice.move_earlier.Statement.{statement}
 use Rattle.rules.proofs.choice.move_earlier.Tie as tie
 
@@ -31,7 +31,7 @@ same-length-2 c = search needs
 returns-2 : tie.Need-returns-2
 returns-2 c =
     let start = c .before .before .before .before in
-    λ y j l. put-same (entryWord (start .args .env .now)) _ _ _ (earlier-second _ _ (omega (arith, c .if1 .left, c .before .word-at .ensures))) y j
+    λ y j l. put-again (entryWord (start .args .env .now)) _ _ _ (earlier-second _ _ (omega (arith, c .if1 .left, c .before .word-at .ensures))) y j
 
 pub move-earlier-spec : {M : Type 1} → statement M
 move-earlier-spec =
