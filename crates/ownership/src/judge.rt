@@ -137,7 +137,8 @@ fn judge_after(
     }
 }
 
-// The block at row i: its terms, then its end (LANGUAGE 3.28). `level` is that of the block around it.
+// The block at row i: its terms, then its end (LANGUAGE 3.28). `level` is that of the block around it; what is in scope
+// before the block stays so after it.
 fn judge_block(
     rows: &[u32],
     i: usize,
@@ -164,7 +165,8 @@ fn judge_block(
 }
 
 // The two blocks of the choice at row i, one after the other, and what is known after either (LANGUAGE 3.31). The state of
-// the first count numbers, all that are taken, is kept meanwhile.
+// the first count numbers, all that are taken, is kept meanwhile. Each block is judged as one term, so that the function
+// for blocks has one caller, and the compiler makes it part of that.
 fn judge_branches(
     rows: &[u32],
     i: usize,

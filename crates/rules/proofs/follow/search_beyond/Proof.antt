@@ -1,13 +1,15 @@
 -- `rules::follow::search_beyond` meets its contract. The root has been looked at before the loop. What is met and no longer to do passes, and counts where following ends there; what it
 -- leads to is met. Nothing met is out of scope, so each round leaves one fewer of the variables. Assumes nothing.
-use Prim.Native.Nat.{ℕ}
+use Prim.Native.Nat.{ℕ, _≤_, _<_}
 use native.Mathlib.Omega.{arith}
-use mathlib.Core.Path.{sym, ap, _∙_}
+use mathlib.Core.Path.{_≡_, sym, ap, _∙_}
+use mathlib.Core.List.{List}
 use lib.ListN.{length}
 use borrow.Author.Needs.{needs}
 use borrow.Author.Tests.{not-true, not-false}
 use Rattle.rules.specs.Chains.{chainOf}
 use Rattle.rules.specs.Masks.{has}
+use Rattle.rules.specs.Table.{linksAt}
 use Rattle.rules.proofs.ClosureLoop.{count, waiting}
 use Rattle.rules.proofs.MaskLaws.{none-in}
 use Rattle.rules.proofs.SearchLaws.{Searching, search-goes-on, search-over, in-reach, search-stops, here-again, here-less, through-again, through-less}
@@ -19,6 +21,27 @@ Inv-loop env variables root remaining deep todo₀ met₀ ends₀ todo met ends 
 
 abbrev μ-loop : tie.MeasureT-loop
 μ-loop env variables root remaining deep todo₀ met₀ ends₀ todo met ends = count (waiting (has met) (has todo)) variables
+
+-- Where x is taken out of what is to do: it is met, and the search goes as far as its links.
+module _ (w : tie.After-without Inv-loop μ-loop) where
+  abbrev at-loop : tie.At-loop Inv-loop μ-loop
+  at-loop = w .before .before .before .before
+
+  abbrev start : tie.Start Inv-loop μ-loop
+  start = at-loop .before .before .before .before .before .before .before
+
+  abbrev env : List ℕ
+  env = start .args .env .now
+
+  abbrev x : ℕ
+  x = w .before .lowest .result
+
+  reached : (start .args .remaining ≤ length (chainOf (linksAt env x))) × (x < start .args .variables)
+  reached = let at = in-reach _ _ (start .pre .0) _ _ (start .pre .1) (start .pre .2) _ _ _ _ (at-loop .loop .inv) _ (w .before .lowest .ensures .0) in (at .1, at .2)
+
+-- Its links are counted.
+long : (n : tie.After-chain-length Inv-loop μ-loop) → n .chain-length .result ≡ length (chainOf (linksAt (env (n .before .before)) (x (n .before .before))))
+long n = n .chain-length .ensures .0 ∙ ap (λ (k : ℕ). length (chainOf k)) (n .before .links-at .ensures)
 
 only-requires : tie.Need-only-requires Inv-loop μ-loop
 only-requires c κs =
@@ -54,35 +77,27 @@ without-requires : tie.Need-without-requires Inv-loop μ-loop
 without-requires c κs = c .lowest .ensures .1
 
 links-at-requires : tie.Need-links-at-requires Inv-loop μ-loop
-links-at-requires c κs =
-    let start = c .before .before .before .before .before .before .before .before .before .before .before in
-    let at = in-reach _ _ (start .pre .0) _ _ (start .pre .1) (start .pre .2) _ _ _ _ (c .before .before .before .before .loop .inv) _ (c .before .lowest .ensures .0) in
-    omega (arith, start .pre .0 .0 .0, at .2)
+links-at-requires c κs = omega (arith, start c .pre .0 .0 .0, reached c .1)
 
 chain-length-requires : tie.Need-chain-length-requires Inv-loop μ-loop
 chain-length-requires c κs = search needs
 
 sub-follows : tie.Need-sub-follows Inv-loop μ-loop
-sub-follows c =
-    let start = c .before .before .before .before .before .before .before .before .before .before .before .before .before in
-    let at = in-reach _ _ (start .pre .0) _ _ (start .pre .1) (start .pre .2) _ _ _ _ (c .before .before .before .before .before .before .loop .inv) _ (c .before .before .before .lowest .ensures .0) in
-    let long = c .chain-length .ensures .0 ∙ ap (λ (k : ℕ). length (chainOf k)) (c .before .links-at .ensures) in
-    omega (arith, long, at .1)
+sub-follows c = omega (arith, long c, reached (c .before .before) .0)
 
 step-at-requires : tie.Need-step-at-requires Inv-loop μ-loop
 step-at-requires c κs =
-    let start = c .before .before .before .before .before .before .before .before .before .before .before .before .before in
-    let at = in-reach _ _ (start .pre .0) _ _ (start .pre .1) (start .pre .2) _ _ _ _ (c .before .before .before .before .before .before .loop .inv) _ (c .before .before .before .lowest .ensures .0) in
-    let long = c .chain-length .ensures .0 ∙ ap (λ (k : ℕ). length (chainOf k)) (c .before .links-at .ensures) in
-    (omega (arith, start .pre .0 .0 .0, at .2), omega (arith, long))
+    let w = c .before .before in
+    (omega (arith, start w .pre .0 .0 .0, reached w .1), omega (arith, long c))
 
 enum-told : tie.Need-enum-told Inv-loop μ-loop
 enum-told c = search needs
 
 returns : tie.Need-returns Inv-loop μ-loop
 returns c =
-    let start = c .before .before .before .before .before .before .before .before .before .before .before .before .before .before .before .before in
-    search-stops _ _ (start .pre .0) _ _ (start .pre .1) (start .pre .2) _ _ _ _ (c .before .before .before .before .before .before .before .before .before .loop .inv) _ (c .before .before .before .before .before .before .lowest .ensures .0) _ _ (c .before .before .before .before .links-at .ensures) (c .before .before .before .chain-length .ensures .0) _ (c .before .before .step-at .ensures) (c .enum-told .given .1)
+    let s = c .before .before in
+    let w = s .before .before .before in
+    search-stops _ _ (start w .pre .0) _ _ (start w .pre .1) (start w .pre .2) _ _ _ _ (at-loop w .loop .inv) _ (w .before .lowest .ensures .0) _ _ (s .before .before .links-at .ensures) (s .before .chain-length .ensures .0) _ (s .step-at .ensures) (c .enum-told .given .1)
 
 enum-told-2 : tie.Need-enum-told-2 Inv-loop μ-loop
 enum-told-2 c = search needs
@@ -95,22 +110,23 @@ unite-requires-2 c κs = search needs
 
 loop-less : tie.Need-loop-less Inv-loop μ-loop
 loop-less c =
-    let start = c .before .before .before .before .before .before .before .before .before .before .before .before .before .before .before .before .before .before in
-    here-less _ _ (start .pre .0) _ _ (start .pre .1) (start .pre .2) _ _ _ _ (c .before .before .before .before .before .before .before .before .before .before .before .loop .inv) _ (c .before .before .before .before .before .before .before .before .lowest .ensures .0) _ _ (c .before .before .before .before .before .before .links-at .ensures) (c .before .before .before .before .before .chain-length .ensures .0) _ (c .before .before .before .before .step-at .ensures) _ (c .before .before .before .before .before .before .before .without .ensures) (c .before .before .enum-told2 .given .1)
+    let s = c .before .before .before .before in
+    let w = s .before .before .before in
+    here-less _ _ (start w .pre .0) _ _ (start w .pre .1) (start w .pre .2) _ _ _ _ (at-loop w .loop .inv) _ (w .before .lowest .ensures .0) _ _ (s .before .before .links-at .ensures) (s .before .chain-length .ensures .0) _ (s .step-at .ensures) _ (w .without .ensures) (c .before .before .enum-told2 .given .1)
 
 loop-again : tie.Need-loop-again Inv-loop μ-loop
 loop-again c =
-    let start = c .before .before .before .before .before .before .before .before .before .before .before .before .before .before .before .before .before .before in
-    here-again _ _ (start .pre .0) _ _ (start .pre .1) (start .pre .2) _ _ _ _ (c .before .before .before .before .before .before .before .before .before .before .before .loop .inv) _ (c .before .before .before .before .before .before .before .before .lowest .ensures .0) _ _ (c .before .before .before .before .before .before .links-at .ensures) (c .before .before .before .before .before .chain-length .ensures .0) _ (c .before .before .before .before .step-at .ensures) _ (c .before .before .before .before .before .before .before .without .ensures) (c .before .before .enum-told2 .given .1) _ _ (c .before .only2 .ensures) (c .unite2 .ensures)
+    let s = c .before .before .before .before in
+    let w = s .before .before .before in
+    here-again _ _ (start w .pre .0) _ _ (start w .pre .1) (start w .pre .2) _ _ _ _ (at-loop w .loop .inv) _ (w .before .lowest .ensures .0) _ _ (s .before .before .links-at .ensures) (s .before .chain-length .ensures .0) _ (s .step-at .ensures) _ (w .without .ensures) (c .before .before .enum-told2 .given .1) _ _ (c .before .only2 .ensures) (c .unite2 .ensures)
 
 enum-told-3 : tie.Need-enum-told-3 Inv-loop μ-loop
 enum-told-3 c = search needs
 
 roots-at-requires-2 : tie.Need-roots-at-requires-2 Inv-loop μ-loop
 roots-at-requires-2 c κs =
-    let start = c .before .before .before .before .before .before .before .before .before .before .before .before .before .before .before .before in
-    let at = in-reach _ _ (start .pre .0) _ _ (start .pre .1) (start .pre .2) _ _ _ _ (c .before .before .before .before .before .before .before .before .before .loop .inv) _ (c .before .before .before .before .before .before .lowest .ensures .0) in
-    omega (arith, start .pre .0 .0 .0, at .2)
+    let w = c .before .before .before .before .before in
+    omega (arith, start w .pre .0 .0 .0, reached w .1)
 
 less-requires-2 : tie.Need-less-requires-2 Inv-loop μ-loop
 less-requires-2 c κs = search needs
@@ -123,13 +139,15 @@ unite-requires-4 c κs = search needs
 
 loop-less-2 : tie.Need-loop-less-2 Inv-loop μ-loop
 loop-less-2 c =
-    let start = c .before .before .before .before .before .before .before .before .before .before .before .before .before .before .before .before .before .before .before .before in
-    through-less _ _ (start .pre .0) _ _ (start .pre .1) (start .pre .2) _ _ _ _ (c .before .before .before .before .before .before .before .before .before .before .before .before .before .loop .inv) _ (c .before .before .before .before .before .before .before .before .before .before .lowest .ensures .0) _ _ (c .before .before .before .before .before .before .before .before .links-at .ensures) (c .before .before .before .before .before .before .before .chain-length .ensures .0) _ (c .before .before .before .before .before .before .step-at .ensures) _ (c .before .before .before .before .before .before .before .before .before .without .ensures) (c .before .before .before .before .enum-told3 .given .1) _ _ _ _ (c .before .before .before .roots-at2 .ensures) (c .before .before .less2 .ensures) (c .before .unite3 .ensures) (c .unite4 .ensures)
+    let s = c .before .before .before .before .before .before in
+    let w = s .before .before .before in
+    through-less _ _ (start w .pre .0) _ _ (start w .pre .1) (start w .pre .2) _ _ _ _ (at-loop w .loop .inv) _ (w .before .lowest .ensures .0) _ _ (s .before .before .links-at .ensures) (s .before .chain-length .ensures .0) _ (s .step-at .ensures) _ (w .without .ensures) (c .before .before .before .before .enum-told3 .given .1) _ _ _ _ (c .before .before .before .roots-at2 .ensures) (c .before .before .less2 .ensures) (c .before .unite3 .ensures) (c .unite4 .ensures)
 
 loop-again-2 : tie.Need-loop-again-2 Inv-loop μ-loop
 loop-again-2 c =
-    let start = c .before .before .before .before .before .before .before .before .before .before .before .before .before .before .before .before .before .before .before .before in
-    through-again _ _ (start .pre .0) _ _ (start .pre .1) (start .pre .2) _ _ _ _ (c .before .before .before .before .before .before .before .before .before .before .before .before .before .loop .inv) _ (c .before .before .before .before .before .before .before .before .before .before .lowest .ensures .0) _ _ (c .before .before .before .before .before .before .before .before .links-at .ensures) (c .before .before .before .before .before .before .before .chain-length .ensures .0) _ (c .before .before .before .before .before .before .step-at .ensures) _ (c .before .before .before .before .before .before .before .before .before .without .ensures) (c .before .before .before .before .enum-told3 .given .1) _ _ _ _ (c .before .before .before .roots-at2 .ensures) (c .before .before .less2 .ensures) (c .before .unite3 .ensures) (c .unite4 .ensures)
+    let s = c .before .before .before .before .before .before in
+    let w = s .before .before .before in
+    through-again _ _ (start w .pre .0) _ _ (start w .pre .1) (start w .pre .2) _ _ _ _ (at-loop w .loop .inv) _ (w .before .lowest .ensures .0) _ _ (s .before .before .links-at .ensures) (s .before .chain-length .ensures .0) _ (s .step-at .ensures) _ (w .without .ensures) (c .before .before .before .before .enum-told3 .given .1) _ _ _ _ (c .before .before .before .roots-at2 .ensures) (c .before .before .less2 .ensures) (c .before .unite3 .ensures) (c .unite4 .ensures)
 
 returns-2 : tie.Need-returns-2 Inv-loop μ-loop
 returns-2 c =

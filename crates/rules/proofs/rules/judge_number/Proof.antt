@@ -1,11 +1,19 @@
 -- `rules::rules::judge_number` meets its contract. Assumes nothing.
+use Prim.Native.Nat.{ℕ}
 use borrow.Author.Needs.{needs}
 use Rattle.reader.specs.Result.{need, _>>=_}
 use Rattle.rules.specs.Rules.{judgeNumber}
 use Rattle.rules.specs.Table.{environmentOf, asPlace}
+use Rattle.rules.specs.Verdicts.{Read}
 use Rattle.rules.proofs.PlaceLaws.{read-at, number-refused}
 use Rattle.rules.proofs.rules.judge_number.Statement.{statement}
 use Rattle.rules.proofs.rules.judge_number.Tie as tie
+
+-- What is known of a readable place.
+read : (k : tie.After-known-told) →
+    let start = k .before .before .before .before .before in
+    (i : ℕ) → Read (start .args .variables) (environmentOf (start .args .env .now)) i (asPlace (start .args .place)) (k .before .readable .given .0 .0)
+read k i = read-at _ _ i _ (k .before .before .before .judge-readable .ensures i) (k .before .readable .given .1)
 
 judge-readable-requires : tie.Need-judge-readable-requires
 judge-readable-requires c κs = search needs
@@ -22,16 +30,10 @@ is-number-requires c κs = search needs
 returns : tie.Need-returns
 unfolding judgeNumber need _>>=_
 returns c =
-    let at-is-number = c .before in
-    let at-readable = at-is-number .before .before in
-    let at-judge-readable = at-readable .before .before in
-    let start = at-judge-readable .before .before in
-    let env = start .args .env .now in
-    let nv = start .args .variables in
-    let p = asPlace (start .args .place) in
+    let at-number = c .before in
     λ i.
-    let F = read-at nv (environmentOf env) i p (at-judge-readable .judge-readable .ensures i) (at-readable .readable .given .1) in
-    rw (F .is, F .named .after, ← at-is-number .is-number .ensures, c .if1 .taken)
+    let F = read (at-number .before) i in
+    rw (F .is, F .named .after, ← at-number .is-number .ensures, c .if1 .taken)
 
 returns-2 : tie.Need-returns-2
 returns-2 c =
@@ -43,16 +45,10 @@ returns-2 c =
 returns-3 : tie.Need-returns-3
 unfolding judgeNumber need _>>=_
 returns-3 c =
-    let at-is-number = c .before in
-    let at-readable = at-is-number .before .before in
-    let at-judge-readable = at-readable .before .before in
-    let start = at-judge-readable .before .before in
-    let env = start .args .env .now in
-    let nv = start .args .variables in
-    let p = asPlace (start .args .place) in
+    let at-number = c .before in
     λ i.
-    let F = read-at nv (environmentOf env) i p (at-judge-readable .judge-readable .ensures i) (at-readable .readable .given .1) in
-    rw (F .is, F .named .after, ← at-is-number .is-number .ensures, c .if1 .left)
+    let F = read (at-number .before) i in
+    rw (F .is, F .named .after, ← at-number .is-number .ensures, c .if1 .left)
 
 pub judge-number-spec : {M : Type 1} → statement M
 judge-number-spec = tie.close (tie.spec judge-readable-requires enum-told enum-known-readable is-number-requires returns returns-2 returns-3)

@@ -2,10 +2,11 @@
 use Prim.Native.Nat.{ℕ, _-_}
 use native.Mathlib.Omega.{arith}
 use native.Mathlib.Numerals.{add-one}
-use mathlib.Core.Path.{sym, _∙_}
+use mathlib.Core.Path.{_≡_, sym, _∙_}
 use borrow.Author.Needs.{needs}
 use Rattle.reader.proofs.RowTreeLaws.{has-level, has-room, block-rest}
 use Rattle.rules.specs.declared.verdicts.Verdict.the-variants as verdict
+use Rattle.rules.specs.Verdicts.{verdictOf}
 use Rattle.rules.proofs.NeatBlocks.{neat-enter}
 use Rattle.ownership.proofs.JudgeLaws.{told-ended}
 use Rattle.ownership.proofs.BlockTerm.{block-refused, block-fine, block-inside}
@@ -14,6 +15,22 @@ use Rattle.ownership.proofs.judge.judge_block.Reads as judge-block
 use Rattle.ownership.proofs.judge.+judge_block+judge_branches+judge_few_kept+judge_inmost+judge_many_kept+judge_term+judge_terms.Lts-judge_block as judge-block-lts
 use Rattle.ownership.proofs.judge.judge_terms.Reads as judge-terms
 use Rattle.ownership.proofs.judge.+judge_block+judge_branches+judge_few_kept+judge_inmost+judge_many_kept+judge_term+judge_terms.Proof.Cycle.{judge-block-at, judge-block-claims}
+
+-- Where its terms are judged.
+module _ (t : ℕ) (j : judge-block-lts.After-judge-terms (judge-block-claims t) (judge-block-at t) judge-block.Post) where
+  abbrev at-count : judge-block-lts.After-index-at (judge-block-claims t) (judge-block-at t) judge-block.Post
+  at-count = j .before .before .before .before
+
+  abbrev start : judge-block-lts.Start (judge-block-claims t) (judge-block-at t) judge-block.Post
+  start = at-count .before .before .before
+
+-- Where they are fine.
+module _ (t : ℕ) (k : judge-block-lts.After-known-told (judge-block-claims t) (judge-block-at t) judge-block.Post) where
+  abbrev at-terms : judge-block-lts.After-judge-terms (judge-block-claims t) (judge-block-at t) judge-block.Post
+  at-terms = k .before .before .before .before .before .before
+
+  fine : verdictOf (at-terms .judge-terms .result .told) ≡ verdict.Fine (k .before .verdict .given .0 .0)
+  fine = sym (k .before .before .before .verdict-of .ensures) ∙ k .before .verdict .given .1
 
 pub judge-block-index-at-requires : (t : ℕ) → judge-block-lts.Need-index-at-requires (judge-block-claims t) (judge-block-at t) judge-block.Post
 judge-block-index-at-requires t c κs =
@@ -64,45 +81,31 @@ judge-block-same-length t c =
 
 pub judge-block-returns : (t : ℕ) → judge-block-lts.Need-returns (judge-block-claims t) (judge-block-at t) judge-block.Post
 judge-block-returns t c =
-    let at-verdict-of = c .before .before in
-    let at-judge-terms = at-verdict-of .before .before .before in
-    let at-index-at = at-judge-terms .before .before .before .before in
-    let start = at-index-at .before .before .before in
-    let p = start .pre .1 in
-    let refused = sym (at-verdict-of .verdict-of .ensures) ∙ c .enum-told .given .1 in
-    (block-refused _ _ _ _ (p .0) _ _ (p .1) _ (at-index-at .index-at .ensures) _ _ _ (at-judge-terms .judge-terms .ensures .0) _ refused, at-judge-terms .judge-terms .ensures .1)
+    let j = c .before .before .before .before .before in
+    let p = start t j .pre .1 in
+    let refused = sym (c .before .before .verdict-of .ensures) ∙ c .enum-told .given .1 in
+    (block-refused _ _ _ _ (p .0) _ _ (p .1) _ (at-count t j .index-at .ensures) _ _ _ (j .judge-terms .ensures .0) _ refused, j .judge-terms .ensures .1)
 
 pub judge-block-judge-block-end-requires : (t : ℕ) → judge-block-lts.Need-judge-block-end-requires (judge-block-claims t) (judge-block-at t) judge-block.Post
 judge-block-judge-block-end-requires t c κs =
-    let at-verdict = c .before .before in
-    let at-verdict-of = at-verdict .before .before in
-    let at-judge-terms = at-verdict-of .before .before .before in
-    let at-in-scope = at-judge-terms .before .before in
-    let at-index-at = at-in-scope .before .before in
-    let start = at-index-at .before .before .before in
-    let p = start .pre .1 in
-    let fine = sym (at-verdict-of .verdict-of .ensures) ∙ at-verdict .verdict .given .1 in
-    let inside = block-inside _ _ _ _ (p .0) _ _ (p .1) _ (at-index-at .index-at .ensures) _ _ _ (at-judge-terms .judge-terms .ensures .0) _ fine (p .3) in
-    (at-judge-terms .judge-terms .ensures .1, rw (at-in-scope .in-scope .ensures) (scope-around _ _ _ _ (p .2) (p .3) _ inside))
+    let j = at-terms t (c .before) in
+    let p = start t j .pre .1 in
+    let inside = block-inside _ _ _ _ (p .0) _ _ (p .1) _ (at-count t j .index-at .ensures) _ _ _ (j .judge-terms .ensures .0) _ (fine t (c .before)) (p .3) in
+    (j .judge-terms .ensures .1, rw (j .before .before .in-scope .ensures) (scope-around _ _ _ _ (p .2) (p .3) _ inside))
 
 pub judge-block-judged-term-requires : (t : ℕ) → judge-block-lts.Need-judged-term-requires (judge-block-claims t) (judge-block-at t) judge-block.Post
 judge-block-judged-term-requires t c κs = search needs
 
 pub judge-block-same-length-2 : (t : ℕ) → judge-block-lts.Need-same-length-2 (judge-block-claims t) (judge-block-at t) judge-block.Post
 judge-block-same-length-2 t c =
-    let at-judge-block-end = c .before .before .before in
-    let at-judge-terms = at-judge-block-end .before .before .before .before .before .before .before .before in
-    at-judge-block-end .judge-block-end .kept .0 ∙ at-judge-terms .judge-terms .kept .1 .1 .1 .1 .0
+    let at-end = c .before .before .before in
+    at-end .judge-block-end .kept .0 ∙ at-terms t (at-end .before .before) .judge-terms .kept .1 .1 .1 .1 .0
 
 pub judge-block-returns-2 : (t : ℕ) → judge-block-lts.Need-returns-2 (judge-block-claims t) (judge-block-at t) judge-block.Post
 judge-block-returns-2 t c =
-    let at-judge-block-end = c .before .before .before in
-    let at-verdict = at-judge-block-end .before .before .before in
-    let at-verdict-of = at-verdict .before .before in
-    let at-judge-terms = at-verdict-of .before .before .before in
-    let at-index-at = at-judge-terms .before .before .before .before in
-    let start = at-index-at .before .before .before in
-    let p = start .pre .1 in
-    let fine = sym (at-verdict-of .verdict-of .ensures) ∙ at-verdict .verdict .given .1 in
-    let out = told-ended _ _ _ _ _ (c .judged-term .ensures) _ (at-judge-block-end .judge-block-end .ensures .0 _) in
-    (block-fine _ _ _ _ (p .0) _ _ (p .1) _ (at-index-at .index-at .ensures) _ _ _ (at-judge-terms .judge-terms .ensures .0) _ fine _ _ out, at-judge-block-end .judge-block-end .ensures .1)
+    let at-end = c .before .before .before in
+    let k = at-end .before .before in
+    let j = at-terms t k in
+    let p = start t j .pre .1 in
+    let out = told-ended _ _ _ _ _ (c .judged-term .ensures) _ (at-end .judge-block-end .ensures .0 _) in
+    (block-fine _ _ _ _ (p .0) _ _ (p .1) _ (at-count t j .index-at .ensures) _ _ _ (j .judge-terms .ensures .0) _ (fine t k) _ _ out, at-end .judge-block-end .ensures .1)

@@ -1,10 +1,16 @@
 -- What `judge_inmost` owes: a block, a choice once its place is judged, or a term with no inner term.
 use Prim.Native.Nat.{ℕ, _-_}
 use native.Mathlib.Omega.{arith}
-use mathlib.Core.Path.{sym, _∙_}
+use mathlib.Core.Path.{_≡_, sym, _∙_}
+use mathlib.Core.List.{List}
 use borrow.Author.Needs.{needs}
+use Rattle.reader.specs.RowParts.{fieldAt}
+use Rattle.reader.specs.RowTrees.{treeAt}
 use Rattle.reader.proofs.KindBytes.{not-wrapping}
 use Rattle.reader.proofs.RowTreeLaws.{has-room}
+use Rattle.rules.specs.Table.{environmentOf}
+use Rattle.ownership.specs.declared.judge.JudgedTerm.{JudgedTerm}
+use Rattle.ownership.specs.JudgeRows.{ended, judgeAt, branchesAt}
 use Rattle.ownership.proofs.JudgeLaws.{told-ended}
 use Rattle.ownership.proofs.BranchLaws.{choice-refused, choice-met}
 use Rattle.ownership.proofs.LeafLaws.{leaf-judged}
@@ -14,6 +20,24 @@ use Rattle.ownership.proofs.judge.judge_inmost.Reads as judge-inmost
 use Rattle.ownership.proofs.judge.+judge_block+judge_branches+judge_few_kept+judge_inmost+judge_many_kept+judge_term+judge_terms.Lts-judge_inmost as judge-inmost-lts
 use Rattle.ownership.proofs.judge.judge_many_kept.Reads as judge-many-kept
 use Rattle.ownership.proofs.judge.+judge_block+judge_branches+judge_few_kept+judge_inmost+judge_many_kept+judge_term+judge_terms.Proof.Cycle.{judge-inmost-at, judge-inmost-claims}
+
+-- Where the term is a choice.
+module _ (t : ℕ) (h : judge-inmost-lts.Then2 (judge-inmost-claims t) (judge-inmost-at t) judge-inmost.Post) where
+  abbrev start : judge-inmost-lts.Start (judge-inmost-claims t) (judge-inmost-at t) judge-inmost.Post
+  start = h .before .before .before .before .before .before
+
+  is-choice : fieldAt (start .args .rows .now) (start .args .i) 0 ≡ 12
+  is-choice = sym (h .before .before .before .field-at .ensures) ∙ h .if2 .taken
+
+-- Where its place is judged to be a number, the answer is that of its blocks.
+module _ (t : ℕ) (m : judge-inmost-lts.After-enum-told (judge-inmost-claims t) (judge-inmost-at t) judge-inmost.Post) where
+  abbrev chosen : judge-inmost-lts.Then2 (judge-inmost-claims t) (judge-inmost-at t) judge-inmost.Post
+  chosen = m .before .before .before .before
+
+  met : (env : List ℕ) (out : JudgedTerm)
+      → ended env out ≡ branchesAt (start t chosen .args .variables) (start t chosen .args .levels) (start t chosen .args .rows .now) (start t chosen .args .i) (start t chosen .args .level) (environmentOf (start t chosen .args .env .now))
+      → ended env out ≡ judgeAt (start t chosen .args .variables) (treeAt (start t chosen .args .variables) (start t chosen .args .levels) (start t chosen .args .rows .now) (start t chosen .args .i)) (start t chosen .args .level) (environmentOf (start t chosen .args .env .now))
+  met = choice-met _ _ _ _ (start t chosen .pre .1 .0) (is-choice t chosen) _ (chosen .before .place-at .ensures) _ _ _ (m .before .before .judge-number .ensures _) _ (m .enum-told .given .1)
 
 pub judge-inmost-field-at-requires : (t : ℕ) → judge-inmost-lts.Need-field-at-requires (judge-inmost-claims t) (judge-inmost-at t) judge-inmost.Post
 judge-inmost-field-at-requires t c κs = (has-room _ _ _ _ (c .before .before .pre .1 .0), omega arith)
@@ -55,74 +79,45 @@ pub judge-inmost-returns-2 : (t : ℕ) → judge-inmost-lts.Need-returns-2 (judg
 judge-inmost-returns-2 t c =
     let at-number = c .before .before in
     let at-judge-number = at-number .before .before in
-    let at-if2 = at-judge-number .before .before in
-    let at-place-at = at-if2 .before in
-    let at-field-at = at-place-at .before .before in
-    let start = at-field-at .before .before .before in
-    let p = start .pre .1 in
-    let k = sym (at-field-at .field-at .ensures) ∙ at-if2 .if2 .taken in
-    (choice-refused _ _ _ _ (p .0) k _ (at-place-at .place-at .ensures) _ _ _ (at-judge-number .judge-number .ensures _) _ (at-number .number .given .1) _ (c .refused .ensures) _, p .2)
+    let h = at-judge-number .before .before in
+    let p = start t h .pre .1 in
+    (choice-refused _ _ _ _ (p .0) (is-choice t h) _ (h .before .place-at .ensures) _ _ _ (at-judge-number .judge-number .ensures _) _ (at-number .number .given .1) _ (c .refused .ensures) _, p .2)
 
 pub judge-inmost-enum-told : (t : ℕ) → judge-inmost-lts.Need-enum-told (judge-inmost-claims t) (judge-inmost-at t) judge-inmost.Post
 judge-inmost-enum-told t c = search needs
 
 pub judge-inmost-numbers-taken-requires : (t : ℕ) → judge-inmost-lts.Need-numbers-taken-requires (judge-inmost-claims t) (judge-inmost-at t) judge-inmost.Post
-judge-inmost-numbers-taken-requires t c κs =
-    let start = c .before .before .before .before .before .before .before .before .before .before .before in
-    start .pre .1 .2
+judge-inmost-numbers-taken-requires t c κs = start t (chosen t (c .before)) .pre .1 .2
 
 pub judge-inmost-judge-few-kept-requires : (t : ℕ) → judge-inmost-lts.Need-judge-few-kept-requires (judge-inmost-claims t) (judge-inmost-at t) judge-inmost.Post
 judge-inmost-judge-few-kept-requires t c κs =
-    let at-if3 = c .before in
-    let at-numbers-taken = at-if3 .before in
-    let at-if2 = at-numbers-taken .before .before .before .before .before .before in
-    let at-field-at = at-if2 .before .before .before in
-    let start = at-field-at .before .before .before in
-    let p = start .pre .1 in
-    let k = sym (at-field-at .field-at .ensures) ∙ at-if2 .if2 .taken in
-    (omega (arith, start .pre .0), (p .0, k, p .2, p .3, p .4, at-numbers-taken .numbers-taken .ensures, at-if3 .if3 .taken))
+    let at-numbers-taken = c .before .before in
+    let h = chosen t (at-numbers-taken .before .before) in
+    let p = start t h .pre .1 in
+    (omega (arith, start t h .pre .0), (p .0, is-choice t h, p .2, p .3, p .4, at-numbers-taken .numbers-taken .ensures, c .before .if3 .taken))
 
 pub judge-inmost-same-length-3 : (t : ℕ) → judge-inmost-lts.Need-same-length-3 (judge-inmost-claims t) (judge-inmost-at t) judge-inmost.Post
 judge-inmost-same-length-3 t c = c .before .before .judge-few-kept .kept .1 .1 .1 .0
 
 pub judge-inmost-returns-3 : (t : ℕ) → judge-inmost-lts.Need-returns-3 (judge-inmost-claims t) (judge-inmost-at t) judge-inmost.Post
 judge-inmost-returns-3 t c =
-    let at-judge-few-kept = c .before .before in
-    let at-enum-told = at-judge-few-kept .before .before .before .before .before in
-    let at-judge-number = at-enum-told .before .before in
-    let at-if2 = at-judge-number .before .before in
-    let at-place-at = at-if2 .before in
-    let at-field-at = at-place-at .before .before in
-    let start = at-field-at .before .before .before in
-    let p = start .pre .1 in
-    let k = sym (at-field-at .field-at .ensures) ∙ at-if2 .if2 .taken in
-    (choice-met _ _ _ _ (p .0) k _ (at-place-at .place-at .ensures) _ _ _ (at-judge-number .judge-number .ensures _) _ (at-enum-told .enum-told .given .1) _ _ (at-judge-few-kept .judge-few-kept .ensures .0), at-judge-few-kept .judge-few-kept .ensures .1)
+    let kept = c .before .before in
+    (met t (kept .before .before .before .before .before) _ _ (kept .judge-few-kept .ensures .0), kept .judge-few-kept .ensures .1)
 
 pub judge-inmost-judge-many-kept-requires : (t : ℕ) → judge-inmost-lts.Need-judge-many-kept-requires (judge-inmost-claims t) (judge-inmost-at t) judge-inmost.Post
 judge-inmost-judge-many-kept-requires t c κs =
     let at-numbers-taken = c .before .before in
-    let at-if2 = at-numbers-taken .before .before .before .before .before .before in
-    let at-field-at = at-if2 .before .before .before in
-    let start = at-field-at .before .before .before in
-    let p = start .pre .1 in
-    let k = sym (at-field-at .field-at .ensures) ∙ at-if2 .if2 .taken in
-    (omega (arith, start .pre .0), (p .0, k, p .2, p .3, p .4, at-numbers-taken .numbers-taken .ensures))
+    let h = chosen t (at-numbers-taken .before .before) in
+    let p = start t h .pre .1 in
+    (omega (arith, start t h .pre .0), (p .0, is-choice t h, p .2, p .3, p .4, at-numbers-taken .numbers-taken .ensures))
 
 pub judge-inmost-same-length-4 : (t : ℕ) → judge-inmost-lts.Need-same-length-4 (judge-inmost-claims t) (judge-inmost-at t) judge-inmost.Post
 judge-inmost-same-length-4 t c = c .before .before .judge-many-kept .kept .1 .1 .1 .0
 
 pub judge-inmost-returns-4 : (t : ℕ) → judge-inmost-lts.Need-returns-4 (judge-inmost-claims t) (judge-inmost-at t) judge-inmost.Post
 judge-inmost-returns-4 t c =
-    let at-judge-many-kept = c .before .before in
-    let at-enum-told = at-judge-many-kept .before .before .before .before .before in
-    let at-judge-number = at-enum-told .before .before in
-    let at-if2 = at-judge-number .before .before in
-    let at-place-at = at-if2 .before in
-    let at-field-at = at-place-at .before .before in
-    let start = at-field-at .before .before .before in
-    let p = start .pre .1 in
-    let k = sym (at-field-at .field-at .ensures) ∙ at-if2 .if2 .taken in
-    (choice-met _ _ _ _ (p .0) k _ (at-place-at .place-at .ensures) _ _ _ (at-judge-number .judge-number .ensures _) _ (at-enum-told .enum-told .given .1) _ _ (at-judge-many-kept .judge-many-kept .ensures .0), at-judge-many-kept .judge-many-kept .ensures .1)
+    let kept = c .before .before in
+    (met t (kept .before .before .before .before .before) _ _ (kept .judge-many-kept .ensures .0), kept .judge-many-kept .ensures .1)
 
 pub judge-inmost-place-at-requires-2 : (t : ℕ) → judge-inmost-lts.Need-place-at-requires-2 (judge-inmost-claims t) (judge-inmost-at t) judge-inmost.Post
 judge-inmost-place-at-requires-2 t c κs =

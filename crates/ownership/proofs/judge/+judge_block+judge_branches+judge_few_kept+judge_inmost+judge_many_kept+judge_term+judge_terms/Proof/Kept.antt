@@ -19,14 +19,10 @@ judge-few-kept-judge-branches-requires t c κs =
     (omega (arith, start .pre .0), (p .0, p .1, p .2, p .3, p .4, p .5, omega (arith, p .6)))
 
 pub judge-few-kept-same-length : (t : ℕ) → judge-few-kept-lts.Need-same-length (judge-few-kept-claims t) (judge-few-kept-at t) judge-few-kept.Post
-judge-few-kept-same-length t c =
-    let at-judge-branches = c .before .before .before in
-    at-judge-branches .judge-branches .kept .1 .1 .1 .0
+judge-few-kept-same-length t c = c .before .before .before .judge-branches .kept .1 .1 .1 .0
 
 pub judge-few-kept-returns : (t : ℕ) → judge-few-kept-lts.Need-returns (judge-few-kept-claims t) (judge-few-kept-at t) judge-few-kept.Post
-judge-few-kept-returns t c =
-    let at-judge-branches = c .before .before .before in
-    at-judge-branches .judge-branches .ensures
+judge-few-kept-returns t c = c .before .before .before .judge-branches .ensures
 
 pub judge-many-kept-slice-aggregate-judge-branches : (t : ℕ) → judge-many-kept-lts.Need-slice-aggregate-judge-branches (judge-many-kept-claims t) (judge-many-kept-at t) judge-many-kept.Post
 judge-many-kept-slice-aggregate-judge-branches t c = refl
@@ -38,11 +34,7 @@ judge-many-kept-judge-branches-requires t c κs =
     (omega (arith, start .pre .0), (p .0, p .1, p .2, p .3, p .4, p .5, omega (arith, p .5, p .2 .1, p .2 .2 .most)))
 
 pub judge-many-kept-same-length : (t : ℕ) → judge-many-kept-lts.Need-same-length (judge-many-kept-claims t) (judge-many-kept-at t) judge-many-kept.Post
-judge-many-kept-same-length t c =
-    let at-judge-branches = c .before .before .before in
-    at-judge-branches .judge-branches .kept .1 .1 .1 .0
+judge-many-kept-same-length t c = c .before .before .before .judge-branches .kept .1 .1 .1 .0
 
 pub judge-many-kept-returns : (t : ℕ) → judge-many-kept-lts.Need-returns (judge-many-kept-claims t) (judge-many-kept-at t) judge-many-kept.Post
-judge-many-kept-returns t c =
-    let at-judge-branches = c .before .before .before in
-    at-judge-branches .judge-branches .ensures
+judge-many-kept-returns t c = c .before .before .before .judge-branches .ensures
