@@ -6,7 +6,7 @@ use mathlib.Core.Option.{Option, none, some}
 use mathlib.Core.List.{List, [], _∷_}
 use lib.ListN.{length, drop}
 use lib.Dec.{leb, eqb}
-use Rattle.reader.specs.Result.{Result, ok, err, pick, need, _>>=_}
+use Rattle.reader.specs.Result.{ok, err, pick, need, _>>=_}
 use Rattle.reader.specs.Script as script
 use Rattle.rules.specs.declared.roots.Roots.{Roots}
 use Rattle.rules.specs.declared.rules.Located.{Located}

@@ -8,7 +8,6 @@ ghost use Rattle.rules.specs.declared.verdicts.Value.the-variants as val
 ghost use Rattle.rules.specs.Places.{every};
 ghost use Rattle.rules.specs.Environment.{levelOf};
 ghost use Rattle.rules.specs.Rules.{judgeAssign};
-ghost use Rattle.rules.specs.Neat.{NeatValue};
 ghost use Rattle.rules.specs.Roots.{lengths, placesOf};
 ghost use Rattle.rules.specs.Masks.{has};
 ghost use Rattle.rules.specs.Table.{TableFor, environmentOf, longAt, WidenedAll, Written, asPlace};
@@ -143,7 +142,7 @@ fn assign_beyond(
 // Assign (LANGUAGE 3.25), after the right side: it has a value (41), the path of the place (31, 32, 33); then by where
 // the place leads.
 pub fn judge_assign(env: &mut [u64], variables: usize, place: Place, inner: Value) -> Told
-    requires { ⌜ NeatTable (now env) variables × ((level : ℕ) × NeatValue (environmentOf (now env)) level (asValue (now env) inner)) ⌝ }
+    requires { ⌜ NeatTable (now env) variables ⌝ }
     ensures { λ r. ⌜ ((i : ℕ) → answered (now (env .exit)) i r ≡ judgeAssign variables (environmentOf (now (env .entry))) i (asPlace place) (asValue (now (env .entry)) inner)) × TableFor (now (env .exit)) variables ⌝ }
 {
     let Value::Of(of) = inner else {

@@ -8,7 +8,7 @@ ghost use Rattle.rules.specs.Choice.{carried, earlier, joined};
 ghost use Rattle.rules.specs.Neat.{Neat};
 ghost use Rattle.rules.specs.Table.{TableFor, environmentOf, entryWord, noteAt, SameLinks, putAt};
 ghost use Rattle.rules.specs.Verdicts.{NeatTable, Joins};
-ghost use Rattle.rules.specs.Kept.{keptMovedFrom, keptRoots, KeepsAll, Stays, PutKept, Exchanged, RootsAdded};
+ghost use Rattle.rules.specs.Kept.{keptRoots, KeepsAll, Stays, PutKept, Exchanged, RootsAdded};
 use crate::notes::note_holder;
 use crate::refusals;
 use crate::roots::Roots;

@@ -3,7 +3,6 @@ ghost use mathlib.Core.Path.{_≡_};
 ghost use mathlib.Core.List.{List};
 ghost use Prim.Native.Nat.{ℕ, suc};
 ghost use lib.Dec.{leb};
-ghost use Rattle.reader.specs.Script.{Place};
 ghost use Rattle.rules.specs.Places.{every};
 ghost use Rattle.rules.specs.Environment.{places, isFree, levelOf, leave};
 ghost use Rattle.rules.specs.Roots.{placesOf};

@@ -1,7 +1,7 @@
 // What judging a term answers: the type of its value, if it has one (LANGUAGE 3.3, 3.4), or the refusal (3.17).
 ghost use mathlib.Core.Path.{_≡_};
-ghost use mathlib.Core.List.{List, _∷_};
-ghost use Prim.Native.Nat.{ℕ, _<_, _≤_, _-_};
+ghost use mathlib.Core.List.{_∷_};
+ghost use Prim.Native.Nat.{_<_, _≤_, _-_};
 ghost use Rattle.rules.specs.Rules.{numberTy};
 ghost use Rattle.rules.specs.Chains.{linkOf, chainOf};
 ghost use Rattle.rules.specs.Table.{endIn};

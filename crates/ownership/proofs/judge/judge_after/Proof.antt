@@ -67,7 +67,7 @@ judge-assign-requires c κs =
     let start = at-verdict-of .before .before .before in
     let fine = sym (at-verdict-of .verdict-of .ensures) ∙ at-verdict .verdict .given .1 in
     let ready = start .pre .2 in
-    ((start .pre .1, (_, ready .neat _ fine)), (_, ready .value _ fine))
+    (start .pre .1, (_, ready .neat _ fine))
 
 judged-term-requires-3 : tie.Need-judged-term-requires-3
 judged-term-requires-3 c κs = search needs

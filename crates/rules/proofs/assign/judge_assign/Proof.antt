@@ -20,7 +20,7 @@ refused-requires c κs = search needs
 
 returns : tie.Need-returns
 unfolding judgeAssign asValue valued _>>=_
-returns c = (λ i. told-refused _ _ (c .refused .ensures) _ i ∙ rw (c .before .enum-told .given .1), c .before .before .before .before .pre .0 .0)
+returns c = (λ i. told-refused _ _ (c .refused .ensures) _ i ∙ rw (c .before .enum-told .given .1), c .before .before .before .before .pre .0)
 
 judge-place-requires : tie.Need-judge-place-requires
 judge-place-requires c κs = search needs
@@ -39,7 +39,7 @@ assign-own-requires c κs =
     let at-located = c .before .before in
     let at-judge-place = at-located .before .before in
     let start = at-judge-place .before .before .before .before .before .before in
-    (start .pre .0, λ i. located-as _ _ _ _ _ _ (at-judge-place .judge-place .ensures i) (at-located .located2 .given .1))
+    (start .pre, λ i. located-as _ _ _ _ _ _ (at-judge-place .judge-place .ensures i) (at-located .located2 .given .1))
 
 enum-known-located-3 : tie.Need-enum-known-located-3
 enum-known-located-3 c = search needs
@@ -49,7 +49,7 @@ assign-beyond-requires c κs =
     let at-located = c .before .before in
     let at-judge-place = at-located .before .before in
     let start = at-judge-place .before .before .before .before .before .before in
-    (start .pre .0, λ i. located-as _ _ _ _ _ _ (at-judge-place .judge-place .ensures i) (at-located .located3 .given .1))
+    (start .pre, λ i. located-as _ _ _ _ _ _ (at-judge-place .judge-place .ensures i) (at-located .located3 .given .1))
 
 same-length : tie.Need-same-length
 same-length c = search needs
@@ -63,7 +63,7 @@ returns-2 c =
       λ i.
           let refused = located-as _ _ _ _ _ _ (at-judge-place .judge-place .ensures i) (at-located .located .given .1) in
           told-refused _ _ (c .refused2 .ensures) _ i ∙ rw (at-inner .inner .given .1, refused) refl,
-      at-inner .before .before .before .pre .0 .0,
+      at-inner .before .before .before .pre .0,
     )
 
 same-length-2 : tie.Need-same-length-2

@@ -1,5 +1,4 @@
 -- `rules::rules::judge_readable` meets its contract. Assumes nothing.
-use Prim.Native.Nat.{ℕ}
 use mathlib.Core.Path.{_≡_, sym, subst}
 use mathlib.Core.Bool.{true}
 use borrow.Author.Needs.{needs}
