@@ -43,7 +43,7 @@ examples =
     ∷ (on e9, "refused 37 at 5\n")
     ∷ (on nine, "refused 42 at 2\n")
     ∷ (on eight, "accepted 12 call 0 cells 8\n")
-    ∷ (on e11, "refused 40 at 8\n")
+    ∷ (on e11, "accepted 13 call 2 cells 0\n")
     ∷ (someReadings ++ bytesIn 2 sums, "accepted 6 call 385 cells 0\n")
     ∷ (on sums, "refused 13 at 15\n")
     ∷ (someReadings ++ bytesIn 2 lent, "accepted 14 call 1 cells 0\n")

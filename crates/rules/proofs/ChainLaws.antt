@@ -1,11 +1,13 @@
 -- A chain as a number: what the code's tests and divisions say of the chain.
 use Prim.Native.Nat.{ℕ, zero, suc, _+_, _*_, _-_, _/_, _%_, _<_, _≤_}
 use native.Mathlib.Omega.{arith}
+use native.Mathlib.Nat.{sub-zero}
 use native.Mathlib.Numerals.{sub-one}
 use native.Mathlib.Decide.{ℕ-discrete, decLt}
 use mathlib.Core.Path.{_≡_, refl, sym, ap, _∙_}
+use mathlib.Core.Logic.{_⊎_, inl, inr}
 use mathlib.Core.Bool.{true, false}
-use mathlib.Core.Option.{none, some}
+use mathlib.Core.Option.{Option, none, some}
 use mathlib.Core.List.{List, [], _∷_}
 use lib.Dec.{leb, ltb, eqb}
 use lib.ListN.{length, take, drop}
@@ -13,7 +15,7 @@ use borrow.Author.Tests.{eq-eqb, ne-eqb, lt-ltb, le-ltb, le-leb, lt-leb, leb-tru
 use Rattle.reader.specs.Result.{pick}
 use Rattle.rules.specs.declared.chains.Rest.{Rest}
 use Rattle.rules.specs.declared.chains.Rest.the-variants as rest
-use Rattle.rules.specs.Links.{Link, maxLinks, leadingBoxes, noShared, isNumber, copies}
+use Rattle.rules.specs.Links.{Link, shared, maxLinks, leadingBoxes, noShared, lastWith, lastShared, isNumber, copies}
 use Rattle.rules.specs.Chains.{linkOf, chainBy, chainOf, restOf, asRest, oneMoreFits}
 
 -- Any bound that is large enough gives the same chain.
@@ -139,6 +141,15 @@ pub without-none : (n : ℕ) → n ≤ 0 → chainOf 0 ≡ drop 1 (chainOf n)
 unfolding chainOf chainBy
 without-none n h = rw (chain-none n h)
 
+-- The links after some of them are a number too.
+pub rest-number : (k n : ℕ) → (m : ℕ) × (drop k (chainOf n) ≡ chainOf m)
+rest-number zero n = (n, refl)
+rest-number (suc k) n = go (rest-number k ((n - 1) / 3)) (decLt 0 n)
+  where
+    go : (m : ℕ) × (drop k (chainOf ((n - 1) / 3)) ≡ chainOf m) → Dec (0 < n) → (m : ℕ) × (drop (suc k) (chainOf n) ≡ chainOf m)
+    go r (yes h) = (r .0, ap (λ (ks : List Link). drop (suc k) ks) (chain-pos n h) ∙ r .1)
+    go r (no h) = (0, ap (λ (ks : List Link). drop (suc k) ks) (chain-none n (omega arith)) ∙ sym (chain-none 0 (omega arith)))
+
 pub rest-short : (n left : ℕ) → 0 < left → n ≡ 0 → restOf left (chainOf n) ≡ none
 unfolding restOf
 rest-short n left h e = rw (chain-none n (omega arith), lt-leb left 0 h)
@@ -212,3 +223,53 @@ pub shared-end : (left n : ℕ) → left ≤ 0 → noShared (take left (chainOf 
 unfolding noShared
 shared-end zero n h = refl
 shared-end (suc j) n h = absurd (omega arith)
+
+-- The last shared link, with n links passed: it is among those still to pass, or was passed before.
+pub lastOf : Option ℕ → ℕ → Option ℕ → Option ℕ
+lastOf before n none = before
+lastOf before n (some j) = some (n + j)
+
+-- No link is passed yet.
+pub last-start : (k rest : ℕ) → lastOf none 0 (lastShared (take (k - 0) (chainOf rest))) ≡ lastShared (take k (chainOf rest))
+unfolding lastOf
+last-start k rest = rw (sub-zero k) (go (lastShared (take k (chainOf rest))))
+  where
+    go : (m : Option ℕ) → lastOf none 0 m ≡ m
+    go none = refl
+    go (some j) = ap some (omega arith)
+
+-- No link is left, or none to pass.
+pub last-over : (before : Option ℕ) (n rest left : ℕ) → rest ≡ 0 → before ≡ lastOf before n (lastShared (take left (chainOf rest)))
+unfolding lastOf lastShared
+last-over before n rest zero e = refl
+last-over before n rest (suc j) e = rw (chain-none rest (omega arith))
+
+pub last-end : (before : Option ℕ) (n rest left : ℕ) → left ≤ 0 → before ≡ lastOf before n (lastShared (take left (chainOf rest)))
+unfolding lastOf lastShared
+last-end before n rest zero h = refl
+last-end before n rest (suc j) h = absurd (omega arith)
+
+-- One link more is passed.
+last-first : (before : Option ℕ) (n d : ℕ) (m : Option ℕ) → (d ≡ 1 → ⊥) → lastOf before (n + 1) m ≡ lastOf before n (lastWith (linkOf d) m)
+unfolding lastOf lastWith
+last-first before n d (some j) h = ap some (omega arith)
+last-first before n zero none h = refl
+last-first before n (suc zero) none h = absurd (h refl)
+last-first before n (suc (suc d)) none h = refl
+
+shared-last : (before : Option ℕ) (n : ℕ) (m : Option ℕ) → lastOf (some n) (n + 1) m ≡ lastOf before n (lastWith shared m)
+unfolding lastOf lastWith
+shared-last before n none = ap some (omega arith)
+shared-last before n (some j) = ap some (omega arith)
+
+module _ (before : Option ℕ) (n k rest r : ℕ) (h : n < k) (z : rest ≡ 0 → ⊥) (q : chainOf r ≡ drop 1 (chainOf rest)) where
+  one-less : k - n ≡ suc (k - (n + 1))
+  one-less = omega arith
+
+  -- The link that is passed is shared, or the last shared one is the same as before.
+  pub last-more : (last : Option ℕ) → ((rest % 3 ≡ 2) × (last ≡ some n)) ⊎ ((rest % 3 ≡ 2 → ⊥) × (last ≡ before))
+      → lastOf last (n + 1) (lastShared (take (k - (n + 1)) (chainOf r))) ≡ lastOf before n (lastShared (take (k - n) (chainOf rest)))
+  unfolding lastShared
+  last-more last (inl e) =
+      rw (one-less, q, chain-digit rest 2 (omega arith) (omega arith) (e .0) (omega arith), e .1) (shared-last before n (lastShared (take (k - (n + 1)) (chainOf ((rest - 1) / 3)))))
+  last-more last (inr e) = rw (one-less, q, chain-pos rest (omega arith), e .1) (last-first before n ((rest - 1) % 3) (lastShared (take (k - (n + 1)) (chainOf ((rest - 1) / 3)))) (λ w. e .0 (omega arith)))

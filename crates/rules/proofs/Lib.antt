@@ -59,6 +59,7 @@ pub mod EndRoots
 pub mod WriteLaws
 pub mod AssignLaws
 pub mod OwnLaws
+pub mod LentLaws
 pub mod RowLaws
 pub mod KeptLaws
 pub mod ChoiceLaws

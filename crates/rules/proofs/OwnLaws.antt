@@ -1,5 +1,5 @@
--- A place that leads to an own link of its root: only boxes are passed, so that following gives the place itself. What a copy of it borrows, and the
--- answer of an assign to it.
+-- A place that leads to an own link of its root: only boxes are passed, so that following gives the place itself. What is borrowed there, and
+-- the answer of an assign to it.
 use Prim.Native.Nat.{ℕ, zero, suc, _-_, _≤_}
 use native.Mathlib.Omega.{arith}
 use mathlib.Core.Path.{_≡_, refl, sym, ap, ap₂, fun-ext, _∙_, subst}
@@ -17,32 +17,30 @@ use Rattle.rules.specs.declared.follow.Ends.{Ends}
 use Rattle.rules.specs.declared.follow.Ends.the-variants as ends
 use Rattle.rules.specs.declared.verdicts.Value.the-variants as value
 use Rattle.rules.specs.declared.verdicts.ValueType.{ValueType}
-use Rattle.rules.specs.Links.{Link, boxed, shared, exclusive, leadingBoxes, noShared, copies}
+use Rattle.rules.specs.Links.{Link, boxed, shared, exclusive, leadingBoxes, noShared}
 use Rattle.rules.specs.Places.{member, unite, every, only}
-use Rattle.rules.specs.Environment.{Borrow, places, borrowEnd, Variable, Slot, live, Environment, update, refilled, write, levelOf, borrowOf, borrowsAt, livesAt}
+use Rattle.rules.specs.Environment.{Borrow, places, Variable, Slot, live, Environment, update, refilled, write, levelOf, borrowOf, borrowsAt, livesAt}
 use Rattle.rules.specs.Follow.{onward, meetAll, follow, ownLink, ownPath}
 use Rattle.rules.specs.Bars.{writeBarred}
-use Rattle.rules.specs.Rules as rules
-use Rattle.rules.specs.Rules.{inScope, reached, valued, judgePlace, judgeCopy, judgeAssign}
+use Rattle.rules.specs.Rules.{inScope, reached, valued, judgePlace, judgeAssign}
 use Rattle.rules.specs.Neat.{Ordered}
 use Rattle.rules.specs.Roots.{linksOf, lengths, placesOf, left}
 use Rattle.rules.specs.Chains.{chainOf}
 use Rattle.rules.specs.Masks.{has}
 use Rattle.rules.specs.Steps.{passesSlot, passes, Searched}
 use Rattle.rules.specs.Table.{linksAt, longAt, rootsAt, variableAt, placesIn, endIn, environmentOf}
-use Rattle.rules.specs.Verdicts.{NeatTable, Named, OwnFound, Read, typeOf, asValue}
+use Rattle.rules.specs.Verdicts.{NeatTable, Named, OwnFound, asValue}
 use Rattle.rules.proofs.EqualChains.{same-links}
 use Rattle.rules.proofs.SetLaws.{unite-out, unite-left}
-use Rattle.rules.proofs.SetOrder.{unite-ordered, end-ordered, end-again}
+use Rattle.rules.proofs.SetOrder.{unite-ordered, end-ordered}
 use Rattle.rules.proofs.SetEquality.{same-list}
-use Rattle.rules.proofs.NeatTerms.{readable-place}
 use Rattle.rules.proofs.RootSets.{from-ordered}
 use Rattle.rules.proofs.FollowRoots.{every-root}
 use Rattle.rules.proofs.FollowRoots as paths
 use Rattle.rules.proofs.NeatPaths.{own-link}
 use Rattle.rules.proofs.ValueLaws.{end-drop, end-recorded}
 use Rattle.rules.proofs.StepLaws.{passes-at}
-use Rattle.rules.proofs.PlaceLaws.{variable-is, named-live, named-inside, on-chain, copy-is}
+use Rattle.rules.proofs.PlaceLaws.{variable-is, named-live, named-inside, on-chain}
 use Rattle.rules.proofs.WriteLaws.{write-one}
 
 -- Nothing is followed, so the place is judged by its own path alone.
@@ -110,27 +108,15 @@ module _ (env : List ℕ) (nv : ℕ) (T : NeatTable env nv) (i : ℕ) (p : Place
     own-end : (s : Roots) → endIn env (chainOf (linksAt env (p .root))) s ≡ endIn env (chainOf rest) s
     own-end s = sym (end-drop env (p .follows) (chainOf (linksAt env (p .root))) s own-links) ∙ ap (λ (ks : List Link). endIn env ks s) (on-chain env nv T i p (F .named))
 
-    -- ---- copy (LANGUAGE 3.19): it borrows what the root does
+    -- What is borrowed there is what the root borrows.
 
-    own-borrows : borrowsAt (environmentOf env) (p ∷ []) ≡ places (endIn env (chainOf rest) (rootsAt env (p .root)))
+    pub own-borrows : borrowsAt (environmentOf env) (p ∷ []) ≡ places (endIn env (chainOf rest) (rootsAt env (p .root)))
     unfolding borrowsAt borrowOf placesOf
     own-borrows =
         let ks = chainOf (linksAt env (p .root)) in
         ap (λ (sl : Slot). unite (places (borrowOf sl)) []) (named-live env nv T i p (F .named) (p .root) refl)
         ∙ unite-none (places (endIn env ks (rootsAt env (p .root)))) (end-ordered ks (placesIn env ks (rootsAt env (p .root))) (from-ordered (has (rootsAt env (p .root))) (longAt env) (left ks) 0 128))
         ∙ ap places (own-end (rootsAt env (p .root)))
-
-    pub copy-own : Read nv (environmentOf env) i p rest → copies (chainOf rest) ≡ true → (x : ℕ) → x ≡ p .root → (r : Roots) → r ≡ rootsAt env x
-        → judgeCopy nv (environmentOf env) i p ≡ ok (environmentOf env, some (typeOf (chainOf rest) (endIn env (chainOf rest) r)))
-    copy-own R copied x at r e =
-        let there = readable-place nv (environmentOf env) i p (paths.located (R .named .variable) (R .to)) (R .is) in
-        let same : paths.located (R .named .variable) (R .to) ≡ paths.located (F .named .variable) (p ∷ []) = (let z = sym there ∙ F .is in cc) in
-        let recorded : r ≡ rootsAt env (p .root) = e ∙ ap (rootsAt env) at in
-        copy-is env nv T i p R copied
-        ∙ ap (λ (b : Borrow). ok (environmentOf env, some (typeOf (chainOf rest) b)))
-        (ap (borrowEnd (chainOf rest)) (ap (λ (l : rules.Located). borrowsAt (environmentOf env) (l .to)) same ∙ own-borrows)
-        ∙ sym (end-again (chainOf rest) (placesIn env (chainOf rest) (rootsAt env (p .root))))
-        ∙ ap (endIn env (chainOf rest)) (sym recorded))
 
     -- ---- assign (LANGUAGE 3.25): the tests, one after the other
 

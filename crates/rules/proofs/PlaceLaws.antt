@@ -3,7 +3,7 @@ use Prim.Native.Nat.{ℕ, suc, _-_, _≤_, _<_}
 use native.Mathlib.Omega.{arith}
 use mathlib.Core.Path.{_≡_, refl, sym, ap, ap₂, _∙_, subst}
 use mathlib.Core.Bool.{Bool, true, false, false≢true, not}
-use mathlib.Core.Option.{some}
+use mathlib.Core.Option.{none, some}
 use mathlib.Core.List.{List, [], _∷_}
 use lib.ListN.{length, take, drop, length-drop}
 use lib.Dec.{leb, eqb}
@@ -16,28 +16,26 @@ use Rattle.rules.specs.declared.follow.Ends.the-variants as ends
 use Rattle.rules.specs.declared.rules.Readable.{Readable}
 use Rattle.rules.specs.declared.rules.Readable.the-variants as readable
 use Rattle.rules.specs.declared.verdicts.Told as verdicts
-use Rattle.rules.specs.Links.{Link, shared, exclusive, maxLinks, leadingBoxes, noShared, isNumber, copies}
+use Rattle.rules.specs.Links.{Link, shared, exclusive, maxLinks, leadingBoxes, noShared, lastShared, isNumber, copies}
 use Rattle.rules.specs.Places.{every}
 use Rattle.rules.specs.Environment.{Borrow, sharedOf, exclusiveOf, borrowEnd, Variable, Slot, free, used, live, Environment, Ty, borrowsAt}
 use Rattle.rules.specs.Follow.{ownLink, valueWhole}
 use Rattle.rules.specs.Bars.{readBarred, writeBarred}
 use Rattle.rules.specs.Rules as rules
-use Rattle.rules.specs.Rules.{Judged, numberTy, inScope, judgePlace, judgeReadable, judgeCopy, judgeMove, judgeShared, judgeExclusive, judgeNumber}
+use Rattle.rules.specs.Rules.{Judged, numberTy, inScope, judgePlace, judgeReadable, judgeCopy, judgeMove, judgeRecorded, judgeShared, judgeExclusive, judgeNumber}
 use Rattle.rules.specs.Neat.{place, SameSet}
 use Rattle.rules.specs.Roots.{linksOf, lengths, placesOf, MetFrom, endsOf}
 use Rattle.rules.specs.Masks.{has}
 use Rattle.rules.specs.Chains.{chainOf}
-use Rattle.rules.specs.Steps.{passesSlot, passes, Searched, BorrowedAt}
+use Rattle.rules.specs.Steps.{passesSlot, passes, Searched}
 use Rattle.rules.specs.Table.{entryWord, linksAt, longAt, variableAt, endIn, environmentOf}
 use Rattle.rules.specs.Verdicts.{NeatTable, PlaceFound, Named, NamedIs, Read, ReadableIs, NumberIs, typeOf, answered, Answers, atMost8}
-use Rattle.rules.proofs.NeatPaths.{Lies, led}
-use Rattle.rules.proofs.NeatTerms.{readable-place}
 use Rattle.rules.proofs.RootLaws.{same-roots}
 use Rattle.rules.proofs.RootSets.{one-place}
 use Rattle.rules.proofs.FollowRoots as paths
 use Rattle.rules.proofs.WholePath.{whole-path, not-whole}
 use Rattle.rules.proofs.EntryLaws.{status-live, live-status, live-inside}
-use Rattle.rules.proofs.ValueLaws.{number-type, copied-borrow, borrows-there}
+use Rattle.rules.proofs.ValueLaws.{number-type}
 
 -- ---- the answer, by its case
 
@@ -198,7 +196,7 @@ module _ (env : List ℕ) (nv : ℕ) (T : NeatTable env nv) (i : ℕ) (p : Place
 
       pub readable-moved : w ≡ false → judgeReadable nv (environmentOf env) i p ≡ err (33, i)
       unfolding judgeReadable
-      readable-moved h = moved h (λ l. need (not (readBarred nv (environmentOf env) (p .root))) (34, i) >>= λ _. ok l)
+      readable-moved h = moved h _
 
       module _ (yes-whole : w ≡ true) (b : Bool) (barred : b ≡ readBarred nv (environmentOf env) x) where
         barred-is : (d : Bool) → b ≡ d → readBarred nv (environmentOf env) (p .root) ≡ d
@@ -250,13 +248,14 @@ module _ (env : List ℕ) (nv : ℕ) (T : NeatTable env nv) (i : ℕ) (p : Place
   -- ---- a readable place
 
   module _ (R : Read nv (environmentOf env) i p rest) where
-    -- Shared borrow (LANGUAGE 3.21).
-    pub shared-there : (x : ℕ) → x ≡ p .root → (r : Roots) → ((y : ℕ) → has r y ≡ eqb x y) → (v : verdicts.Told)
+    -- Shared borrow (LANGUAGE 3.21), of a place that passes no shared link.
+    pub shared-there : (x : ℕ) → x ≡ p .root → lastShared (take (p .follows) (chainOf (linksAt env x))) ≡ none → (r : Roots) → ((y : ℕ) → has r y ≡ eqb x y) → (v : verdicts.Told)
         → Answers v (atMost8 (λ e. typeOf (shared ∷ chainOf rest) (endIn e (shared ∷ chainOf rest) r))) → answered env i v ≡ judgeShared nv (environmentOf env) i p
-    unfolding judgeShared need _>>=_ borrowEnd leadingBoxes
-    shared-there x at r o v a =
+    unfolding judgeShared judgeRecorded need _>>=_ borrowEnd leadingBoxes
+    shared-there x at none-passed r o v a =
         let end : sharedOf (placesOf 128 (has r) (longAt env) (length (chainOf rest))) ≡ sharedOf (p ∷ []) = ap sharedOf (borrowed (R .named) x at r o) in
-        rw (R .is, R .named .after)
+        let passed : lastShared (take (p .follows) (R .named .variable .chain)) ≡ none = ap (λ (u : Variable). lastShared (take (p .follows) (u .chain))) (variable-is (R .named) ∙ ap (variableAt env) (sym at)) ∙ none-passed in
+        rw (R .is, passed, R .named .after)
         (a env i ∙ ap (λ (k : Borrow). need (leb (suc (length (chainOf rest))) maxLinks) (42, i) >>= λ _. ok (environmentOf env, some (typeOf (shared ∷ chainOf rest) k))) end)
 
     -- Copy (LANGUAGE 3.19).
@@ -271,28 +270,3 @@ module _ (env : List ℕ) (nv : ℕ) (T : NeatTable env nv) (i : ℕ) (p : Place
 
       pub copy-number : isNumber (chainOf rest) ≡ true → judgeCopy nv (environmentOf env) i p ≡ ok (environmentOf env, some numberTy)
       copy-number h = copy-is ∙ ap (λ (t : Ty). ok (environmentOf env, some t)) (number-type (chainOf rest) (borrowsAt (environmentOf env) (R .to)) h)
-
-      module _ (x : ℕ) (at : x ≡ p .root) (f : ℕ) (follows : f ≡ p .follows) (e : Ends) (S : Searched nv (environmentOf env) x (longAt env x - f) false e) where
-        -- Such a search finds nothing moved away, since the value is whole; the rule would refuse it likewise.
-        pub copy-moved : e ≡ ends.MovedAway → judgeCopy nv (environmentOf env) i p ≡ err (33, i)
-        unfolding judgeCopy judgeReadable _>>=_
-        copy-moved h = rw (place-moved (R .named) x at f follows e S h)
-
-        module _ (s : Roots) (found : e ≡ ends.At s) where
-          there : PlaceFound nv (environmentOf env) p (linksAt env x) rest s (judgePlace nv (environmentOf env) i p)
-          there = place-there (R .named) x at f follows e S s found (linksAt env x) refl
-
-          pub ends-low : (y : ℕ) → has s y ≡ true → y < nv
-          ends-low = there .low
-
-          pub copy-borrow : isNumber (chainOf rest) ≡ false → (r : Roots) → BorrowedAt env s r
-              → judgeCopy nv (environmentOf env) i p ≡ ok (environmentOf env, some (typeOf (chainOf rest) (endIn env (chainOf rest) r)))
-          copy-borrow h r B =
-              let l = paths.located (R .named .variable) (R .to) in
-              let placed = readable-place nv (environmentOf env) i p l (R .is) in
-              let same : there .located ≡ l = (let z = sym (there .is) ∙ placed in cc) in
-              let L = led (T .1 .1) i p l placed in
-              let to : SameSet (R .to) (placesOf nv (has s) (lengths (environmentOf env)) (length (chainOf rest))) =
-              subst (λ (k : rules.Located). SameSet (k .to) (placesOf nv (has s) (lengths (environmentOf env)) (length (chainOf rest)))) same (there .to) in
-              let all = borrows-there env nv (chainOf rest) (R .to) s r (λ q k. let z = L .ends q k in (subst (λ (ks : List Link). Lies (environmentOf env) ks q) (R .named .after) (z .0), z .1)) to ends-low B (copied-borrow (chainOf rest) copied h) in
-              copy-is ∙ ap (λ (ps : List Place). ok (environmentOf env, some (typeOf (chainOf rest) (borrowEnd (chainOf rest) ps)))) all

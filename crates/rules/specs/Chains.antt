@@ -9,6 +9,8 @@ use lib.Dec.{leb}
 use Rattle.reader.specs.Result.{pick}
 use Rattle.rules.specs.declared.chains.Rest.{Rest}
 use Rattle.rules.specs.declared.chains.Rest.the-variants as rest
+use Rattle.rules.specs.declared.chains.SharedPassed.{SharedPassed}
+use Rattle.rules.specs.declared.chains.SharedPassed.the-variants as shared-passed
 use Rattle.rules.specs.Links.{Link, boxed, shared, exclusive, maxLinks}
 
 -- The link of a digit less one.
@@ -33,6 +35,11 @@ restOf k ks = pick (leb k (length ks)) (some (drop k ks)) none
 unfoldable pub asRest : Rest → Option (List Link)
 asRest (rest.Links n) = some (chainOf n)
 asRest rest.TooShort = none
+
+-- How many links come before the last shared one that is passed.
+unfoldable pub asPassed : SharedPassed → Option ℕ
+asPassed (shared-passed.After n) = some n
+asPassed shared-passed.None = none
 
 -- The first borrow link is exclusive.
 unfoldable pub isExclusive : List Link → Bool

@@ -1,6 +1,8 @@
 -- The definitions tried on scripts that likely errors would misjudge: an assign's place judged before its right side, lifetimes compared with the
 -- variable named and not with the one finally written, a borrow held on after it is overwritten (LANGUAGE 3.25, 3.26); and of a choice (3.31) a path judged at the named place only, a write that may land in
--- either of two taken for one that does, the state of one branch alone kept, the numbers of the first branch free again.
+-- either of two taken for one that does, the state of one branch alone kept, the numbers of the first branch free again; and of a shared borrow (3.21) the first shared link
+-- that is passed taken for the last, the follows that remain forgotten, one of several places recorded, the place recorded to which the borrowed one leads in the end,
+-- exclusive links, or exclusive borrows, treated likewise, 34 judged of the recorded root and not of the named one.
 use Prim.Native.Nat.{ℕ}
 use mathlib.Core.Path.{_≡_, refl}
 use Rattle.reader.specs.Result.{ok, err, need, _>>=_}
@@ -63,22 +65,66 @@ second-moves =
 abbrev taking : Term
 taking = after-reading (last (choice 3 (v 0 0) 4 (more (declare 5 1 (number 6 1)) (last (number 7 0))) 8 (more (declare 9 1 (number 10 2)) (last (number 11 0)))))
 
--- With four variables; under every larger set it is the same (LANGUAGE 7.7).
+-- `let v0=1; ..`
+abbrev after-one : Terms → Term
+after-one ts = block 0 (more (declare 1 0 (number 2 1)) ts)
+
+-- `let v1=&v0; v1={let v2=&v0; let v3=&v2; &**v3}; copy *v1`: of the two shared links that are passed the second borrows v0, the first v2.
+abbrev last-link : Term
+last-link =
+    after-one (more (declare 3 1 (borrowShared 4 (v 0 0)))
+    (more (assign 5 (v 1 0) (block 6 (more (declare 7 2 (borrowShared 8 (v 0 0))) (more (declare 9 3 (borrowShared 10 (v 2 0))) (last (borrowShared 11 (v 3 2)))))))
+    (last (copy 12 (v 1 1)))))
+
+-- `{let v1=&v0; let v2=&mut v1; let v3=&v2; let v4=&**v3; copy *v4}; 0`: v4 borrows `*v2`, so that the copy borrows v0; without the follow v1 (40).
+abbrev remaining : Term
+remaining =
+    after-one (more (block 3 (more (declare 4 1 (borrowShared 5 (v 0 0))) (more (declare 6 2 (borrowExclusive 7 (v 1 0))) (more (declare 8 3 (borrowShared 9 (v 2 0)))
+    (more (declare 10 4 (borrowShared 11 (v 3 2))) (last (copy 12 (v 4 1))))))))
+    (last (number 13 0)))
+
+-- `{let v1=&mut v0; &*v1}; 0`: the link that is passed is exclusive, so that v1 is recorded and not v0; and the same with `&mut *v1`.
+abbrev through-exclusive : (ℕ → Place → Term) → Term
+through-exclusive borrow = after-one (more (block 3 (more (declare 4 1 (borrowExclusive 5 (v 0 0))) (last (borrow 6 (v 1 1))))) (last (number 7 0)))
+
+-- `{let v1=&mut v0; let v2=&v1; &**v2}; 0`: the last shared link borrows v1, so that `*v1` is recorded, and not v0, to which it leads.
+abbrev beyond-shared : Term
+beyond-shared = after-one (more (block 3 (more (declare 4 1 (borrowExclusive 5 (v 0 0))) (more (declare 6 2 (borrowShared 7 (v 1 0))) (last (borrowShared 8 (v 2 2)))))) (last (number 9 0)))
+
+-- `let v0=reading 0; let v1=1; let v2=2; let v3=choice v0 {&v1} {&v2}; let v4=&*v3; move v3; v2=7; 0`: v4 borrows v1 and v2.
+abbrev every-place : Term
+every-place =
+    after-reading (more (declare 3 1 (number 4 1)) (more (declare 5 2 (number 6 2))
+    (more (declare 7 3 (choice 8 (v 0 0) 9 (last (borrowShared 10 (v 1 0))) 11 (last (borrowShared 12 (v 2 0)))))
+    (more (declare 13 4 (borrowShared 14 (v 3 1))) (more (move 15 (v 3 0)) (more (assign 16 (v 2 0) (number 17 7)) (last (number 18 0))))))))
+
+-- `let v1=&v0; let v2=&mut v1; &*v1; 0`: v2 holds the named root v1 exclusively; nobody holds v0 so, which would be recorded.
+abbrev named-barred : Term
+named-barred = after-one (more (declare 3 1 (borrowShared 4 (v 0 0))) (more (declare 5 2 (borrowExclusive 6 (v 1 0))) (more (borrowShared 7 (v 1 1)) (last (number 8 0)))))
+
+-- With five variables; under every larger set it is the same (LANGUAGE 7.7).
 pub scripts-judged :
-    (judgeScript 4 moving ≡ err (33, 4))
-    × (judgeScript 4 outliving ≡ err (40, 10))
-    × (judgeScript 4 overwriting ≡ ok tt)
-    × (judgeScript 4 reaching ≡ err (33, 19))
-    × (judgeScript 4 landing ≡ err (33, 22))
-    × (judgeScript 4 second-moves ≡ err (33, 12))
-    × (judgeScript 4 taking ≡ err (30, 9))
+    (judgeScript 5 moving ≡ err (33, 4))
+    × (judgeScript 5 outliving ≡ err (40, 10))
+    × (judgeScript 5 overwriting ≡ ok tt)
+    × (judgeScript 5 reaching ≡ err (33, 19))
+    × (judgeScript 5 landing ≡ err (33, 22))
+    × (judgeScript 5 second-moves ≡ err (33, 12))
+    × (judgeScript 5 taking ≡ err (30, 9))
+    × (judgeScript 5 last-link ≡ ok tt)
+    × (judgeScript 5 remaining ≡ ok tt)
+    × (judgeScript 5 (through-exclusive borrowShared) ≡ err (40, 3))
+    × (judgeScript 5 (through-exclusive borrowExclusive) ≡ err (40, 3))
+    × (judgeScript 5 beyond-shared ≡ err (40, 3))
+    × (judgeScript 5 every-place ≡ err (35, 16))
+    × (judgeScript 5 named-barred ≡ err (34, 7))
 unfolding
     judgeScript judge need _>>=_
-    Links.leadingBoxes Links.maxLinks Links.noShared Links.isNumber Links.copies Links.sameLink Links.sameLinks
+    Links.leadingBoxes Links.maxLinks Links.noShared Links.lastWith Links.lastShared Links.isNumber Links.copies Links.sameLink Links.sameLinks
     Places.samePlace Places.before Places.member Places.insert Places.unite Places.every Places.someOf Places.only Places.rooted
     Environment.borrowEnd Environment.update Environment.write Environment.isFree Environment.levelOf Environment.borrowOf Environment.borrowsAt Environment.livesAt Environment.leaveSlot Environment.leave Environment.holding
     Follow.past Follow.onward Follow.onMet Follow.meetAll Follow.follow Follow.ownLink Follow.ownPath Follow.wholeSlot Follow.wholeThere Follow.valueWhole
     Bars.borrowsAny Bars.borrowsExclusive Bars.heldBy Bars.held
     Choice.carried Choice.earlier Choice.joined Choice.agreeing
-    Rules.inScope Rules.reached Rules.valued Rules.judgePlace Rules.judgeReadable Rules.judgeCopy Rules.judgeMove Rules.judgeShared Rules.judgeExclusive Rules.judgeBox Rules.judgeLet Rules.judgeAssign Rules.judgeNumber Rules.judgeBlockEnd Rules.judgeChoice
-scripts-judged = (refl, refl, refl, refl, refl, refl, refl)
+    Rules.inScope Rules.reached Rules.valued Rules.judgePlace Rules.judgeReadable Rules.judgeCopy Rules.judgeMove Rules.judgeRecorded Rules.judgeShared Rules.judgeExclusive Rules.judgeBox Rules.judgeLet Rules.judgeAssign Rules.judgeNumber Rules.judgeBlockEnd Rules.judgeChoice
+scripts-judged = (refl, refl, refl, refl, refl, refl, refl, refl, refl, refl, refl, refl, refl, refl)

@@ -1,5 +1,5 @@
 -- One definition per ownership rule (LANGUAGE 3.16 to 3.28, 3.31), its tests in the rule's order (3.17). nv is the number of variables, i the term.
-use Prim.Native.Nat.{ℕ, suc}
+use Prim.Native.Nat.{ℕ, suc, _-_}
 use mathlib.Core.Bool.{not}
 use mathlib.Core.Option.{Option, none, some}
 use mathlib.Core.List.{List, [], _∷_}
@@ -7,10 +7,10 @@ use lib.ListN.{length, take, drop}
 use lib.Dec.{leb}
 use Rattle.reader.specs.Result.{Result, ok, err, Refusal, need, _>>=_}
 use Rattle.reader.specs.Script.{Place}
-use Rattle.rules.specs.Links.{boxed, shared, exclusive, maxLinks, leadingBoxes, noShared, isNumber, copies, sameLinks}
+use Rattle.rules.specs.Links.{boxed, shared, exclusive, maxLinks, leadingBoxes, noShared, lastShared, isNumber, copies, sameLinks}
 use Rattle.rules.specs.Places.{every, only}
 use Rattle.rules.specs.Environment.{Borrow, noBorrow, sharedOf, exclusiveOf, borrowEnd, Variable, Slot, free, used, live, Environment, Ty, update, fresh, movedAway, write, levelOf, borrowsAt, livesAt, leave}
-use Rattle.rules.specs.Follow.{Met, follow, ownLink, ownPath, valueWhole}
+use Rattle.rules.specs.Follow.{past, Met, follow, ownLink, ownPath, valueWhole}
 use Rattle.rules.specs.Bars.{readBarred, writeBarred}
 use Rattle.rules.specs.Choice.{agreeing, either, joined}
 
@@ -85,13 +85,23 @@ module _ (nv : ℕ) where
       need (not (writeBarred nv Γ (p .root))) (35, i) >>= λ _.
       ok (update Γ (p .root) (live (movedAway v (p .follows))), some (record { links = drop (p .follows) (v .chain); borrow = v .borrow }))
 
-  -- Shared borrow (LANGUAGE 3.21): the place is readable, then a shared link more makes at most 8 (42).
+  -- What a shared borrow of the place records (LANGUAGE 3.21): the place itself, or, where it passes shared links, all places that the last of them
+  -- borrows, with the follows that remain. The last argument says how many follows lead to that link, if there is one. The place up to there is
+  -- judged like any other, which refuses nothing: the named place, judged before, goes on from it.
+  unfoldable pub judgeRecorded : Environment → ℕ → Place → Option ℕ → Judged (List Place)
+  judgeRecorded Γ i p none = ok (p ∷ [])
+  judgeRecorded Γ i p (some j) =
+      judgePlace Γ i (record { root = p .root; follows = j }) >>= λ l.
+      ok (past (borrowsAt Γ (l .to)) (p .follows - suc j))
+
+  -- Shared borrow (LANGUAGE 3.21): the place is readable, then a shared link more makes at most 8 (42); then what it records.
   unfoldable pub judgeShared : Environment → ℕ → Place → Judged Out
   judgeShared Γ i p =
       judgeReadable Γ i p >>= λ l.
       let ks = shared ∷ drop (p .follows) (l .root .chain) in
       need (leb (length ks) maxLinks) (42, i) >>= λ _.
-      ok (Γ, some (record { links = ks; borrow = sharedOf (p ∷ []) }))
+      judgeRecorded Γ i p (lastShared (take (p .follows) (l .root .chain))) >>= λ ps.
+      ok (Γ, some (record { links = ks; borrow = sharedOf ps }))
 
   -- Exclusive borrow (LANGUAGE 3.22): the place, its value whole (33), no shared link passed (36), writing not barred (35), at most 8 links (42).
   unfoldable pub judgeExclusive : Environment → ℕ → Place → Judged Out

@@ -21,16 +21,17 @@ use Rattle.rules.specs.declared.verdicts.Value.the-variants as value
 use Rattle.rules.specs.declared.verdicts.Verdict.{Verdict}
 use Rattle.rules.specs.declared.verdicts.Verdict.the-variants as verdict
 use Rattle.rules.specs.Links.{Link, leadingBoxes, maxLinks}
-use Rattle.rules.specs.Environment.{Borrow, places, Variable, used, live, Environment, Ty, update, isFree}
+use Rattle.rules.specs.Environment.{Borrow, places, Variable, used, live, Environment, Ty, update, isFree, borrowsAt}
 use Rattle.rules.specs.Rules as rules
 use Rattle.rules.specs.Rules.{Judged, Out, judgeBox}
 use Rattle.rules.specs.Judge.{isAnswer}
 use Rattle.rules.specs.Choice.{agreeing, either}
-use Rattle.rules.specs.Neat.{SameSet, Neat}
+use Rattle.rules.specs.Follow.{valueWhole}
+use Rattle.rules.specs.Neat.{place, SameSet, Neat}
 use Rattle.rules.specs.Roots.{lengths, placesOf}
 use Rattle.rules.specs.Chains.{chainOf}
 use Rattle.rules.specs.Masks.{has}
-use Rattle.rules.specs.Table.{TableFor, environmentOf, longAt, endIn}
+use Rattle.rules.specs.Table.{TableFor, environmentOf, linksAt, longAt, variableAt, placesIn, endIn}
 
 abbrev pub typeOf : List Link → Borrow → Ty
 typeOf ks b = record { links = ks; borrow = b }
@@ -108,6 +109,19 @@ pub record Read (nv : ℕ) (Γ : Environment) (i : ℕ) (p : script.Place) (rest
 abbrev pub ReadableIs : (nv : ℕ) → Environment → ℕ → script.Place → Readable → Type 0
 ReadableIs nv Γ i p (readable.Rest rest) = Read nv Γ i p rest
 ReadableIs nv Γ i p (readable.Refused n) = rules.judgeReadable nv Γ i p ≡ err (n, i)
+
+-- After so many follows from x, whose value is whole, comes a borrow link, or boxes and then one.
+pub record WholeBorrow (env : List ℕ) (nv x follows : ℕ) : Type 0 where
+  pub is : environmentOf env x ≡ live (variableAt env x)
+  pub whole : valueWhole nv (environmentOf env) x (variableAt env x) ≡ true
+  pub long : follows ≤ longAt env x
+  pub borrow : leadingBoxes (drop follows (chainOf (linksAt env x))) < length (drop follows (chainOf (linksAt env x)))
+
+-- The place with so many follows from x is judged at the term i without a refusal, and what is borrowed where it may lead has these roots.
+pub record LentAt (nv : ℕ) (env : List ℕ) (i x follows : ℕ) (s : Roots) : Type 0 where
+  pub to : List script.Place
+  pub is : rules.judgePlace nv (environmentOf env) i (place x follows) ≡ ok (record { root = variableAt env x; to = to })
+  pub borrowed : borrowsAt (environmentOf env) to ≡ placesIn env (drop follows (chainOf (linksAt env x))) s
 
 -- A place that is to be a number (LANGUAGE 3.27, 3.31): `judged` is the rule's answer at the term i.
 abbrev pub NumberIs : Judged (Unit {0}) → ℕ → Readable → Type 0

@@ -5,8 +5,8 @@ ghost use mathlib.Core.Bool.{true};
 ghost use mathlib.Core.List.{_∷_};
 ghost use Prim.Native.Nat.{_<_, _≤_, _+_, _*_, _-_};
 ghost use lib.ListN.{length, take, drop};
-ghost use Rattle.rules.specs.Links.{leadingBoxes, noShared, isNumber, copies};
-ghost use Rattle.rules.specs.Chains.{linkOf, chainOf, asRest, restOf, oneMoreFits};
+ghost use Rattle.rules.specs.Links.{leadingBoxes, noShared, lastShared, isNumber, copies};
+ghost use Rattle.rules.specs.Chains.{linkOf, chainOf, asRest, restOf, asPassed, oneMoreFits};
 
 // The digits: the kinds of links (LANGUAGE 3.2).
 pub const BOX: u32 = 1;
@@ -107,6 +107,32 @@ pub fn no_shared(links: u32, k: usize) -> bool
         left -= 1;
     }
     true
+}
+
+// How many links come before the last shared link that is passed, if one is.
+pub enum SharedPassed {
+    After(usize),
+    None,
+}
+
+// The last shared link before link k (LANGUAGE 3.21).
+pub fn last_shared(links: u32, k: usize) -> SharedPassed
+    ensures { λ r. ⌜ asPassed r ≡ lastShared (take k (chainOf links)) ⌝ }
+{
+    let mut after = links;
+    let mut passed: usize = 0;
+    let mut last = SharedPassed::None;
+    while passed < k {
+        if after == 0 {
+            return last;
+        }
+        if after % 3 == SHARED {
+            last = SharedPassed::After(passed);
+        }
+        after = without_first(after);
+        passed += 1;
+    }
+    last
 }
 
 // One more link makes at most 8 (42; LANGUAGE 3.21 to 3.23).

@@ -7,15 +7,17 @@ ghost use Rattle.rules.specs.Environment.{used};
 ghost use Rattle.rules.specs.Rules.{judgeCopy, judgeMove, judgeShared, judgeExclusive, judgeLet, judgeNumber, judgeBelow, judgeBlockEnd};
 ghost use Rattle.rules.specs.Neat.{NeatValue};
 ghost use Rattle.rules.specs.Table.{TableFor, environmentOf, Around, asPlace};
-ghost use Rattle.rules.specs.Verdicts.{NeatTable, LocatedIs, NamedIs, ReadableIs, NumberIs, RootsIn, asRequirement, begun, beginLet, asValue, answered, Boxes, judgeAnswer};
+ghost use Rattle.rules.specs.Verdicts.{NeatTable, WholeBorrow, LentAt, LocatedIs, NamedIs, ReadableIs, NumberIs, RootsIn, asRequirement, begun, beginLet, asValue, answered, Boxes, judgeAnswer};
 use crate::bars::read_barred;
 use crate::bars::write_barred;
 use crate::chains::BOX;
 use crate::chains::EXCLUSIVE;
 use crate::chains::Rest;
 use crate::chains::SHARED;
+use crate::chains::SharedPassed;
 use crate::chains::is_copied;
 use crate::chains::is_number;
+use crate::chains::last_shared;
 use crate::chains::leading_boxes;
 use crate::chains::links_from;
 use crate::chains::no_shared;
@@ -130,6 +132,20 @@ pub fn judge_readable(env: &[u64], variables: usize, place: Place) -> Readable
     named
 }
 
+// The roots that are borrowed where the place with so many follows may lead (LANGUAGE 3.19, 3.21). The value of its root
+// is whole, so that nothing on the way is moved away.
+fn lent_at(env: &[u64], variables: usize, root: usize, follows: usize) -> Roots
+    requires { ⌜ NeatTable (now env) variables × WholeBorrow (now env) variables root follows ⌝ }
+    ensures { λ r. ⌜ ((i : ℕ) → LentAt variables (now (env .entry)) i root follows r) ⌝ }
+{
+    let ends = search(env, variables, root, follows);
+    match ends {
+        Ends::Own => roots_at(env, root),
+        Ends::At(to) => borrows_at(env, variables, to),
+        Ends::MovedAway => no_roots(),
+    }
+}
+
 // Copy (LANGUAGE 3.19): the place is readable, then a number or a shared link (37). The copy borrows what is borrowed
 // where the place may lead; a number borrows nothing, so that only a borrow is followed.
 pub fn judge_copy(env: &[u64], variables: usize, place: Place) -> Told
@@ -146,13 +162,13 @@ pub fn judge_copy(env: &[u64], variables: usize, place: Place) -> Told
             if is_number(rest) {
                 return number_value();
             }
-            let root = index_of(place.root);
-            let ends = search(env, variables, root, index_of(place.follows));
-            match ends {
-                Ends::Own => value_of(rest, roots_at(env, root)),
-                Ends::At(to) => value_of(rest, borrows_at(env, variables, to)),
-                Ends::MovedAway => refused(refusals::MOVED_AWAY),
-            }
+            let roots = lent_at(
+                env,
+                variables,
+                index_of(place.root),
+                index_of(place.follows),
+            );
+            value_of(rest, roots)
         }
     }
 }
@@ -184,7 +200,8 @@ pub fn judge_move(env: &mut [u64], variables: usize, place: Place) -> Told
     }
 }
 
-// Shared borrow (LANGUAGE 3.21): the place is readable, then a shared link more makes at most 8 (42).
+// Shared borrow (LANGUAGE 3.21): the place is readable, then a shared link more makes at most 8 (42). With shared links
+// passed it borrows what the last of them does.
 pub fn judge_shared(env: &[u64], variables: usize, place: Place) -> Told
     requires { ⌜ NeatTable (now env) variables ⌝ }
     ensures { λ r. ⌜ ((i : ℕ) → answered (now (env .entry)) i r ≡ judgeShared variables (environmentOf (now (env .entry))) i (asPlace place)) ⌝ }
@@ -192,7 +209,16 @@ pub fn judge_shared(env: &[u64], variables: usize, place: Place) -> Told
     let readable = judge_readable(env, variables, place);
     match readable {
         Readable::Refused(number) => refused(number),
-        Readable::Rest(rest) => longer_value(SHARED, rest, only(index_of(place.root))),
+        Readable::Rest(rest) => {
+            let root = index_of(place.root);
+            let passed = last_shared(links_at(env, root), index_of(place.follows));
+            match passed {
+                SharedPassed::None => longer_value(SHARED, rest, only(root)),
+                SharedPassed::After(follows) => {
+                    longer_value(SHARED, rest, lent_at(env, variables, root, follows))
+                }
+            }
+        }
     }
 }
 

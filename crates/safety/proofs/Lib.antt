@@ -36,6 +36,7 @@ pub mod Following
 pub mod Progress
 pub mod Wider
 -- The terms: conditions give the result, and the judge gives the conditions.
+pub mod Lending
 pub mod NewValue
 pub mod Numbers
 pub mod Borrowing

@@ -228,7 +228,7 @@ table =
     -- E10, with nine boxes and with eight; E11.
     ∷ refused 42 2
     ∷ accepted 12 0 8
-    ∷ refused 40 8
+    ∷ accepted 13 2 0
     -- A choice whose value is either borrow, with each block run.
     ∷ accepted 14 1 0
     ∷ accepted 14 2 0

@@ -1,23 +1,55 @@
 -- `rules::rules::judge_shared` meets its contract. Assumes nothing.
-use Prim.Native.Nat.{ℕ}
+use Prim.Native.Nat.{ℕ, _<_}
 use native.Mathlib.Omega.{arith}
+use mathlib.Core.Path.{_≡_, sym, ap, _∙_}
+use mathlib.Core.List.{List}
+use mathlib.Core.Option.{none}
+use lib.ListN.{take}
 use borrow.Author.Needs.{needs}
 use Rattle.reader.specs.Result.{_>>=_}
+use Rattle.reader.specs.Script.{Place}
+use Rattle.rules.specs.Links.{lastShared}
 use Rattle.rules.specs.Rules.{judgeShared}
-use Rattle.rules.specs.Table.{environmentOf, asPlace}
+use Rattle.rules.specs.Chains.{chainOf, asPassed}
+use Rattle.rules.specs.Table.{linksAt, environmentOf, asPlace}
 use Rattle.rules.specs.Verdicts.{Read}
 use Rattle.rules.proofs.ToldLaws.{told-refused}
 use Rattle.rules.proofs.PlaceLaws.{read-at, read-refused, named-inside, shared-there}
+use Rattle.rules.proofs.LentLaws.{shared-asks, shared-lent}
 use Rattle.rules.proofs.rules.judge_shared.Statement.{statement}
 use Rattle.rules.proofs.rules.judge_shared.Tie as tie
 
--- Where the place is readable.
-module _ (k : tie.After-known-told2) where
+-- Where the place is readable; the code has its root as `root`.
+module _ (k : tie.After-index-of) where
   abbrev start : tie.Start
-  start = k .before .before .before .before .before
+  start = k .before .before .before .before .before .before
 
-  read : (i : ℕ) → Read (start .args .variables) (environmentOf (start .args .env .now)) i (asPlace (start .args .place)) (k .before .readable2 .given .0 .0)
-  read i = read-at _ _ i _ (k .before .before .before .judge-readable .ensures i) (k .before .readable2 .given .1)
+  abbrev env : List ℕ
+  env = start .args .env .now
+
+  abbrev p : Place
+  p = asPlace (start .args .place)
+
+  abbrev root : ℕ
+  root = k .index-of .result
+
+  read : (i : ℕ) → Read (start .args .variables) (environmentOf env) i p (k .before .before .readable2 .given .0 .0)
+  read i = read-at _ _ i _ (k .before .before .before .before .judge-readable .ensures i) (k .before .before .readable2 .given .1)
+
+  -- Where the root lies does not depend on the term that asks, so any term will do.
+  inside : root < start .args .variables
+  inside = named-inside _ _ (start .pre) 0 _ (read 0 .named) _ (k .index-of .ensures)
+
+-- Where the last shared link is looked for.
+module _ (c : tie.After-last-shared) where
+  abbrev at : tie.After-index-of
+  at = c .before .before .before
+
+  abbrev follows : ℕ
+  follows = c .before .index-of2 .result
+
+  last : lastShared (take follows (chainOf (linksAt (env at) (root at)))) ≡ asPassed (c .last-shared .result)
+  last = ap (λ (n : ℕ). lastShared (take follows (chainOf n))) (sym (c .before .before .links-at .ensures)) ∙ sym (c .last-shared .ensures)
 
 judge-readable-requires : tie.Need-judge-readable-requires
 judge-readable-requires c κs = search needs
@@ -34,14 +66,40 @@ enum-known-readable-2 c = search needs
 index-of-requires : tie.Need-index-of-requires
 index-of-requires c κs = search needs
 
--- Where the root lies does not depend on the term that asks, so any term will do.
+links-at-requires : tie.Need-links-at-requires
+links-at-requires c κs = omega (arith, inside c, start c .pre .0 .0)
+
+index-of-requires-2 : tie.Need-index-of-requires-2
+index-of-requires-2 c κs = search needs
+
+last-shared-requires : tie.Need-last-shared-requires
+last-shared-requires c κs = search needs
+
+enum-told : tie.Need-enum-told
+enum-told c = search needs
+
 only-requires : tie.Need-only-requires
 only-requires c κs =
-    let k = c .before in
-    omega (arith, named-inside _ _ (start k .pre) 0 _ (read k 0 .named) _ (c .index-of .ensures), start k .pre .0 .1)
+    let k = at (c .before .before) in
+    omega (arith, inside k, start k .pre .0 .1)
 
 longer-value-requires : tie.Need-longer-value-requires
 longer-value-requires c κs = search needs
+
+enum-known-passed : tie.Need-enum-known-passed
+enum-known-passed c = search needs
+
+lent-at-requires : tie.Need-lent-at-requires
+unfolding asPassed
+lent-at-requires c κs =
+    let looked = c .before .before .before in
+    let k = at looked in (
+      start k .pre,
+      shared-asks _ _ (start k .pre) 0 _ (read k 0) _ (k .index-of .ensures) _ (looked .before .index-of2 .ensures) _ (last looked ∙ ap asPassed (c .before .passed .given .1)),
+    )
+
+longer-value-requires-2 : tie.Need-longer-value-requires-2
+longer-value-requires-2 c κs = search needs
 
 returns : tie.Need-returns
 unfolding judgeShared _>>=_
@@ -54,11 +112,24 @@ returns c =
     rw none (told-refused _ _ (c .refused .ensures) _ i)
 
 returns-2 : tie.Need-returns-2
+unfolding asPassed
 returns-2 c =
-    let at-root = c .before .before in
-    let k = at-root .before in
-    λ i. shared-there _ _ (start k .pre) i _ (read k i) _ (at-root .index-of .ensures) _ (c .before .only .ensures) _ (c .longer-value .ensures)
+    let at-none = c .before .before in
+    let looked = at-none .before .before in
+    let k = at looked in
+    let unpassed : lastShared (take (p k .follows) (chainOf (linksAt (env k) (root k)))) ≡ none =
+    ap (λ (n : ℕ). lastShared (take n (chainOf (linksAt (env k) (root k))))) (sym (looked .before .index-of2 .ensures)) ∙ last looked ∙ ap asPassed (at-none .enum-told .given .1) in
+    λ i. shared-there _ _ (start k .pre) i _ (read k i) _ (k .index-of .ensures) unpassed _ (c .before .only .ensures) _ (c .longer-value .ensures)
+
+returns-3 : tie.Need-returns-3
+unfolding asPassed
+returns-3 c =
+    let at-lent = c .before in
+    let at-passed = at-lent .before .before in
+    let looked = at-passed .before .before in
+    let k = at looked in
+    λ i. shared-lent _ _ (start k .pre) i _ (read k i) _ (k .index-of .ensures) _ (looked .before .index-of2 .ensures) _ (last looked ∙ ap asPassed (at-passed .passed .given .1)) _ (at-lent .lent-at .ensures i) _ (c .longer-value2 .ensures)
 
 pub judge-shared-spec : {M : Type 1} → statement M
 judge-shared-spec =
-    tie.close (tie.spec judge-readable-requires enum-known-readable refused-requires enum-known-readable-2 index-of-requires only-requires longer-value-requires returns returns-2)
+    tie.close (tie.spec judge-readable-requires enum-known-readable refused-requires enum-known-readable-2 index-of-requires links-at-requires index-of-requires-2 last-shared-requires enum-told only-requires longer-value-requires enum-known-passed lent-at-requires longer-value-requires-2 returns returns-2 returns-3)

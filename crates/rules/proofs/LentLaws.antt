@@ -1,0 +1,197 @@
+-- What is borrowed where a place may lead, of a value that is whole; and the rules that record it: the copy of a borrow (LANGUAGE 3.19), and a shared
+-- borrow that passes shared links (3.21).
+use Prim.Native.Nat.{ℕ, suc, _-_, _≤_, _<_}
+use native.Mathlib.Omega.{arith}
+use mathlib.Core.Path.{_≡_, refl, sym, ap, ap₂, _∙_, subst}
+use mathlib.Core.Bool.{true, false}
+use mathlib.Core.Option.{some}
+use mathlib.Core.List.{List, [], _∷_}
+use lib.ListN.{length, take, drop, length-drop}
+use Rattle.reader.specs.Result.{ok, need, _>>=_}
+use Rattle.reader.specs.Script.{Place}
+use Rattle.rules.specs.declared.roots.Roots.{Roots}
+use Rattle.rules.specs.declared.follow.Ends.{Ends}
+use Rattle.rules.specs.declared.follow.Ends.the-variants as ends
+use Rattle.rules.specs.declared.verdicts.Told as verdicts
+use Rattle.rules.specs.Links.{Link, shared, leadingBoxes, lastShared, isNumber, copies}
+use Rattle.rules.specs.Environment.{places, borrowEnd, Variable, live, borrowsAt}
+use Rattle.rules.specs.Follow.{past, valueWhole}
+use Rattle.rules.specs.Rules as rules
+use Rattle.rules.specs.Rules.{judgePlace, judgeReadable, judgeCopy, judgeRecorded, judgeShared}
+use Rattle.rules.specs.Neat.{place, Among, SameSet}
+use Rattle.rules.specs.Roots.{lengths, placesOf, left}
+use Rattle.rules.specs.Masks.{has}
+use Rattle.rules.specs.Chains.{chainOf}
+use Rattle.rules.specs.Steps.{Searched, BorrowedAt}
+use Rattle.rules.specs.Table.{linksAt, longAt, rootsAt, variableAt, placesIn, endIn, environmentOf}
+use Rattle.rules.specs.Verdicts.{NeatTable, PlaceFound, Named, Read, WholeBorrow, LentAt, typeOf, answered, Answers, atMost8}
+use Rattle.reader.proofs.Answers.{then, needed}
+use Rattle.rules.proofs.Answers.{err≢ok}
+use Rattle.rules.proofs.LinkChains.{last-at}
+use Rattle.rules.proofs.ChainLaws.{rest-number}
+use Rattle.rules.proofs.MaskLaws.{has-below}
+use Rattle.rules.proofs.NeatPaths.{Lies, led, borrowed-there}
+use Rattle.rules.proofs.NeatTerms.{readable-place}
+use Rattle.rules.proofs.RootLaws.{from-in}
+use Rattle.rules.proofs.RootSets.{past-places}
+use Rattle.rules.proofs.FollowRoots as paths
+use Rattle.rules.proofs.WholePath.{whole-path}
+use Rattle.rules.proofs.EntryLaws.{live-status}
+use Rattle.rules.proofs.EndLaws.{linked-places}
+use Rattle.rules.proofs.ValueLaws.{copied-borrow, borrows-there}
+use Rattle.rules.proofs.PlaceLaws.{variable-is, on-chain, search-fits, place-moved, place-there, copy-is}
+use Rattle.rules.proofs.OwnLaws.{found-own, own-borrows}
+
+-- ---- the search for it
+
+module _ (env : List ℕ) (nv : ℕ) (T : NeatTable env nv) (i x follows : ℕ) (W : WholeBorrow env nv x follows) where
+  abbrev ks : List Link
+  ks = drop follows (chainOf (linksAt env x))
+
+  rest : (m : ℕ) × (ks ≡ chainOf m)
+  rest = rest-number follows (linksAt env x)
+
+  named : Named (environmentOf env) (place x follows) (rest .0)
+  named = record { variable = variableAt env x; is = W .is; long = W .long; after = rest .1 }
+
+  module _ (e : Ends) (S : Searched nv (environmentOf env) x (longAt env x - follows) false e) where
+    -- It ends in the root itself, which borrows what its entry says.
+    pub lent-own : e ≡ ends.Own → (s : Roots) → s ≡ rootsAt env x → LentAt nv env i x follows s
+    lent-own h s r =
+        let F = found-own env nv T i (place x follows) named x refl follows refl e S h in
+        record {
+          to = place x follows ∷ [];
+          is = F .is ∙ ap (λ (v : Variable). ok (paths.located v (place x follows ∷ []))) (variable-is env nv T i (place x follows) (F .named));
+          borrowed = own-borrows env nv T i (place x follows) F
+              ∙ ap (λ (l : List Link). places (endIn env l (rootsAt env x))) (sym (rest .1))
+              ∙ linked-places ks (placesIn env ks (rootsAt env x)) (W .borrow)
+              ∙ ap (placesIn env ks) (sym r);
+        }
+
+    module _ (to : Roots) (h : e ≡ ends.At to) where
+      there : PlaceFound nv (environmentOf env) (place x follows) (linksAt env x) (rest .0) to (judgePlace nv (environmentOf env) i (place x follows))
+      there = place-there env nv T i (place x follows) named x refl follows refl e S to h (linksAt env x) refl
+
+      pub lent-low : (y : ℕ) → has to y ≡ true → y < nv
+      lent-low = there .low
+
+      -- It ends in these variables.
+      pub lent-there : (s : Roots) → BorrowedAt env to s → LentAt nv env i x follows s
+      lent-there s B =
+          let root : there .located .root ≡ variableAt env x = live-status env x (there .located .root) (there .root) .1 in
+          let L = led (T .1 .1) i (place x follows) (there .located) (there .is) in
+          let same : drop follows (there .located .root .chain) ≡ ks = ap (λ (v : Variable). drop follows (v .chain)) root in
+          record {
+            to = there .located .to;
+            is = there .is ∙ ap (λ (v : Variable). ok (paths.located v (there .located .to))) root;
+            borrowed = borrows-there env nv ks (there .located .to) to s (λ q k. let z = L .ends q k in (subst (λ (l : List Link). Lies (environmentOf env) l q) same (z .0), z .1))
+                (subst (λ (l : List Link). SameSet (there .located .to) (placesOf nv (has to) (lengths (environmentOf env)) (length l))) (sym (rest .1)) (there .to)) lent-low B (W .borrow);
+          }
+
+    -- Nothing on the way is moved away, since the value is whole.
+    pub never-moved : e ≡ ends.MovedAway → ⊥
+    never-moved h =
+        err≢ok (sym (place-moved env nv T i (place x follows) named x refl follows refl e S h) ∙ whole-path (T .1 .1) (place x follows) (variableAt env x) (W .is) (W .long) i (W .whole) .1)
+
+-- ---- the rules that ask for it, of a place that may be read
+
+module _ (env : List ℕ) (nv : ℕ) (T : NeatTable env nv) (i : ℕ) (p : Place) {rest : ℕ} (R : Read nv (environmentOf env) i p rest) (x : ℕ) (at : x ≡ p .root) where
+  is-root : R .named .variable ≡ variableAt env x
+  is-root = variable-is env nv T i p (R .named) ∙ ap (variableAt env) (sym at)
+
+  located : judgePlace nv (environmentOf env) i p ≡ ok (paths.located (R .named .variable) (R .to))
+  located = readable-place nv (environmentOf env) i p (paths.located (R .named .variable) (R .to)) (R .is)
+
+  root-whole : valueWhole nv (environmentOf env) x (variableAt env x) ≡ true
+  unfolding judgeReadable
+  root-whole =
+      let l = paths.located (R .named .variable) (R .to) in
+      let a = then (judgePlace nv (environmentOf env) i p) _ l (R .is) in
+      let b = then (need (valueWhole nv (environmentOf env) (p .root) (a .0 .root)) (33, i)) _ l (a .2) in
+      let same : a .0 ≡ l = (let z = sym (a .1) ∙ located in cc) in
+      ap₂ (λ (y : ℕ) (v : Variable). valueWhole nv (environmentOf env) y v) at (sym is-root ∙ ap (λ (k : rules.Located). k .root) (sym same)) ∙ needed _ _ _ (b .1)
+
+  root-live : environmentOf env x ≡ live (variableAt env x)
+  root-live = ap (environmentOf env) at ∙ R .named .is ∙ ap live is-root
+
+  module _ (f : ℕ) (follows : f ≡ p .follows) where
+    chain-on : drop f (chainOf (linksAt env x)) ≡ chainOf rest
+    chain-on = ap₂ (λ (k y : ℕ). drop k (chainOf (linksAt env y))) follows at ∙ on-chain env nv T i p (R .named)
+
+    fits : f ≤ longAt env x
+    fits = search-fits env nv T i p (R .named) x at f follows
+
+    -- ---- copy (LANGUAGE 3.19)
+
+    module _ (copied : copies (chainOf rest) ≡ true) (no-number : isNumber (chainOf rest) ≡ false) where
+      pub copy-asks : WholeBorrow env nv x f
+      copy-asks = record {
+        is = root-live;
+        whole = root-whole;
+        long = fits;
+        borrow = subst (λ (l : List Link). leadingBoxes l < length l) (sym chain-on) (copied-borrow (chainOf rest) copied no-number);
+      }
+
+      pub copy-lent : (s : Roots) → LentAt nv env i x f s → judgeCopy nv (environmentOf env) i p ≡ ok (environmentOf env, some (typeOf (chainOf rest) (endIn env (chainOf rest) s)))
+      copy-lent s L =
+          let same : paths.located (variableAt env x) (L .to) ≡ paths.located (R .named .variable) (R .to) = (let z = sym (L .is) ∙ ap₂ (λ (y k : ℕ). judgePlace nv (environmentOf env) i (place y k)) at follows ∙ located in cc) in
+          copy-is env nv T i p R copied
+          ∙ ap (λ (ps : List Place). ok (environmentOf env, some (typeOf (chainOf rest) (borrowEnd (chainOf rest) ps))))
+          (ap (λ (l : rules.Located). borrowsAt (environmentOf env) (l .to)) (sym same) ∙ L .borrowed ∙ ap (λ (l : List Link). placesIn env l s) chain-on)
+
+    -- ---- shared borrow (LANGUAGE 3.21)
+
+    module _ (j : ℕ) (passed : lastShared (take f (chainOf (linksAt env x))) ≡ some j) where
+      at-last : (j < f) × (drop j (chainOf (linksAt env x)) ≡ shared ∷ drop (suc j) (chainOf (linksAt env x)))
+      at-last = last-at f (chainOf (linksAt env x)) j passed
+
+      pub shared-asks : WholeBorrow env nv x j
+      unfolding leadingBoxes
+      shared-asks = record {
+        is = root-live;
+        whole = root-whole;
+        long = omega (arith, at-last .0, fits);
+        borrow = subst (λ (l : List Link). leadingBoxes l < length l) (sym (at-last .1)) (omega arith);
+      }
+
+      module _ (s : Roots) (L : LentAt nv env i x j s) where
+        abbrev m : ℕ
+        m = length (drop (suc j) (chainOf (linksAt env x)))
+
+        lent : borrowsAt (environmentOf env) (L .to) ≡ placesOf 128 (has s) (longAt env) m
+        unfolding leadingBoxes
+        lent = L .borrowed ∙ ap (λ (l : List Link). placesIn env l s) (at-last .1)
+
+        first-shared : left (shared ∷ drop (suc j) (chainOf (linksAt env x))) ≡ m
+        unfolding leadingBoxes
+        first-shared = refl
+
+        -- What is recorded has the links left that come after the holder's borrow link, so its root has as many.
+        long-enough : (y : ℕ) → has s y ≡ true → m ≤ longAt env y
+        unfolding placesOf
+        long-enough y h =
+            let q = place y (longAt env y - m) in
+            let among = from-in (has s) (longAt env) m 0 128 y (omega arith) (omega (arith, has-below s y h)) h in
+            let l = paths.located (variableAt env x) (L .to) in
+            let held = borrowed-there (T .1 .1) (place x j) l (led (T .1 .1) i (place x j) l (L .is)) q (subst (λ (ps : List Place). Among q ps) (sym lent) among) in
+            let long : length (held .variable .chain) ≡ longAt env y = ap (λ (v : Variable). length (v .chain)) (live-status env y (held .variable) (held .is) .1) in
+            let after : length (drop (longAt env y - m) (held .variable .chain)) ≡ m = ap (λ (l : List Link). length l) (held .rest) ∙ ap (λ (l : List Link). left l) (at-last .1) ∙ first-shared in
+            omega (arith, long, after, length-drop (longAt env y - m) (held .variable .chain))
+
+        recorded : judgeRecorded nv (environmentOf env) i p (some j) ≡ ok (placesOf 128 (has s) (longAt env) (length (chainOf rest)))
+        unfolding judgeRecorded _>>=_
+        recorded =
+            let placed : judgePlace nv (environmentOf env) i (place (p .root) j) ≡ ok (paths.located (variableAt env x) (L .to)) = ap (λ (y : ℕ). judgePlace nv (environmentOf env) i (place y j)) (sym at) ∙ L .is in
+            let n = p .follows - suc j in
+            let behind-link = length-drop (suc j) (chainOf (linksAt env x)) in
+            let behind-place = length-drop f (chainOf (linksAt env x)) in
+            let after = ap (λ (l : List Link). length l) chain-on in
+            let fewer : n ≤ m = omega (arith, behind-link, fits, follows, at-last .0) in
+            let remain : m - n ≡ length (chainOf rest) = omega (arith, behind-link, behind-place, after, fits, follows, at-last .0) in
+            rw placed (ap ok (ap (λ (ps : List Place). past ps n) lent ∙ past-places (has s) (longAt env) m n fewer long-enough 128 ∙ ap (placesOf 128 (has s) (longAt env)) remain))
+
+        pub shared-lent : (v : verdicts.Told) → Answers v (atMost8 (λ e. typeOf (shared ∷ chainOf rest) (endIn e (shared ∷ chainOf rest) s))) → answered env i v ≡ judgeShared nv (environmentOf env) i p
+        unfolding judgeShared need _>>=_ borrowEnd leadingBoxes
+        shared-lent v a =
+            let last : lastShared (take (p .follows) (R .named .variable .chain)) ≡ some j = ap₂ (λ (u : Variable) (k : ℕ). lastShared (take k (u .chain))) is-root (sym follows) ∙ passed in
+            rw (R .is, last, recorded, R .named .after) (a env i)
