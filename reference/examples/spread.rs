@@ -25,11 +25,16 @@ fn count(name: &str, limits: Limits, mut next: impl FnMut(&mut Generator) -> Res
 
 type Make = fn(&mut Generator, &mut Vec<u32>);
 
-const KINDS: [(&str, Make); 6] = [
+const KINDS: [(&str, Make); 8] = [
     ("accepted_rows", Generator::accepted_rows),
     ("near_miss_rows", Generator::near_miss_rows),
     ("joined_rows", Generator::joined_rows),
     ("near_joined_rows", Generator::near_joined_rows),
+    ("through_shared_rows", Generator::through_shared_rows),
+    (
+        "near_through_shared_rows",
+        Generator::near_through_shared_rows,
+    ),
     ("wild_rows", Generator::wild_rows),
     ("mixed_rows", Generator::mixed_rows),
 ];

@@ -51,37 +51,49 @@
 //! `joined_rows` makes accepted scripts whose choices leave variables behind
 //! differently: moved away in one block, borrowing from other places after
 //! each. `near_joined_rows` makes such scripts with edits. [`small_choices`]
-//! shows all small ones, 980,452 in number, of which 52,336 are accepted.
+//! shows all small ones, 980,452 in number, of which 55,431 are accepted.
 //!
-//! Checking rows (those of `mixed_rows` also meet 12 to 19, 3,332 times):
+//! `through_shared_rows` makes accepted scripts with shared borrows through
+//! shared links, of which 89 in a hundred would be refused if such a borrow
+//! were recorded against the variable that it names.
+//! `near_through_shared_rows` makes such scripts that are mostly refused for
+//! what these borrows are recorded against; 79 in a hundred would get another
+//! answer.
+//!
+//! Checking rows (those of `mixed_rows` also meet 12 to 19, 3,233 times):
 //!
 //! | | 0 | 30 | 31 | 32 | 33 | 34 | 35 | 36 |
 //! |---|---|---|---|---|---|---|---|---|
 //! | `accepted_rows` | 100,000 | | | | | | | |
 //! | `joined_rows` | 100,000 | | | | | | | |
-//! | `near_miss_rows` | 57,941 | 5,358 | 12,505 | 8,394 | 2,555 | 1,038 | 1,682 | 746 |
-//! | `near_joined_rows` | 30,830 | 7,560 | 10,758 | 9,001 | 2,843 | 6,016 | 14,760 | 4,839 |
-//! | `wild_rows` | 26,363 | 4,792 | 5,824 | 12,559 | 9,704 | 4,843 | 9,353 | 3,553 |
-//! | `mixed_rows` | 54,021 | 3,528 | 12,113 | 6,177 | 3,268 | 1,985 | 4,214 | 1,550 |
+//! | `through_shared_rows` | 100,000 | | | | | | | |
+//! | `near_miss_rows` | 57,006 | 5,535 | 12,736 | 8,550 | 2,664 | 1,003 | 1,628 | 847 |
+//! | `near_joined_rows` | 28,827 | 7,486 | 10,741 | 9,333 | 3,324 | 6,246 | 13,746 | 5,438 |
+//! | `near_through_shared_rows` | 11,903 | 2,255 | 3,397 | 2,583 | 4,378 | 4,017 | 51,180 | 9,686 |
+//! | `wild_rows` | 26,290 | 4,916 | 5,954 | 12,554 | 9,515 | 4,825 | 9,194 | 3,631 |
+//! | `mixed_rows` | 53,520 | 3,215 | 11,648 | 5,752 | 3,384 | 2,186 | 5,642 | 1,902 |
 //!
 //! | | 37 | 38 | 39 | 40 | 41 | 42 | 43 |
 //! |---|---|---|---|---|---|---|---|
-//! | `near_miss_rows` | 1,544 | 836 | 5,032 | 1,128 | 489 | 26 | 726 |
-//! | `near_joined_rows` | 2,956 | 2,485 | 7,247 | 491 | 27 | 20 | 167 |
-//! | `wild_rows` | 2,704 | 2,335 | 10,777 | 5,097 | 165 | 996 | 935 |
-//! | `mixed_rows` | 1,403 | 1,041 | 4,775 | 1,620 | 214 | 256 | 503 |
+//! | `near_miss_rows` | 1,443 | 901 | 5,279 | 1,108 | 531 | 25 | 744 |
+//! | `near_joined_rows` | 3,026 | 2,897 | 8,164 | 533 | 28 | 14 | 197 |
+//! | `near_through_shared_rows` | 910 | 828 | 1,422 | 7,261 | 132 | 1 | 47 |
+//! | `wild_rows` | 2,811 | 2,212 | 10,882 | 5,093 | 176 | 958 | 989 |
+//! | `mixed_rows` | 1,342 | 1,049 | 4,465 | 1,713 | 202 | 279 | 468 |
 //!
 //! Running rows with [`run_unchecked`], each time with readings of their own
-//! (those of `mixed_rows` also meet 12 to 19, 3,234 times):
+//! (those of `mixed_rows` also meet 12 to 19, 3,282 times):
 //!
 //! | | 0 | 60 | 61 | 62 | 63 |
 //! |---|---|---|---|---|---|
 //! | `accepted_rows` | 100,000 | | | | |
 //! | `joined_rows` | 100,000 | | | | |
-//! | `near_miss_rows` | 66,025 | 16,399 | 12,528 | 4,606 | 442 |
-//! | `near_joined_rows` | 57,448 | 19,623 | 14,402 | 7,616 | 911 |
-//! | `wild_rows` | 37,905 | 25,055 | 30,023 | 5,332 | 1,685 |
-//! | `mixed_rows` | 61,559 | 19,238 | 12,057 | 3,278 | 634 |
+//! | `through_shared_rows` | 100,000 | | | | |
+//! | `near_miss_rows` | 66,093 | 16,338 | 12,575 | 4,549 | 445 |
+//! | `near_joined_rows` | 57,292 | 19,985 | 14,695 | 7,183 | 845 |
+//! | `near_through_shared_rows` | 79,741 | 14,827 | 3,410 | 1,801 | 221 |
+//! | `wild_rows` | 37,787 | 25,236 | 30,016 | 5,334 | 1,627 |
+//! | `mixed_rows` | 62,721 | 18,590 | 11,758 | 3,063 | 586 |
 //!
 //! Running the same rows with [`run`], which never meets 60 to 63:
 //!
@@ -89,10 +101,12 @@
 //! |---|---|---|---|
 //! | `accepted_rows` | 100,000 | | |
 //! | `joined_rows` | 100,000 | | |
-//! | `near_miss_rows` | 57,653 | | 42,347 |
-//! | `near_joined_rows` | 30,263 | | 69,737 |
-//! | `wild_rows` | 26,423 | | 73,577 |
-//! | `mixed_rows` | 53,975 | 3,234 | 42,791 |
+//! | `through_shared_rows` | 100,000 | | |
+//! | `near_miss_rows` | 57,421 | | 42,579 |
+//! | `near_joined_rows` | 29,168 | | 70,832 |
+//! | `near_through_shared_rows` | 11,953 | | 88,047 |
+//! | `wild_rows` | 26,418 | | 73,582 |
+//! | `mixed_rows` | 53,490 | 3,282 | 43,228 |
 //!
 //! `limits_within`, `limits_above` and `limits_outside` make sets themselves;
 //! the last ones are refused with 74.

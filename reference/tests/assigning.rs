@@ -91,8 +91,6 @@ fn an_overwritten_borrow_is_no_longer_held() {
 
 #[test]
 fn a_variable_must_not_come_to_borrow_itself() {
-    let own = [let_(2, shared((0, 0))), assign((2, 0), shared((2, 1)))];
-    assert_eq!(with_two(&own), refused(35, 7));
     let own = [
         let_(2, exclusive((0, 0))),
         assign((2, 0), exclusive((2, 1))),
@@ -100,13 +98,36 @@ fn a_variable_must_not_come_to_borrow_itself() {
     assert_eq!(with_two(&own), refused(35, 7));
     // Through an exclusive borrow: v2 would borrow from v3, which borrows it.
     let through = [
-        let_(2, shared((0, 0))),
+        let_(2, exclusive((0, 0))),
         let_(3, exclusive((2, 0))),
-        assign((3, 1), shared((3, 2))),
+        assign((3, 1), exclusive((3, 2))),
     ];
     assert_eq!(with_two(&through), refused(35, 9));
-    let copied = [let_(2, shared((0, 0))), assign((2, 0), copy((2, 0)))];
-    assert_eq!(with_two(&copied), Ok(()));
+}
+
+/// A shared borrow through the link that it is written to is of what that link
+/// borrows.
+#[test]
+fn a_shared_borrow_does_not_come_to_borrow_itself() {
+    let of_v0 = || let_(2, shared((0, 0)));
+    let bound_again = [
+        vec![of_v0(), assign((2, 0), shared((2, 1)))],
+        vec![
+            of_v0(),
+            let_(3, exclusive((2, 0))),
+            assign((3, 1), shared((3, 2))),
+        ],
+        vec![of_v0(), assign((2, 0), copy((2, 0)))],
+    ];
+    for terms in bound_again {
+        let with = |last: &[Term]| {
+            let answer = with_two(&[&terms[..], last].concat());
+            answer.map_err(|refusal| refusal.number)
+        };
+        assert_eq!(with(&[]), Ok(()));
+        assert_eq!(with(&[assign((0, 0), number(5))]), Err(35));
+        assert_eq!(with(&[assign((1, 0), number(5))]), Ok(()));
+    }
 }
 
 #[test]
@@ -173,8 +194,9 @@ fn blocks_and_the_borrows_of_their_values() {
     assert_eq!(out(&[shared((0, 0))]), Ok(()));
     assert_eq!(out(&[let_(3, shared((0, 0))), copy((3, 0))]), Ok(()));
     assert_eq!(out(&[let_(3, shared((0, 0))), mov((3, 0))]), Ok(()));
+    assert_eq!(out(&[let_(3, shared((0, 0))), shared((3, 1))]), Ok(()));
     assert_eq!(
-        out(&[let_(3, shared((0, 0))), shared((3, 1))]),
+        out(&[let_(3, exclusive((0, 0))), shared((3, 1))]),
         refused(40, 6)
     );
     assert_eq!(

@@ -157,5 +157,5 @@ fn e11() {
         assign((2, 0), block(&[let_(3, shared((1, 0))), shared((3, 1))])),
         copy((2, 1)),
     ];
-    refused_by_both(&terms, 40, 8);
+    accepted(&terms, 13, 2, 0);
 }

@@ -4,7 +4,7 @@
 mod common;
 
 use common::*;
-use reference::{read, run, Refusal, NEWEST};
+use reference::Refusal;
 use std::slice;
 
 /// `let v0=reading 0; let v1=1; let v2=2`, each boxed so many times but v0.
@@ -24,34 +24,6 @@ fn after(before: &[Term], blocks: [&[Term]; 2], then: &[Term]) -> Result<(), Ref
     let [first, second] = blocks.map(|terms| [terms, &[number(1)]].concat());
     let chosen = choice((0, 0), &first, &second);
     behind(&[before, &[chosen]].concat(), then)
-}
-
-/// Counted from the first of the terms that come then.
-fn behind(before: &[Term], then: &[Term]) -> Result<(), Refusal> {
-    let mut rows = vec![0; ROWS_LEN];
-    let read = read(LIMITS, NEWEST, &script_of(2, before), &mut rows).expect("a script");
-    safe(&[before, then, &[number(1)]].concat()).map_err(|refusal| Refusal {
-        place: refusal
-            .place
-            .checked_sub(read.terms)
-            .expect("after the choice"),
-        ..refusal
-    })
-}
-
-/// What the check says; what it accepts must run by both ways.
-fn safe(terms: &[Term]) -> Result<(), Refusal> {
-    let answer = judge(terms);
-    let rows = rows_of(&script_of(2, terms));
-    for reading in [0, 1] {
-        let mut store = junk(LIMITS);
-        let ran = run(LIMITS, &rows, &[reading; 8], &mut store);
-        assert_eq!(ran.map(|_| ()), answer);
-        if let Ok(ran) = ran {
-            assert_eq!(store, tidy(ran.cells));
-        }
-    }
-    answer
 }
 
 /// Both orders of the blocks answer alike.
@@ -348,32 +320,52 @@ fn through_a_shared_link() {
 /// v3 through v4 after one block, v4 through v3 after the other.
 #[test]
 fn following_ends_where_borrows_lead_round() {
-    for borrow in [shared as fn(Place) -> Term, exclusive] {
-        let more = [let_(3, borrow((1, 0))), let_(4, borrow((2, 0)))];
-        let before = [opening(0), more.to_vec()].concat();
-        let first = [assign((3, 0), borrow((4, 1)))];
-        let second = [assign((4, 0), borrow((3, 1)))];
-        let then = |then: &[Term]| after(&before, [&first, &second], then);
-        assert_eq!(then(&[]), Ok(()));
-        let shares = borrow((0, 0))[0] == 0x05;
-        let read = if shares { Ok(()) } else { refused(34, 0) };
-        for root in [3, 4] {
-            assert_eq!(then(&[copy((root, 1))]), read);
-            assert_eq!(then(&[shared((root, 1))]), read);
-            assert_eq!(then(&[mov((root, 0))]), refused(35, 0));
-            assert_eq!(then(&[assign((root, 0), borrow((0, 0)))]), refused(35, 0));
-            let written = if shares { 36 } else { 35 };
-            assert_eq!(then(&[assign((root, 1), number(1))]), refused(written, 0));
-        }
+    let more = [let_(3, exclusive((1, 0))), let_(4, exclusive((2, 0)))];
+    let before = [opening(0), more.to_vec()].concat();
+    let first = [assign((3, 0), exclusive((4, 1)))];
+    let second = [assign((4, 0), exclusive((3, 1)))];
+    let then = |then: &[Term]| after(&before, [&first, &second], then);
+    assert_eq!(then(&[]), Ok(()));
+    for root in [3, 4] {
+        assert_eq!(then(&[copy((root, 1))]), refused(34, 0));
+        assert_eq!(then(&[shared((root, 1))]), refused(34, 0));
+        assert_eq!(then(&[mov((root, 0))]), refused(35, 0));
+        let again = assign((root, 0), exclusive((0, 0)));
+        assert_eq!(then(&[again]), refused(35, 0));
+        assert_eq!(then(&[assign((root, 1), number(1))]), refused(35, 0));
     }
     // With something moved away in the circle nothing of it can be used.
+    let gone = [&second[..], &[mov((2, 0))]].concat();
+    for root in [3, 4] {
+        let then = [copy((root, 1))];
+        assert_eq!(after(&before, [&first, &gone], &then), refused(33, 0));
+    }
+}
+
+/// Shared borrows through each other are of what the other borrows, so that
+/// they do not lead round: each may borrow v1 and v2 afterwards.
+#[test]
+fn shared_borrows_do_not_lead_round() {
     let more = [let_(3, shared((1, 0))), let_(4, shared((2, 0)))];
     let before = [opening(0), more.to_vec()].concat();
     let first = [assign((3, 0), shared((4, 1)))];
-    let second = [assign((4, 0), shared((3, 1))), mov((2, 0))];
+    let second = [assign((4, 0), shared((3, 1)))];
+    let then = |then: &[Term]| after(&before, [&first, &second], then);
+    for root in [3, 4] {
+        assert_eq!(then(&[copy((root, 1)), mov((root, 0))]), Ok(()));
+        let again = assign((root, 0), shared((0, 0)));
+        assert_eq!(then(&[again]), Ok(()));
+        assert_eq!(then(&[assign((root, 1), number(1))]), refused(36, 0));
+        // The other one still borrows both.
+        for written in [1, 2] {
+            assert_eq!(then(&[mov((root, 0)), mov((written, 0))]), refused(35, 1));
+        }
+    }
+    assert_eq!(then(&[mov((3, 0)), mov((4, 0)), mov((1, 0))]), Ok(()));
+    let gone = [&second[..], &[mov((2, 0))]].concat();
     for root in [3, 4] {
         let then = [copy((root, 1))];
-        assert_eq!(after(&before, [&first, &second], &then), refused(33, 0));
+        assert_eq!(after(&before, [&first, &gone], &then), refused(33, 0));
     }
 }
 

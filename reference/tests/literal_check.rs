@@ -4,7 +4,7 @@
 #[path = "literal_check/judge.rs"]
 mod judge;
 
-use judge::{literal_check, Seen};
+use judge::{check_recording, literal_check, Recording, Seen};
 use reference::{check, small_choices, Generator, Limits};
 
 type Make = fn(&mut Generator, &mut Vec<u32>);
@@ -65,6 +65,8 @@ fn the_check_agrees_under_any_set() {
         let limits = sets.limits_within();
         agrees_under(limits, seed, 30, Generator::accepted_rows);
         agrees_under(limits, seed, 60, Generator::mixed_rows);
+        agrees_under(limits, seed, 20, Generator::through_shared_rows);
+        agrees_under(limits, seed, 40, Generator::near_through_shared_rows);
     }
 }
 
@@ -72,6 +74,76 @@ fn the_check_agrees_under_any_set() {
 fn the_check_agrees_on_joined_rows() {
     agrees(26, 10_000, Generator::joined_rows);
     agrees(27, 30_000, Generator::near_joined_rows);
+}
+
+#[test]
+fn the_check_agrees_on_rows_through_shared_links() {
+    agrees(29, 10_000, Generator::through_shared_rows);
+    agrees(30, 30_000, Generator::near_through_shared_rows);
+}
+
+/// How many of these scripts are accepted and how many refused, and how many of
+/// each a check that records shared borrows in another way would answer
+/// otherwise.
+fn decided(seed: u64, count: usize, make: Make, other: Recording) -> [[usize; 2]; 2] {
+    let mut generator = Generator::new(seed);
+    let mut rows = Vec::new();
+    let mut counts = [[0; 2]; 2];
+    for _ in 0..count {
+        make(&mut generator, &mut rows);
+        let [rule, other] = [Recording::Rule, other].map(|recording| {
+            let answer = check_recording(recording, Limits::BASE, &rows);
+            answer.map(|(terms, _)| terms)
+        });
+        let counts = &mut counts[usize::from(rule.is_err())];
+        counts[0] += 1;
+        counts[1] += usize::from(rule != other);
+    }
+    counts
+}
+
+/// Most answers on scripts with shared borrows through shared links are others
+/// where these are recorded against the place that is named, and many where the
+/// first of the links counts.
+#[test]
+fn what_is_recorded_decides() {
+    let count = 5_000;
+    for (other, share) in [(Recording::Named, 70), (Recording::FirstLink, 30)] {
+        let due = |all: usize| all * share / 100;
+        let [accepted, refused] = decided(31, count, Generator::through_shared_rows, other);
+        assert_eq!((accepted[0], refused[0]), (count, 0));
+        assert!(accepted[1] > due(count), "{other:?}: {accepted:?}");
+        let make = Generator::near_through_shared_rows;
+        let [accepted, refused] = decided(32, count, make, other);
+        for [all, decided] in [accepted, refused] {
+            assert!(all > count / 10, "{other:?}: {accepted:?}, {refused:?}");
+            assert!(decided > due(all), "{other:?}: {accepted:?}, {refused:?}");
+        }
+    }
+}
+
+/// What is passed, and what is recorded, in accepted scripts of this kind.
+#[test]
+fn what_is_passed_shows() {
+    let mut generator = Generator::new(33);
+    let mut rows = Vec::new();
+    let mut counts = [0; 4];
+    for _ in 0..2_000 {
+        generator.through_shared_rows(&mut rows);
+        let seen = agree(Limits::BASE, &rows).expect("accepted");
+        let seen = [
+            seen.through_shared,
+            seen.through_several,
+            seen.follows_remain,
+            seen.recorded_several,
+        ];
+        for (count, seen) in counts.iter_mut().zip(seen) {
+            *count += u32::from(seen > 0);
+        }
+    }
+    let due = [1_800, 1_000, 800, 200];
+    let often = counts.iter().zip(due).all(|(count, due)| *count > due);
+    assert!(often, "{counts:?}");
 }
 
 /// Most accepted scripts with much to join come to what joining is about.
@@ -115,5 +187,5 @@ fn the_check_agrees_on_all_small_choices() {
         rows.resize(limits.row_numbers(), 0);
         accepted += u32::from(agree(limits, &rows).is_some());
     });
-    assert_eq!((count, accepted), (980_452, 52_336));
+    assert_eq!((count, accepted), (980_452, 55_431));
 }

@@ -29,6 +29,9 @@ pub(super) struct Author<'a> {
     pub(super) owed: usize,
     /// Terms that were taken back.
     pub(super) given_up: usize,
+    /// The root of a place that a shared borrow through a shared link named,
+    /// if there was one. It may be out of scope, or of a term taken back.
+    pub(super) passed: Option<u8>,
 }
 
 /// What an author goes by in a whole script.
@@ -58,6 +61,12 @@ pub(super) struct Habits {
     /// How often, in a hundred, a statement is one of those that make a
     /// difference where two blocks are joined.
     pub(super) joining: u32,
+    /// How often, in a hundred, a statement is one about shared borrows through
+    /// shared links.
+    pub(super) passing: u32,
+    /// Whether the last statement is one that is refused most often, for what
+    /// such borrows are recorded against.
+    pub(super) against_record: bool,
 }
 
 /// What a term gives, or nothing if the author gives the term up. What was
@@ -153,13 +162,14 @@ impl Author<'_> {
     /// What a refused term would give, as far as its type makes sense.
     fn value_all_the_same(&self, kind: u32, place: Place) -> Value {
         let chain = self.environment.chain(place.root).after(place.follows);
-        let borrow = |link| {
-            let borrowed = Roots::one(place.root);
-            chain.behind(link).map(|chain| Value { chain, borrowed })
-        };
+        let borrow = |link, borrowed| chain.behind(link).map(|chain| Value { chain, borrowed });
+        let root = Roots::one(place.root);
         let value = match kind {
-            SHARED => borrow(Link::Shared),
-            EXCLUSIVE => borrow(Link::Exclusive),
+            SHARED => {
+                let recorded = self.environment.recorded(place);
+                borrow(Link::Shared, recorded.unwrap_or(root))
+            }
+            EXCLUSIVE => borrow(Link::Exclusive, root),
             _ if chain.is_number() => None,
             _ => self.environment.locate(place).map(|owners| Value {
                 chain,

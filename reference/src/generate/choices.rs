@@ -11,7 +11,7 @@ use crate::ownership::environment::{Place, Value};
 /// The statements that begin a script in which much is joined.
 pub(super) const OPENING: u32 = 6;
 
-fn place_of(root: u8) -> Place {
+pub(super) fn place_of(root: u8) -> Place {
     Place { root, follows: 0 }
 }
 
@@ -54,6 +54,7 @@ impl Author<'_> {
         let alike = match last {
             _ if self.careless() => Last::Any,
             Last::Nothing => Last::Nothing,
+            Last::Through(_) if self.random.percent(70) => Last::Through(first.chain),
             _ => Last::Like(first.chain),
         };
         let second = self.branch(levels - 1, alike)?;
@@ -94,7 +95,7 @@ impl Author<'_> {
     }
 
     /// A number in so many boxes, or in a few.
-    fn number_in_boxes(&mut self, boxes: Option<u32>, levels: u32) -> Written {
+    pub(super) fn number_in_boxes(&mut self, boxes: Option<u32>, levels: u32) -> Written {
         let few = self.random.pick(&[0, 0, 1, 1, 2]);
         let boxes = boxes.unwrap_or(few);
         if boxes >= levels {
@@ -128,7 +129,7 @@ impl Author<'_> {
 
     /// A variable in scope with links as they are asked for, each one equally
     /// likely.
-    fn variable_with(&mut self, wanted: impl Fn(Chain) -> bool) -> Option<u8> {
+    pub(super) fn variable_with(&mut self, wanted: impl Fn(Chain) -> bool) -> Option<u8> {
         let mut found = None;
         let mut count = 0;
         for &variable in self.environment.variables_in_scope() {

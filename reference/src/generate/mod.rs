@@ -15,6 +15,7 @@ mod scripts;
 mod shape;
 mod small;
 mod statements;
+mod through_shared;
 mod versions;
 
 use crate::form::Row;

@@ -8,6 +8,7 @@ use super::operands;
 use super::plan::MIDDLING;
 use super::rows::flatten;
 use super::statements::NARROW;
+use super::through_shared::LINKS;
 use super::versions;
 use super::Generator;
 use crate::form::MAX_COUNT;
@@ -54,6 +55,20 @@ impl Generator {
         self.author_with(habits, 2);
     }
 
+    /// Writes terms of version 2 about shared borrows through shared links.
+    fn passing_author(&mut self, against_record: bool) {
+        let habits = Habits {
+            statements: LINKS + self.random.between(1, 8),
+            patience: 1_500,
+            nesting: 3,
+            choosing: 10,
+            passing: 75,
+            against_record,
+            ..self.habits(0)
+        };
+        self.author_with(habits, 2);
+    }
+
     fn author_with(&mut self, habits: Habits, version: u32) {
         Author {
             random: &mut self.random,
@@ -65,6 +80,7 @@ impl Generator {
             boxes: self.limits.boxes,
             owed: 0,
             given_up: 0,
+            passed: None,
         }
         .script(self.limits.levels);
     }
@@ -89,6 +105,8 @@ impl Generator {
             nesting: 10,
             choosing: random.pick(&[0, 5, 10, 20]),
             joining: 0,
+            passing: 0,
+            against_record: false,
         };
         let often = if terms <= SMALL { 20 } else { 1 };
         match random.below(200) {
@@ -164,11 +182,30 @@ impl Generator {
         flatten(self.limits, &self.terms, out);
     }
 
+    /// Rows of a script that the check accepts, with shared borrows through
+    /// shared links, and uses of the variables that these pass.
+    pub fn through_shared_rows(&mut self, out: &mut Vec<u32>) {
+        self.passing_author(false);
+        flatten(self.limits, &self.terms, out);
+    }
+
+    /// Such rows with a last statement that is refused most often for what the
+    /// borrows are recorded against, or after an edit.
+    pub fn near_through_shared_rows(&mut self, out: &mut Vec<u32>) {
+        let edited = self.random.percent(30);
+        let against_record = !edited || self.random.percent(50);
+        self.passing_author(against_record);
+        self.edit(2, edited as u32);
+        flatten(self.limits, &self.terms, out);
+    }
+
     /// Rows for check and machine: every answer of both occurs.
     pub fn mixed_rows(&mut self, out: &mut Vec<u32>) {
         match self.random.below(100) {
             0..=24 => self.accepted_rows(out),
-            25..=49 => self.near_miss_rows(out),
+            25..=44 => self.near_miss_rows(out),
+            45 | 46 => self.through_shared_rows(out),
+            47..=49 => self.near_through_shared_rows(out),
             50..=54 => self.joined_rows(out),
             55..=64 => self.near_joined_rows(out),
             65..=89 => self.wild_rows(out),
@@ -197,7 +234,8 @@ impl Generator {
     pub fn input(&mut self, out: &mut Vec<u8>) {
         match self.random.below(100) {
             0..=29 => self.accepted(),
-            30..=39 => self.joining_author(0),
+            30..=36 => self.joining_author(0),
+            37..=39 => self.passing_author(false),
             40..=69 => self.near_miss(),
             70..=84 => self.wild(),
             _ => self.terms.clear(),

@@ -3,6 +3,7 @@
 
 use super::author::{row_at, Author, Written};
 use super::choices::OPENING;
+use super::through_shared::LINKS;
 use crate::form::*;
 use crate::ownership::chain::Chain;
 use crate::ownership::environment::{Place, Value};
@@ -16,6 +17,8 @@ pub(super) const NARROW: u32 = 4;
 pub(super) enum Last {
     Any,
     Like(Chain),
+    /// A shared borrow of this type through a shared link.
+    Through(Chain),
     Nothing,
 }
 
@@ -49,6 +52,18 @@ impl Author<'_> {
                 // A choice, and something by which it shows.
                 _ if index == OPENING + 1 => author.choice_dropped(levels),
                 _ => author.write_through(levels),
+            });
+        }
+        if self.habits.passing > 0 && index <= LINKS {
+            return self.or_number(|author| author.links(index, levels));
+        }
+        if self.habits.against_record && index == self.habits.statements {
+            return self.or_number(|author| author.against_record(levels));
+        }
+        if self.habits.against_record && index + 1 == self.habits.statements {
+            return self.or_number(|author| match author.random.percent(30) {
+                true => author.part(levels),
+                false => author.passing_statement(levels),
             });
         }
         let widest = self.habits.widest;
@@ -113,6 +128,9 @@ impl Author<'_> {
             }
             if !few && author.random.percent(author.habits.joining) {
                 return author.joining_statement(levels);
+            }
+            if author.habits.passing > 0 && author.random.percent(author.habits.passing) {
+                return author.passing_statement(levels);
             }
             match author.random.below(100) {
                 choice if choice < lets => author.declare(levels),
@@ -223,6 +241,7 @@ impl Author<'_> {
         }
         let value = match last {
             Last::Like(chain) => self.value_like(chain, levels - 1)?,
+            Last::Through(chain) => self.through_like(chain, levels - 1)?,
             Last::Nothing => {
                 self.tried(4, |author| author.without_value(levels - 1))?;
                 Value::NUMBER

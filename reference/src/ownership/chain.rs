@@ -57,11 +57,25 @@ impl Chain {
         self.passed(follows) & HIGH != 0
     }
 
+    /// Of the shared links that a place passes, the high bits.
     #[inline]
-    pub(crate) fn passes_shared(self, follows: u8) -> bool {
+    fn shared_passed(self, follows: u8) -> u16 {
         let passed = self.passed(follows);
         // A shared link is a pair with its high bit set and its low bit not.
-        passed & HIGH & !(passed << 1) != 0
+        passed & HIGH & !(passed << 1)
+    }
+
+    #[inline]
+    pub(crate) fn passes_shared(self, follows: u8) -> bool {
+        self.shared_passed(follows) != 0
+    }
+
+    /// The number of the last shared link that a place passes, if it passes
+    /// one.
+    #[inline]
+    pub(crate) fn last_shared(self, follows: u8) -> Option<u8> {
+        let shared = self.shared_passed(follows);
+        (shared != 0).then(|| ((15 - shared.leading_zeros()) / 2) as u8)
     }
 
     #[inline]
@@ -129,6 +143,8 @@ mod tests {
                 assert_eq!(packed.passes_borrow(follows), borrow);
                 let shared = passed.contains(&Link::Shared);
                 assert_eq!(packed.passes_shared(follows), shared);
+                let last = passed.iter().rposition(|link| *link == Link::Shared);
+                assert_eq!(packed.last_shared(follows), last.map(|link| link as u8));
             }
             if links.len() < 5 {
                 all.extend(kinds.map(|kind| [&links[..], &[kind]].concat()));
@@ -144,6 +160,8 @@ mod tests {
             assert_eq!(full.links(), 8);
             assert_eq!(full.after(8), Chain::NUMBER);
             assert_eq!(full.passes_borrow(8), link != Link::Box);
+            let last = (link == Link::Shared).then_some(7);
+            assert_eq!(full.last_shared(8), last);
             assert_eq!(full.behind(Link::Box), None);
         }
     }

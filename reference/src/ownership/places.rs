@@ -2,7 +2,7 @@
 //! to 3.22, 3.25, 3.27). Errors are the refusal numbers, tested in the order in
 //! which the rules list them (3.17).
 
-use super::chain::Link;
+use super::chain::{Chain, Link};
 use super::environment::{Environment, Place, Value};
 use super::roots::Roots;
 use crate::refusal::*;
@@ -51,13 +51,27 @@ impl<const VARIABLES: usize> Environment<VARIABLES> {
         if !chain.starts_shared() {
             return Err(NOT_COPIED);
         }
-        // A value that starts with a shared link starts with the first borrow
-        // link of the variable that owns it.
-        let owners = self.locate(place).ok_or(MOVED_AWAY)?;
-        Ok(Value {
-            chain,
-            borrowed: self.borrowed(owners),
-        })
+        let borrowed = self.borrowed_at(place).ok_or(MOVED_AWAY)?;
+        Ok(Value { chain, borrowed })
+    }
+
+    /// The roots of the places that the shared link at a place may stand for.
+    /// It is the first borrow link of each variable that may own it.
+    #[inline]
+    fn borrowed_at(&self, place: Place) -> Option<Roots> {
+        self.locate(place).map(|owners| self.borrowed(owners))
+    }
+
+    /// The roots of the places that a shared borrow of a place is recorded
+    /// against (LANGUAGE 3.21): where shared links are passed, of what the last
+    /// of them borrows. The follows that remain are known with each root, as
+    /// the recorded places lead to the type that the named one leads to.
+    #[inline]
+    pub(crate) fn recorded(&self, place: Place) -> Option<Roots> {
+        match self.chain(place.root).last_shared(place.follows) {
+            Some(follows) => self.borrowed_at(Place { follows, ..place }),
+            None => Some(Roots::one(place.root)),
+        }
     }
 
     pub(crate) fn move_out(&mut self, place: Place) -> Result<Value, u32> {
@@ -79,7 +93,11 @@ impl<const VARIABLES: usize> Environment<VARIABLES> {
 
     pub(crate) fn borrow_shared(&self, place: Place) -> Result<Value, u32> {
         self.judge_read(place)?;
-        self.borrow(place, Link::Shared)
+        // All tests are about the named place, also where another one is
+        // recorded.
+        let chain = self.borrow_chain(place, Link::Shared)?;
+        let borrowed = self.recorded(place).ok_or(MOVED_AWAY)?;
+        Ok(Value { chain, borrowed })
     }
 
     pub(crate) fn borrow_exclusive(&self, place: Place) -> Result<Value, u32> {
@@ -91,19 +109,17 @@ impl<const VARIABLES: usize> Environment<VARIABLES> {
         if self.writing_barred(place.root) {
             return Err(WRITING_BARRED);
         }
-        self.borrow(place, Link::Exclusive)
+        Ok(Value {
+            chain: self.borrow_chain(place, Link::Exclusive)?,
+            borrowed: Roots::one(place.root),
+        })
     }
 
+    /// The type of a borrow of a place.
     #[inline]
-    fn borrow(&self, place: Place, link: Link) -> Result<Value, u32> {
+    fn borrow_chain(&self, place: Place, link: Link) -> Result<Chain, u32> {
         let chain = self.chain(place.root).after(place.follows);
-        match chain.behind(link) {
-            Some(chain) => Ok(Value {
-                chain,
-                borrowed: Roots::one(place.root),
-            }),
-            None => Err(TOO_MANY_LINKS),
-        }
+        chain.behind(link).ok_or(TOO_MANY_LINKS)
     }
 
     /// The rules of an assign once its right side has given a value.

@@ -167,6 +167,35 @@ pub fn tidy_under(limits: Limits, cells: u32) -> Vec<u32> {
     store
 }
 
+/// What the check says of these terms and a number after them, counted from
+/// the first of those that come then.
+pub fn behind(before: &[Term], then: &[Term]) -> Result<(), Refusal> {
+    let mut rows = vec![0; ROWS_LEN];
+    let read = read(LIMITS, NEWEST, &script_of(2, before), &mut rows).expect("a script");
+    safe(&[before, then, &[number(1)]].concat()).map_err(|refusal| Refusal {
+        place: refusal
+            .place
+            .checked_sub(read.terms)
+            .expect("refused after what stands before"),
+        ..refusal
+    })
+}
+
+/// What the check says; what it accepts must run by both ways.
+pub fn safe(terms: &[Term]) -> Result<(), Refusal> {
+    let answer = judge(terms);
+    let rows = rows_of(&script_of(2, terms));
+    for reading in [0, 1] {
+        let mut store = junk(LIMITS);
+        let ran = run(LIMITS, &rows, &[reading; 8], &mut store);
+        assert_eq!(ran.map(|_| ()), answer);
+        if let Ok(ran) = ran {
+            assert_eq!(store, tidy(ran.cells));
+        }
+    }
+    answer
+}
+
 /// The rows with a block in place of each choice that runs one of its two
 /// blocks, the first where `first` says so, whatever number is at its place.
 pub fn chosen(rows: &[u32], first: &mut dyn FnMut() -> bool) -> Vec<u32> {

@@ -2,66 +2,29 @@
 //! text of the rules instead of speed: chains as lists, and every question
 //! about borrows answered by looking at every variable.
 
+mod state;
+
 use reference::{judge_rows, Limits};
-use std::collections::BTreeSet;
+use state::Link::*;
+use state::{Link, Place, Places, Value, Variable};
 
 pub type Refused = (u32, u32);
-type Place = (u32, usize);
-type Places = BTreeSet<Place>;
 
-#[derive(Clone, Copy, Debug, PartialEq)]
-enum Link {
-    Box,
-    Shared,
-    Exclusive,
-}
-use Link::*;
-
-#[derive(Clone, Debug)]
-struct Value {
-    chain: Vec<Link>,
-    /// The places that the first borrow link may stand for.
-    borrowed: Places,
+/// What a shared borrow is recorded against: by the rule, or as it could be
+/// misread.
+#[derive(Clone, Copy, Debug, PartialEq, Eq)]
+pub enum Recording {
+    /// What the last shared link passed borrows, with the follows that remain.
+    Rule,
+    /// The place that is named, as exclusive borrows are.
+    Named,
+    /// What the first shared link passed borrows, with the follows that remain.
+    FirstLink,
+    /// What the last shared link passed borrows, without any more follows.
+    WithoutFollows,
 }
 
-#[derive(Clone)]
-struct Variable {
-    number: u32,
-    chain: Vec<Link>,
-    borrowed: Places,
-    moved: Option<usize>,
-    block: usize,
-}
-
-impl Variable {
-    fn first_borrow(&self) -> Option<usize> {
-        self.chain.iter().position(|link| *link != Box)
-    }
-
-    fn is_moved(&self, link: usize) -> bool {
-        self.moved.is_some_and(|from| from <= link)
-    }
-
-    /// Whether it holds a borrow of a place with this root, and exclusively.
-    fn holds(&self, root: u32) -> Option<Link> {
-        let link = self.first_borrow()?;
-        let borrows = self.borrowed.iter().any(|place| place.0 == root);
-        (borrows && !self.is_moved(link)).then_some(self.chain[link])
-    }
-
-    /// What it is after either of two blocks.
-    fn join(&mut self, other: &Variable) {
-        self.moved = match (self.moved, other.moved) {
-            (Some(one), Some(two)) => Some(one.min(two)),
-            (one, two) => one.or(two),
-        };
-        self.borrowed.extend(&other.borrowed);
-        let roots: BTreeSet<u32> = self.borrowed.iter().map(|place| place.0).collect();
-        assert_eq!(roots.len(), self.borrowed.len(), "one place for each root");
-    }
-}
-
-/// How often something happened that only choices bring about.
+/// How often something happened.
 #[derive(Default, Debug)]
 pub struct Seen {
     /// A variable moved away after one block, not after the other.
@@ -73,6 +36,12 @@ pub struct Seen {
     pub several_written_borrows: u32,
     /// A place met again while following.
     pub met_again: u32,
+    /// A shared borrow through shared links, and one through several of them,
+    /// one with follows that remain, one recorded against several places.
+    pub through_shared: u32,
+    pub through_several: u32,
+    pub follows_remain: u32,
+    pub recorded_several: u32,
 }
 
 struct Judge<'a> {
@@ -82,6 +51,7 @@ struct Judge<'a> {
     in_scope: Vec<Variable>,
     /// The terms of the blocks around, outermost first.
     blocks: Vec<usize>,
+    recording: Recording,
     seen: Seen,
 }
 
@@ -207,9 +177,44 @@ impl Judge<'_> {
         Ok(Value { chain, borrowed })
     }
 
+    /// The places that a shared borrow of a whole place is recorded against.
+    /// Going along the named place link by link, a shared link puts what it
+    /// borrows in the stead of all that was before it, and every other link is
+    /// one more to follow.
+    fn recorded(&mut self, named: Place) -> Places {
+        let passed = self.passed(named);
+        let mut recorded = Places::from([(named.0, 0)]);
+        let mut met = 0;
+        for (at, link) in passed.iter().enumerate() {
+            let counts = match self.recording {
+                Recording::Named => false,
+                Recording::FirstLink => met == 0,
+                _ => true,
+            };
+            met += u32::from(*link == Shared);
+            recorded = if *link == Shared && counts {
+                let ends = self.follow((named.0, at)).expect("a whole place");
+                let borrowed = ends.iter().map(|(root, _)| &self.variable(*root).borrowed);
+                borrowed.flatten().copied().collect()
+            } else {
+                let forgotten = met > 0 && self.recording == Recording::WithoutFollows;
+                let more = usize::from(!forgotten);
+                let places = recorded.into_iter();
+                places.map(|(root, at)| (root, at + more)).collect()
+            };
+        }
+        self.seen.through_shared += u32::from(met > 0);
+        self.seen.through_several += u32::from(met > 1);
+        self.seen.follows_remain += u32::from(met > 0 && passed.last() != Some(&Shared));
+        self.seen.recorded_several += u32::from(recorded.len() > 1);
+        recorded
+    }
+
     fn borrow(&mut self, place: Place, link: Link) -> Result<Value, u32> {
+        let mut borrowed = Places::from([place]);
         if link == Shared {
             self.readable(place)?;
+            borrowed = self.recorded(place);
         } else {
             self.place(place)?;
             rule(self.whole(place), 33)?;
@@ -219,10 +224,7 @@ impl Judge<'_> {
         let mut chain = vec![link];
         chain.extend(self.chain_at(place));
         rule(chain.len() <= 8, 42)?;
-        Ok(Value {
-            chain,
-            borrowed: Places::from([place]),
-        })
+        Ok(Value { chain, borrowed })
     }
 
     fn number_at(&mut self, place: Place) -> Result<(), u32> {
@@ -354,6 +356,15 @@ impl Judge<'_> {
 
 /// The number of terms, with what was seen before that.
 pub fn literal_check(limits: Limits, rows: &[u32]) -> Result<(u32, Seen), Refused> {
+    check_recording(Recording::Rule, limits, rows)
+}
+
+/// The same with shared borrows recorded in a way that may not be the rule's.
+pub fn check_recording(
+    recording: Recording,
+    limits: Limits,
+    rows: &[u32],
+) -> Result<(u32, Seen), Refused> {
     let terms = judge_rows(limits, rows).map_err(|refusal| (refusal.number, refusal.place))?;
     let mut judge = Judge {
         rows: rows.chunks(5).collect(),
@@ -361,6 +372,7 @@ pub fn literal_check(limits: Limits, rows: &[u32]) -> Result<(u32, Seen), Refuse
         taken: vec![],
         in_scope: vec![],
         blocks: vec![],
+        recording,
         seen: Seen::default(),
     };
     match judge.term()? {
