@@ -5,19 +5,21 @@
 //! cases of each kind under the language's own set, and as many again under
 //! other sets together: the least, a small and an uneven one, the largest, any
 //! in the ranges and any outside them. It compares answers, places and whole
-//! buffers: scripts read, with every version known and with others; rows judged,
-//! and written in each version; rows checked, run and run unchecked that were
-//! steered to be accepted, near misses of those, wild ones and any ones; scripts
-//! of each kind called; the same of scripts that all have a sum, and of scripts
-//! that all have a choice whose branches leave variables differently, with
-//! readings for both branches; full scripts of the largest set; all small
-//! scripts over a small alphabet, all small ones with a choice, and all short
-//! sequences of rows with choices. Of some scripts with sums and choices plain
-//! arithmetic tells the answer too. It also compares the library with itself: a
-//! run with the check and the unchecked run, a call with read and then run, one
-//! set with a larger one, sums with belows, a choice with the branch that runs,
-//! and with its branches in the other order. A longer run, or one with other
-//! cases, takes its seed and its number of cases from the environment:
+//! buffers: scripts read, with every version known and with others; rows
+//! judged, and written in each version; rows checked, run and run unchecked
+//! that were steered to be accepted, near misses of those, wild ones and any
+//! ones; scripts of each kind called; the same of scripts that all have a sum,
+//! and of scripts that all have a choice whose branches leave variables
+//! differently, with readings for both branches; of scripts made for shared
+//! borrows through shared links, and for what such borrows are recorded
+//! against; full scripts of the largest set; all small scripts over a small
+//! alphabet, all small ones with a choice, and all short sequences of rows with
+//! choices. Of some scripts with sums and choices plain arithmetic tells the
+//! answer too. It also compares the library with itself: a run with the check
+//! and the unchecked run, a call with read and then run, one set with a larger
+//! one, sums with belows, a choice with the branch that runs, and with its
+//! branches in the other order. A longer run, or one with other cases, takes
+//! its seed and its number of cases from the environment:
 //!
 //! ```text
 //! ROOMSCRIPT_SEED=7 ROOMSCRIPT_CASES=5000000 \
@@ -71,6 +73,8 @@ mod scripts;
 mod sets;
 #[path = "comparison/sums.rs"]
 mod sums;
+#[path = "comparison/through_shared.rs"]
+mod through_shared;
 #[path = "comparison/versions.rs"]
 mod versions;
 #[path = "comparison/whole.rs"]

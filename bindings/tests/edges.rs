@@ -50,6 +50,8 @@ mod limits;
 mod listed;
 #[path = "edges/listed_choices.rs"]
 mod listed_choices;
+#[path = "edges/listed_reborrows.rs"]
+mod listed_reborrows;
 #[path = "edges/places.rs"]
 mod places;
 #[path = "edges/ranges.rs"]
@@ -66,6 +68,10 @@ mod running;
 mod scope;
 #[path = "edges/sums.rs"]
 mod sums;
+#[path = "edges/through_several.rs"]
+mod through_several;
+#[path = "edges/through_shared.rs"]
+mod through_shared;
 #[path = "edges/variables.rs"]
 mod variables;
 #[path = "edges/versions.rs"]

@@ -39,7 +39,7 @@ pub fn listed() -> Vec<Example> {
         (e3(), "refused 33 at 6"),
         (e9(), "refused 37 at 5"),
         (e10(9), "refused 42 at 2"),
-        (e11(), "refused 40 at 8"),
+        (e11(), "accepted 13 call 2 cells 0"),
     ];
     let mut listed: Vec<Example> = (1..)
         .zip(scripts)

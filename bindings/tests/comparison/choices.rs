@@ -31,7 +31,7 @@ fn make_with_choices(make: Make, generator: &mut Generator) -> Vec<u32> {
 
 /// Half of them 0, and then the others, so that a choice on a reading takes
 /// either branch.
-fn two_readings(random: &mut Random) -> [Vec<i32>; 2] {
+pub fn two_readings(random: &mut Random) -> [Vec<i32>; 2] {
     let value = |random: &mut Random| match random.below(3) {
         0 => random.pick(&[i32::MIN, -1, 1, i32::MAX]),
         _ => random.between(1, 400) as i32,

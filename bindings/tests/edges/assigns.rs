@@ -118,11 +118,17 @@ fn a_block_keeps_its_own_variables() {
     // The inner block is named, not those around it.
     let nested = [block(&[block(&[let_(2, number(3)), shared((2, 0))])])];
     assert_eq!(with_two(&nested), refused(40, 6));
-    // The borrowed place's root counts, whatever that borrows.
-    let through = |last: Term| with_two(&[block(&[let_(2, shared((0, 0))), last])]);
-    assert_eq!(through(shared((2, 1))), refused(40, 5));
-    assert_eq!(through(copy((2, 0))), Ok(()));
-    assert_eq!(through(mov((2, 0))), Ok(()));
+    // Through a shared link it is a borrow of what that borrows, as a copy is.
+    let through = |borrow: fn(Place) -> Term, last: Term| {
+        with_two(&[block(&[let_(2, borrow((0, 0))), last])])
+    };
+    for last in [shared((2, 1)), copy((2, 0)), mov((2, 0))] {
+        assert_eq!(through(shared, last), Ok(()));
+    }
+    // Through an exclusive link the named root counts, whatever that borrows.
+    assert_eq!(through(exclusive, shared((2, 1))), refused(40, 5));
+    assert_eq!(through(exclusive, exclusive((2, 1))), refused(40, 5));
+    assert_eq!(through(exclusive, mov((2, 0))), Ok(()));
 }
 
 #[test]
@@ -187,10 +193,7 @@ fn the_new_value_is_in_place_when_writing_is_judged() {
     // The old borrow is gone by then, and the new one is there.
     let again = [assign((2, 0), shared((0, 0))), assign((1, 0), number(3))];
     assert_eq!(with_borrow(&again), Ok(()));
-    assert_eq!(
-        with_borrow(&[assign((2, 0), shared((2, 1)))]),
-        refused(35, 7)
-    );
+    assert_eq!(with_borrow(&[assign((2, 0), shared((2, 1)))]), Ok(()));
     let held = [let_(3, shared((2, 0))), assign((2, 0), shared((1, 0)))];
     assert_eq!(with_borrow(&held), refused(35, 9));
     // The right side is judged while the old one is held.
@@ -199,6 +202,13 @@ fn the_new_value_is_in_place_when_writing_is_judged() {
     assert_eq!(exclusively(exclusive((1, 0))), Ok(()));
     assert_eq!(exclusively(exclusive((2, 1))), refused(35, 7));
     // Through *v3 the variable v2 would come to borrow from v3, its borrower.
-    let round = [let_(3, exclusive((2, 0))), assign((3, 1), shared((3, 2)))];
-    assert_eq!(with_borrow(&round), refused(35, 9));
+    let round = [
+        let_(2, exclusive((0, 0))),
+        let_(3, exclusive((2, 0))),
+        assign((3, 1), exclusive((3, 2))),
+    ];
+    assert_eq!(with_two(&round), refused(35, 9));
+    // A shared borrow is of what v2 borrows already.
+    let again = [let_(3, exclusive((2, 0))), assign((3, 1), shared((3, 2)))];
+    assert_eq!(with_borrow(&again), Ok(()));
 }

@@ -86,5 +86,5 @@ fn e10_has_a_link_too_many() {
 
 #[test]
 fn e11_borrows_through_an_inner_borrow() {
-    refuses(&e11(), 40, 8);
+    accepted(&e11(), 13, 2, 0);
 }

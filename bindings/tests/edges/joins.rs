@@ -203,33 +203,54 @@ fn a_write_that_may_land_in_several() {
     assert_eq!(through(copy((5, 2))), Ok(()));
 }
 
+/// v3 to v1 and v4 to v2.
+fn two_borrows(borrow: fn(Place) -> Term) -> Vec<Term> {
+    let both = [let_(3, borrow((1, 0))), let_(4, borrow((2, 0)))];
+    then(&two_numbers(), &both)
+}
+
 /// v3 and v4 borrow through each other, one after each branch.
 #[test]
 fn a_circle() {
-    let before = |borrow: fn(Place) -> Term| {
-        let both = [let_(3, borrow((1, 0))), let_(4, borrow((2, 0)))];
-        then(&two_numbers(), &both)
-    };
-    for (borrow, reads, writes) in [
-        (shared as fn(Place) -> Term, Ok(()), 36),
-        (exclusive, refused(34, 0), 35),
-    ] {
-        let first = [assign((3, 0), borrow((4, 1)))];
-        let second = [assign((4, 0), borrow((3, 1)))];
-        let more = |term: Term| after(&before(borrow), [&first, &second], &[term]);
-        for root in [3, 4] {
-            assert_eq!(more(copy((root, 1))), reads);
-            assert_eq!(more(shared((root, 1))), reads);
-            assert_eq!(more(mov((root, 0))), refused(35, 0));
-            assert_eq!(more(assign((root, 1), one())), refused(writes, 0));
-        }
+    let first = [assign((3, 0), exclusive((4, 1)))];
+    let second = [assign((4, 0), exclusive((3, 1)))];
+    let before = two_borrows(exclusive);
+    let more = |term: Term| after(&before, [&first, &second], &[term]);
+    for root in [3, 4] {
+        assert_eq!(more(copy((root, 1))), refused(34, 0));
+        assert_eq!(more(shared((root, 1))), refused(34, 0));
+        assert_eq!(more(mov((root, 0))), refused(35, 0));
+        assert_eq!(more(assign((root, 1), one())), refused(35, 0));
     }
     // With v2 moved away in it neither can be used.
-    let first = [assign((3, 0), shared((4, 1)))];
-    let second = [assign((4, 0), shared((3, 1))), mov((2, 0))];
+    let second = then(&second, &[mov((2, 0))]);
     for root in [3, 4] {
-        let more = [copy((root, 1))];
-        let answer = after(&before(shared), [&first, &second], &more);
+        let answer = after(&before, [&first, &second], &[copy((root, 1))]);
+        assert_eq!(answer, refused(33, 0));
+    }
+}
+
+/// Shared borrows through each other are of what the other borrows: each may
+/// borrow v1 and v2 afterwards, and neither is borrowed itself.
+#[test]
+fn no_circle_of_shared_borrows() {
+    let first = [assign((3, 0), shared((4, 1)))];
+    let second = [assign((4, 0), shared((3, 1)))];
+    let before = two_borrows(shared);
+    let more = |terms: &[Term]| after(&before, [&first, &second], terms);
+    for root in [3, 4] {
+        assert_eq!(more(&[copy((root, 1)), mov((root, 0))]), Ok(()));
+        assert_eq!(more(&[assign((root, 0), shared((0, 0)))]), Ok(()));
+        assert_eq!(more(&[assign((root, 1), one())]), refused(36, 0));
+        for written in [1, 2] {
+            let terms = [mov((root, 0)), mov((written, 0))];
+            assert_eq!(more(&terms), refused(35, 1));
+        }
+    }
+    assert_eq!(more(&[mov((3, 0)), mov((4, 0)), mov((1, 0))]), Ok(()));
+    let second = then(&second, &[mov((2, 0))]);
+    for root in [3, 4] {
+        let answer = after(&before, [&first, &second], &[copy((root, 1))]);
         assert_eq!(answer, refused(33, 0));
     }
 }

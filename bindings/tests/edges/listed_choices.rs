@@ -1,5 +1,5 @@
-//! The scripts with choices that LANGUAGE 8.9 lists, and those that tell the
-//! decisions on choices apart.
+//! The scripts with choices that LANGUAGE 8.9 lists, but for those in
+//! `listed_reborrows`, and those that tell the decisions on choices apart.
 
 use crate::choosing::{by_reading, runs_either_way};
 use crate::common::terms::*;
@@ -114,15 +114,6 @@ fn listed_borrows() {
     ];
     gives(&then(&two_boxes(), &written), [7, 7], 2);
     let references = || [let_(3, shared((1, 0))), let_(4, shared((2, 0)))];
-    let circle = [
-        choose(
-            &[assign((3, 0), shared((4, 1))), one()],
-            &[assign((4, 0), shared((3, 1))), one()],
-        ),
-        copy((3, 1)),
-    ];
-    let terms = [&two_numbers()[..], &references(), &circle].concat();
-    gives(&terms, [2, 1], 0);
     let copied = [
         let_(5, choose(&[shared((3, 0))], &[shared((4, 0))])),
         let_(6, copy((5, 1))),
