@@ -10,6 +10,7 @@ mod choices;
 mod large;
 mod measure;
 mod operations;
+mod reborrows;
 mod report;
 mod scripts;
 mod stack;

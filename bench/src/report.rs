@@ -4,6 +4,7 @@ use crate::choices;
 use crate::large;
 use crate::measure::{measure, Measured, BATCH, PAIRS};
 use crate::operations::{Stage, OPERATIONS};
+use crate::reborrows;
 use crate::scripts::{full, mixed, with_sums, E1};
 use crate::table::Table;
 use roomscript::Limits;
@@ -25,8 +26,9 @@ pub fn conditions() -> String {
 }
 
 /// Three scripts from small to full under the language's own set, a mixture of
-/// all terms under the largest, two scripts with sums, as large as the second
-/// and the third, and such scripts with choices: small, as large as the second
+/// all terms under the largest, two scripts with sums and two with borrows
+/// through shared borrows, as large as the second and the third, and such
+/// scripts with choices: small, as large as the second
 /// and the third, nested, and with many variables that borrow.
 fn scripts() -> Vec<(&'static str, Limits, Vec<u8>)> {
     vec![
@@ -36,6 +38,8 @@ fn scripts() -> Vec<(&'static str, Limits, Vec<u8>)> {
         ("largest", Limits::LARGEST, large::mixed(4096)),
         ("sums, middling", Limits::BASE, with_sums(60)),
         ("sums, full", Limits::BASE, with_sums(512)),
+        ("reborrows, middling", Limits::BASE, reborrows::mixed(60)),
+        ("reborrows, full", Limits::BASE, reborrows::mixed(512)),
         ("choice, small", Limits::BASE, choices::small()),
         ("choices, middling", Limits::BASE, choices::mixed(60)),
         ("choices, full", Limits::BASE, choices::mixed(512)),
