@@ -1,22 +1,24 @@
 -- A value that is whole has a whole path: on the way to its end each variable is met that is met on the way to the place, and nothing of
 -- them is moved away. So where the value must be whole (33), the place need not be followed.
-use Prim.Native.Nat.{ℕ, _-_, _≤_, _<_}
+use Prim.Native.Nat.{ℕ, suc, _-_, _≤_, _<_}
 use native.Mathlib.Omega.{arith}
 use native.Mathlib.Decide.{decLt}
 use mathlib.Core.Path.{_≡_, refl, sym, ap, _∙_}
 use mathlib.Core.Bool.{Bool, true, false, false≢true}
-use mathlib.Core.List.{List}
-use lib.ListN.{length}
+use mathlib.Core.Option.{Option, none, some}
+use mathlib.Core.List.{List, [], _∷_}
+use lib.ListN.{length, take}
 use borrow.Author.Tests.{ltb-true, le-leb, lt-leb}
 use Rattle.reader.specs.Result.{ok, err, need, _>>=_, pick}
 use Rattle.reader.specs.Script.{Place}
-use Rattle.rules.specs.Links.{leadingBoxes}
+use Rattle.rules.specs.Links.{leadingBoxes, lastShared}
 use Rattle.rules.specs.Places.{every, rooted}
-use Rattle.rules.specs.Environment.{places, Variable, Slot, free, used, live, Environment, holding}
-use Rattle.rules.specs.Follow.{isBorrow, ownPath, wholeSlot, valueWhole}
-use Rattle.rules.specs.Rules.{Judged, Located, judgePlace}
+use Rattle.rules.specs.Environment.{places, Variable, Slot, free, used, live, Environment, holding, borrowsAt}
+use Rattle.rules.specs.Follow.{past, isBorrow, ownPath, wholeSlot, valueWhole}
+use Rattle.rules.specs.Rules.{Judged, Located, judgePlace, judgeRecorded}
 use Rattle.rules.specs.Neat.{place, Neat}
 use Rattle.rules.specs.Roots.{linksOf, lengths, placesOf, leads, MetFrom}
+use Rattle.rules.proofs.LinkChains.{last-at}
 use Rattle.rules.proofs.FollowBound.{all-met}
 use Rattle.rules.proofs.StepLaws.{is-linked}
 use Rattle.rules.proofs.FollowRoots.{located, leads-out, leads-in, roots-met, place-by-roots, whole-by-roots, every-root}
@@ -86,3 +88,13 @@ module _ {nv : ℕ} {Γ : Environment} {level : ℕ} (N : Neat nv Γ level) (p :
           → (judgePlace nv Γ i p >>= λ l. need (valueWhole nv Γ (p .root) (l .root)) (33, i) >>= λ _. next l) ≡ err (33, i)
       go true to e = rw (e, h)
       go false to e = rw e
+
+-- So what a shared borrow records is always found (LANGUAGE 3.21): the place up to its last shared link is the beginning of a whole path.
+pub always-recorded : {nv : ℕ} {Γ : Environment} {level : ℕ} → Neat nv Γ level → (p : Place) (v : Variable) → Γ (p .root) ≡ live v → p .follows ≤ length (v .chain)
+    → valueWhole nv Γ (p .root) v ≡ true → (i : ℕ) (o : Option ℕ) → lastShared (take (p .follows) (v .chain)) ≡ o → (ps : List Place) × (judgeRecorded nv Γ i p o ≡ ok ps)
+unfolding judgeRecorded _>>=_
+always-recorded N p v is long h i none e = (p ∷ [], refl)
+always-recorded {nv} {Γ} N p v is long h i (some j) e =
+    let at = last-at (p .follows) (v .chain) j e in
+    let W = whole-path N (place (p .root) j) v is (omega (arith, at .0, long)) i h in
+    (past (borrowsAt Γ (W .0)) (p .follows - suc j), rw (W .1))
