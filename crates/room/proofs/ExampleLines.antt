@@ -41,13 +41,13 @@ unfolding
     Reader._>>=_ Reader.done Reader.placeIn Reader.expect Reader.first Reader.peek Reader.skip Reader.next Reader.ranged Reader.field Reader.operands Reader.restOfRow Reader.is Reader.boxesOf Reader.ended Reader.known Reader.kind Reader.opening Reader.counted Reader.several Reader.branch Reader.built Reader.term Reader.nothingLeft Reader.over Reader.script Reader.mark Reader.version Reader.leading Reader.wholeScript Reader.answer Reader.parse Reader.decodeIn Reader.decode Reader.zeroFields
     Measures.size
     Reading.lengthsFit Reading.parsedInto Reading.onFit Reading.readOf
-    Links.leadingBoxes Links.maxLinks Links.noShared Links.lastWith Links.lastShared Links.isNumber Links.copies Links.sameLink Links.sameLinks
+    Links.leadingBoxes Links.maxLinks Links.noShared Links.lastSharedWith Links.lastShared Links.isNumber Links.copies Links.sameLink Links.sameLinks
     Places.samePlace Places.before Places.member Places.insert Places.unite Places.every Places.someOf Places.only Places.rooted
     Environment.borrowEnd Environment.update Environment.write Environment.isFree Environment.levelOf Environment.borrowOf Environment.borrowsAt Environment.livesAt Environment.leaveSlot Environment.leave Environment.holding
     Follow.past Follow.onward Follow.onMet Follow.meetAll Follow.follow Follow.ownLink Follow.ownPath Follow.wholeSlot Follow.wholeThere Follow.valueWhole
     Bars.borrowsAny Bars.borrowsExclusive Bars.heldBy Bars.held
     Choice.carried Choice.earlier Choice.joined Choice.agreeing
-    Rules.inScope Rules.reached Rules.valued Rules.judgePlace Rules.judgeReadable Rules.judgeCopy Rules.judgeMove Rules.judgeRecorded Rules.judgeShared Rules.judgeExclusive Rules.judgeBox Rules.judgeLet Rules.judgeAssign Rules.judgeNumber Rules.judgeBelow Rules.judgeBlockEnd Rules.judgeChoice
+    Rules.inScope Rules.reached Rules.valued Rules.judgePlace Rules.judgeReadable Rules.judgeCopy Rules.judgeMove Rules.recordedPlaces Rules.judgeShared Rules.judgeExclusive Rules.judgeBox Rules.judgeLet Rules.judgeAssign Rules.judgeNumber Rules.judgeBelow Rules.judgeBlockEnd Rules.judgeChoice
     Judge.judge Judge.judgeScript
     Store.sameLocation Store.put Store.isOpen
     Locate.followed Locate.locateFrom Locate.locate Locate.filled Locate.numberIn

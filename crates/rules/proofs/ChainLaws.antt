@@ -15,7 +15,7 @@ use borrow.Author.Tests.{eq-eqb, ne-eqb, lt-ltb, le-ltb, le-leb, lt-leb, leb-tru
 use Rattle.reader.specs.Result.{pick}
 use Rattle.rules.specs.declared.chains.Rest.{Rest}
 use Rattle.rules.specs.declared.chains.Rest.the-variants as rest
-use Rattle.rules.specs.Links.{Link, shared, maxLinks, leadingBoxes, noShared, lastWith, lastShared, isNumber, copies}
+use Rattle.rules.specs.Links.{Link, shared, maxLinks, leadingBoxes, noShared, lastSharedWith, lastShared, isNumber, copies}
 use Rattle.rules.specs.Chains.{linkOf, chainBy, chainOf, restOf, asRest, oneMoreFits}
 
 -- Any bound that is large enough gives the same chain.
@@ -250,15 +250,15 @@ last-end before n rest zero h = refl
 last-end before n rest (suc j) h = absurd (omega arith)
 
 -- One link more is passed.
-last-first : (before : Option ℕ) (n d : ℕ) (m : Option ℕ) → (d ≡ 1 → ⊥) → lastOf before (n + 1) m ≡ lastOf before n (lastWith (linkOf d) m)
-unfolding lastOf lastWith
+last-first : (before : Option ℕ) (n d : ℕ) (m : Option ℕ) → (d ≡ 1 → ⊥) → lastOf before (n + 1) m ≡ lastOf before n (lastSharedWith (linkOf d) m)
+unfolding lastOf lastSharedWith
 last-first before n d (some j) h = ap some (omega arith)
 last-first before n zero none h = refl
 last-first before n (suc zero) none h = absurd (h refl)
 last-first before n (suc (suc d)) none h = refl
 
-shared-last : (before : Option ℕ) (n : ℕ) (m : Option ℕ) → lastOf (some n) (n + 1) m ≡ lastOf before n (lastWith shared m)
-unfolding lastOf lastWith
+shared-last : (before : Option ℕ) (n : ℕ) (m : Option ℕ) → lastOf (some n) (n + 1) m ≡ lastOf before n (lastSharedWith shared m)
+unfolding lastOf lastSharedWith
 shared-last before n none = ap some (omega arith)
 shared-last before n (some j) = ap some (omega arith)
 

@@ -17,7 +17,7 @@ use Rattle.rules.specs.Links.{Link, shared, leadingBoxes, lastShared, is
 use Rattle.rules.specs.Environment.{places, borrowEnd, Variable, live, borrowsAt}
 use Rattle.rules.specs.Follow.{past, valueWhole}
 use Rattle.rules.specs.Rules as rules
-use Rattle.rules.specs.Rules.{judgePlace, judgeReadable, judgeCopy, judgeRecorded, judgeShared}
+use Rattle.rules.specs.Rules.{judgePlace, judgeReadable, judgeCopy, recordedPlaces, judgeShared}
 use Rattle.rules.specs.Neat.{place, Among, SameSet}
 use Rattle.rules.specs.Roots.{lengths, placesOf, left}
 use Rattle.rules.specs.Masks.{has}
@@ -178,8 +178,8 @@ module _ (env : List ℕ) (nv : ℕ) (T : NeatTable env nv) (i : ℕ) (p : Place
             let after : length (drop (longAt env y - m) (held .variable .chain)) ≡ m = ap (λ (l : List Link). length l) (held .rest) ∙ ap (λ (l : List Link). left l) (at-last .1) ∙ first-shared in
             omega (arith, long, after, length-drop (longAt env y - m) (held .variable .chain))
 
-        recorded : judgeRecorded nv (environmentOf env) i p (some j) ≡ ok (placesOf 128 (has s) (longAt env) (length (chainOf rest)))
-        unfolding judgeRecorded _>>=_
+        recorded : recordedPlaces nv (environmentOf env) i p (some j) ≡ ok (placesOf 128 (has s) (longAt env) (length (chainOf rest)))
+        unfolding recordedPlaces _>>=_
         recorded =
             let placed : judgePlace nv (environmentOf env) i (place (p .root) j) ≡ ok (paths.located (variableAt env x) (L .to)) = ap (λ (y : ℕ). judgePlace nv (environmentOf env) i (place y j)) (sym at) ∙ L .is in
             let n = p .follows - suc j in

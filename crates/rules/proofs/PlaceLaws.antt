@@ -22,7 +22,7 @@ use Rattle.rules.specs.Environment.{Borrow, sharedOf, exclusiveOf, borro
 use Rattle.rules.specs.Follow.{ownLink, valueWhole}
 use Rattle.rules.specs.Bars.{readBarred, writeBarred}
 use Rattle.rules.specs.Rules as rules
-use Rattle.rules.specs.Rules.{Judged, numberTy, inScope, judgePlace, judgeReadable, judgeCopy, judgeMove, judgeRecorded, judgeShared, judgeExclusive, judgeNumber}
+use Rattle.rules.specs.Rules.{Judged, numberTy, inScope, judgePlace, judgeReadable, judgeCopy, judgeMove, recordedPlaces, judgeShared, judgeExclusive, judgeNumber}
 use Rattle.rules.specs.Neat.{place, SameSet}
 use Rattle.rules.specs.Roots.{linksOf, lengths, placesOf, MetFrom, endsOf}
 use Rattle.rules.specs.Masks.{has}
@@ -251,7 +251,7 @@ module _ (env : List ℕ) (nv : ℕ) (T : NeatTable env nv) (i : ℕ) (p : Place
     -- Shared borrow (LANGUAGE 3.21), of a place that passes no shared link.
     pub shared-there : (x : ℕ) → x ≡ p .root → lastShared (take (p .follows) (chainOf (linksAt env x))) ≡ none → (r : Roots) → ((y : ℕ) → has r y ≡ eqb x y) → (v : verdicts.Told)
         → Answers v (atMost8 (λ e. typeOf (shared ∷ chainOf rest) (endIn e (shared ∷ chainOf rest) r))) → answered env i v ≡ judgeShared nv (environmentOf env) i p
-    unfolding judgeShared judgeRecorded need _>>=_ borrowEnd leadingBoxes
+    unfolding judgeShared recordedPlaces need _>>=_ borrowEnd leadingBoxes
     shared-there x at none-passed r o v a =
         let end : sharedOf (placesOf 128 (has r) (longAt env) (length (chainOf rest))) ≡ sharedOf (p ∷ []) = ap sharedOf (borrowed (R .named) x at r o) in
         let passed : lastShared (take (p .follows) (R .named .variable .chain)) ≡ none = ap (λ (u : Variable). lastShared (take (p .follows) (u .chain))) (variable-is (R .named) ∙ ap (variableAt env) (sym at)) ∙ none-passed in

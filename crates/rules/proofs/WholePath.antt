@@ -15,7 +15,7 @@ use Rattle.rules.specs.Links.{leadingBoxes, lastShared}
 use Rattle.rules.specs.Places.{every, rooted}
 use Rattle.rules.specs.Environment.{places, Variable, Slot, free, used, live, Environment, holding, borrowsAt}
 use Rattle.rules.specs.Follow.{past, isBorrow, ownPath, wholeSlot, valueWhole}
-use Rattle.rules.specs.Rules.{Judged, Located, judgePlace, judgeRecorded}
+use Rattle.rules.specs.Rules.{Judged, Located, judgePlace, recordedPlaces}
 use Rattle.rules.specs.Neat.{place, Neat}
 use Rattle.rules.specs.Roots.{linksOf, lengths, placesOf, leads, MetFrom}
 use Rattle.rules.proofs.LinkChains.{last-at}
@@ -91,8 +91,8 @@ module _ {nv : ℕ} {Γ : Environment} {level : ℕ} (N : Neat nv Γ level) (p :
 
 -- So what a shared borrow records is always found (LANGUAGE 3.21): the place up to its last shared link is the beginning of a whole path.
 pub always-recorded : {nv : ℕ} {Γ : Environment} {level : ℕ} → Neat nv Γ level → (p : Place) (v : Variable) → Γ (p .root) ≡ live v → p .follows ≤ length (v .chain)
-    → valueWhole nv Γ (p .root) v ≡ true → (i : ℕ) (o : Option ℕ) → lastShared (take (p .follows) (v .chain)) ≡ o → (ps : List Place) × (judgeRecorded nv Γ i p o ≡ ok ps)
-unfolding judgeRecorded _>>=_
+    → valueWhole nv Γ (p .root) v ≡ true → (i : ℕ) (o : Option ℕ) → lastShared (take (p .follows) (v .chain)) ≡ o → (ps : List Place) × (recordedPlaces nv Γ i p o ≡ ok ps)
+unfolding recordedPlaces _>>=_
 always-recorded N p v is long h i none e = (p ∷ [], refl)
 always-recorded {nv} {Γ} N p v is long h i (some j) e =
     let at = last-at (p .follows) (v .chain) j e in

@@ -36,7 +36,7 @@ unfoldable pub asRest : Rest → Option (List Link)
 asRest (rest.Links n) = some (chainOf n)
 asRest rest.TooShort = none
 
--- How many links come before the last shared one that is passed.
+-- The last shared link that is passed.
 unfoldable pub asPassed : SharedPassed → Option ℕ
 asPassed (shared-passed.After n) = some n
 asPassed shared-passed.None = none

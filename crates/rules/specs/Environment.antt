@@ -113,7 +113,8 @@ borrowOf free = noBorrow
 borrowOf used = noBorrow
 borrowOf (live v) = v .borrow
 
--- The places that are borrowed by what stands at any of these (LANGUAGE 3.19, 3.21).
+-- The places that are borrowed by what stands at any of these, which are own positions: whichever it is, what comes there first that borrows is the
+-- variable's first borrow link (LANGUAGE 3.9, 3.19, 3.21).
 unfoldable pub borrowsAt : Environment → List Place → List Place
 borrowsAt Γ [] = []
 borrowsAt Γ (q ∷ qs) = unite (places (borrowOf (Γ (q .root)))) (borrowsAt Γ qs)

@@ -1,8 +1,20 @@
--- The definitions tried on scripts that likely errors would misjudge: an assign's place judged before its right side, lifetimes compared with the
--- variable named and not with the one finally written, a borrow held on after it is overwritten (LANGUAGE 3.25, 3.26); and of a choice (3.31) a path judged at the named place only, a write that may land in
--- either of two taken for one that does, the state of one branch alone kept, the numbers of the first branch free again; and of a shared borrow (3.21) the first shared link
--- that is passed taken for the last, the follows that remain forgotten, one of several places recorded, the place recorded to which the borrowed one leads in the end,
--- exclusive links, or exclusive borrows, treated likewise, 34 judged of the recorded root and not of the named one.
+-- The definitions tried on scripts that likely errors would misjudge.
+-- Of an assign (LANGUAGE 3.25, 3.26):
+--   moving: its place judged before its right side;
+--   outliving: lifetimes compared with the variable named and not with the one finally written;
+--   overwriting: a borrow held on after it is overwritten.
+-- Of a choice (3.31):
+--   reaching: a path judged at the named place only;
+--   landing: a write that may land in either of two taken for one that does;
+--   second-moves: the state of one branch alone kept;
+--   taking: the numbers of the first branch free again.
+-- Of a shared borrow (3.21):
+--   last-link: the first shared link that is passed taken for the last;
+--   remaining: the follows that remain forgotten;
+--   through-exclusive: exclusive links, or exclusive borrows, treated likewise;
+--   beyond-shared: the place recorded to which the borrowed one leads in the end;
+--   every-place, every-holder: one of several places recorded, or those of one of several variables;
+--   named-barred, recorded-held: 34 judged of the recorded root, in place of the named one or besides.
 use Prim.Native.Nat.{ℕ}
 use mathlib.Core.Path.{_≡_, refl}
 use Rattle.reader.specs.Result.{ok, err, need, _>>=_}
@@ -91,40 +103,62 @@ through-exclusive borrow = after-one (more (block 3 (more (declare 4 1 (borrowEx
 abbrev beyond-shared : Term
 beyond-shared = after-one (more (block 3 (more (declare 4 1 (borrowExclusive 5 (v 0 0))) (more (declare 6 2 (borrowShared 7 (v 1 0))) (last (borrowShared 8 (v 2 2)))))) (last (number 9 0)))
 
--- `let v0=reading 0; let v1=1; let v2=2; let v3=choice v0 {&v1} {&v2}; let v4=&*v3; move v3; v2=7; 0`: v4 borrows v1 and v2.
-abbrev every-place : Term
-every-place =
-    after-reading (more (declare 3 1 (number 4 1)) (more (declare 5 2 (number 6 2))
-    (more (declare 7 3 (choice 8 (v 0 0) 9 (last (borrowShared 10 (v 1 0))) 11 (last (borrowShared 12 (v 2 0)))))
-    (more (declare 13 4 (borrowShared 14 (v 3 1))) (more (move 15 (v 3 0)) (more (assign 16 (v 2 0) (number 17 7)) (last (number 18 0))))))))
+-- `let v0=reading 0; let v1=1; let v2=2; ..`
+abbrev after-two : Terms → Term
+after-two ts = after-reading (more (declare 3 1 (number 4 1)) (more (declare 5 2 (number 6 2)) ts))
+
+-- `let v3=choice v0 {&v1} {&v2}; let v4=&*v3; move v3; v2=7; 0`, or with v1 for v2 in the assign: v4 borrows v1 and v2.
+abbrev every-place : ℕ → Term
+every-place x =
+    after-two (more (declare 7 3 (choice 8 (v 0 0) 9 (last (borrowShared 10 (v 1 0))) 11 (last (borrowShared 12 (v 2 0)))))
+    (more (declare 13 4 (borrowShared 14 (v 3 1))) (more (move 15 (v 3 0)) (more (assign 16 (v x 0) (number 17 7)) (last (number 18 0))))))
+
+-- `let v3=&v1; let v4=&v2; let v5=choice v0 {&v3} {&v4}; let v6=&**v5; move v5; move v3; move v4; v2=7; 0`, or with v1: the last link may be that of v3 or of v4.
+abbrev every-holder : ℕ → Term
+every-holder x =
+    after-two (more (declare 7 3 (borrowShared 8 (v 1 0))) (more (declare 9 4 (borrowShared 10 (v 2 0)))
+    (more (declare 11 5 (choice 12 (v 0 0) 13 (last (borrowShared 14 (v 3 0))) 15 (last (borrowShared 16 (v 4 0)))))
+    (more (declare 17 6 (borrowShared 18 (v 5 2)))
+    (more (move 19 (v 5 0)) (more (move 20 (v 3 0)) (more (move 21 (v 4 0)) (more (assign 22 (v x 0) (number 23 7)) (last (number 24 0))))))))))
 
 -- `let v1=&v0; let v2=&mut v1; &*v1; 0`: v2 holds the named root v1 exclusively; nobody holds v0 so, which would be recorded.
 abbrev named-barred : Term
 named-barred = after-one (more (declare 3 1 (borrowShared 4 (v 0 0))) (more (declare 5 2 (borrowExclusive 6 (v 1 0))) (more (borrowShared 7 (v 1 1)) (last (number 8 0)))))
 
--- With five variables; under every larger set it is the same (LANGUAGE 7.7).
+-- `let v3=3; let v4=&v2; let v5=&mut v3; choice v0 {v4=&v1; 1} {v5=&mut v1; 1}; &*v4; 0`: v5 may hold v1 exclusively, which is recorded, and nobody the named root v4.
+abbrev recorded-held : Term
+recorded-held =
+    after-two (more (declare 7 3 (number 8 3)) (more (declare 9 4 (borrowShared 10 (v 2 0))) (more (declare 11 5 (borrowExclusive 12 (v 3 0)))
+    (more (choice 13 (v 0 0) 14 (more (assign 15 (v 4 0) (borrowShared 16 (v 1 0))) (last (number 17 1))) 18 (more (assign 19 (v 5 0) (borrowExclusive 20 (v 1 0))) (last (number 21 1))))
+    (more (borrowShared 22 (v 4 1)) (last (number 23 0)))))))
+
+-- With seven variables; under every larger set it is the same (LANGUAGE 7.7).
 pub scripts-judged :
-    (judgeScript 5 moving ≡ err (33, 4))
-    × (judgeScript 5 outliving ≡ err (40, 10))
-    × (judgeScript 5 overwriting ≡ ok tt)
-    × (judgeScript 5 reaching ≡ err (33, 19))
-    × (judgeScript 5 landing ≡ err (33, 22))
-    × (judgeScript 5 second-moves ≡ err (33, 12))
-    × (judgeScript 5 taking ≡ err (30, 9))
-    × (judgeScript 5 last-link ≡ ok tt)
-    × (judgeScript 5 remaining ≡ ok tt)
-    × (judgeScript 5 (through-exclusive borrowShared) ≡ err (40, 3))
-    × (judgeScript 5 (through-exclusive borrowExclusive) ≡ err (40, 3))
-    × (judgeScript 5 beyond-shared ≡ err (40, 3))
-    × (judgeScript 5 every-place ≡ err (35, 16))
-    × (judgeScript 5 named-barred ≡ err (34, 7))
+    (judgeScript 7 moving ≡ err (33, 4))
+    × (judgeScript 7 outliving ≡ err (40, 10))
+    × (judgeScript 7 overwriting ≡ ok tt)
+    × (judgeScript 7 reaching ≡ err (33, 19))
+    × (judgeScript 7 landing ≡ err (33, 22))
+    × (judgeScript 7 second-moves ≡ err (33, 12))
+    × (judgeScript 7 taking ≡ err (30, 9))
+    × (judgeScript 7 last-link ≡ ok tt)
+    × (judgeScript 7 remaining ≡ ok tt)
+    × (judgeScript 7 (through-exclusive borrowShared) ≡ err (40, 3))
+    × (judgeScript 7 (through-exclusive borrowExclusive) ≡ err (40, 3))
+    × (judgeScript 7 beyond-shared ≡ err (40, 3))
+    × (judgeScript 7 (every-place 1) ≡ err (35, 16))
+    × (judgeScript 7 (every-place 2) ≡ err (35, 16))
+    × (judgeScript 7 (every-holder 1) ≡ err (35, 22))
+    × (judgeScript 7 (every-holder 2) ≡ err (35, 22))
+    × (judgeScript 7 named-barred ≡ err (34, 7))
+    × (judgeScript 7 recorded-held ≡ ok tt)
 unfolding
     judgeScript judge need _>>=_
-    Links.leadingBoxes Links.maxLinks Links.noShared Links.lastWith Links.lastShared Links.isNumber Links.copies Links.sameLink Links.sameLinks
+    Links.leadingBoxes Links.maxLinks Links.noShared Links.lastSharedWith Links.lastShared Links.isNumber Links.copies Links.sameLink Links.sameLinks
     Places.samePlace Places.before Places.member Places.insert Places.unite Places.every Places.someOf Places.only Places.rooted
     Environment.borrowEnd Environment.update Environment.write Environment.isFree Environment.levelOf Environment.borrowOf Environment.borrowsAt Environment.livesAt Environment.leaveSlot Environment.leave Environment.holding
     Follow.past Follow.onward Follow.onMet Follow.meetAll Follow.follow Follow.ownLink Follow.ownPath Follow.wholeSlot Follow.wholeThere Follow.valueWhole
     Bars.borrowsAny Bars.borrowsExclusive Bars.heldBy Bars.held
     Choice.carried Choice.earlier Choice.joined Choice.agreeing
-    Rules.inScope Rules.reached Rules.valued Rules.judgePlace Rules.judgeReadable Rules.judgeCopy Rules.judgeMove Rules.judgeRecorded Rules.judgeShared Rules.judgeExclusive Rules.judgeBox Rules.judgeLet Rules.judgeAssign Rules.judgeNumber Rules.judgeBlockEnd Rules.judgeChoice
-scripts-judged = (refl, refl, refl, refl, refl, refl, refl, refl, refl, refl, refl, refl, refl, refl)
+    Rules.inScope Rules.reached Rules.valued Rules.judgePlace Rules.judgeReadable Rules.judgeCopy Rules.judgeMove Rules.recordedPlaces Rules.judgeShared Rules.judgeExclusive Rules.judgeBox Rules.judgeLet Rules.judgeAssign Rules.judgeNumber Rules.judgeBlockEnd Rules.judgeChoice
+scripts-judged = (refl, refl, refl, refl, refl, refl, refl, refl, refl, refl, refl, refl, refl, refl, refl, refl, refl, refl)

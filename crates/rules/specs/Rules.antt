@@ -86,11 +86,11 @@ module _ (nv : ℕ) where
       ok (update Γ (p .root) (live (movedAway v (p .follows))), some (record { links = drop (p .follows) (v .chain); borrow = v .borrow }))
 
   -- What a shared borrow of the place records (LANGUAGE 3.21): the place itself, or, where it passes shared links, all places that the last of them
-  -- borrows, with the follows that remain. The last argument says how many follows lead to that link, if there is one. The place up to there is
+  -- borrows, with the follows that remain. The last argument is that link, if there is one; so many follows lead to it. The place up to there is
   -- judged like any other, which refuses nothing: the named place, judged before, goes on from it.
-  unfoldable pub judgeRecorded : Environment → ℕ → Place → Option ℕ → Judged (List Place)
-  judgeRecorded Γ i p none = ok (p ∷ [])
-  judgeRecorded Γ i p (some j) =
+  unfoldable pub recordedPlaces : Environment → ℕ → Place → Option ℕ → Judged (List Place)
+  recordedPlaces Γ i p none = ok (p ∷ [])
+  recordedPlaces Γ i p (some j) =
       judgePlace Γ i (record { root = p .root; follows = j }) >>= λ l.
       ok (past (borrowsAt Γ (l .to)) (p .follows - suc j))
 
@@ -100,7 +100,7 @@ module _ (nv : ℕ) where
       judgeReadable Γ i p >>= λ l.
       let ks = shared ∷ drop (p .follows) (l .root .chain) in
       need (leb (length ks) maxLinks) (42, i) >>= λ _.
-      judgeRecorded Γ i p (lastShared (take (p .follows) (l .root .chain))) >>= λ ps.
+      recordedPlaces Γ i p (lastShared (take (p .follows) (l .root .chain))) >>= λ ps.
       ok (Γ, some (record { links = ks; borrow = sharedOf ps }))
 
   -- Exclusive borrow (LANGUAGE 3.22): the place, its value whole (33), no shared link passed (36), writing not barred (35), at most 8 links (42).

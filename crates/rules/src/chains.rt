@@ -109,7 +109,7 @@ pub fn no_shared(links: u32, k: usize) -> bool
     true
 }
 
-// How many links come before the last shared link that is passed, if one is.
+// The last shared link that is passed: after so many links, if there is one.
 pub enum SharedPassed {
     After(usize),
     None,

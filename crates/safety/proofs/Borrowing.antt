@@ -15,7 +15,7 @@ use Rattle.rules.specs.Environment.{Borrow, sharedOf, exclusiveOf, Variable, li
 use Rattle.rules.specs.Follow.{past, valueWhole}
 use Rattle.rules.specs.Bars.{readBarred, writeBarred}
 use Rattle.rules.specs.Neat.{place}
-use Rattle.rules.specs.Rules.{Out, Located, judgePlace, judgeReadable, judgeRecorded, judgeShared, judgeExclusive}
+use Rattle.rules.specs.Rules.{Out, Located, judgePlace, judgeReadable, recordedPlaces, judgeShared, judgeExclusive}
 use Rattle.machine.specs.Values.{Location, empty, reference}
 use Rattle.machine.specs.Store.{State}
 use Rattle.machine.specs.Locate.{locate}
@@ -158,9 +158,9 @@ module _ {nv : ℕ} {Γ : Environment} {lv : ℕ} {s : State} (I : Invariant nv 
 
   -- What the judge records where no shared link is passed, and where one is.
   recorded-itself : (i : ℕ) (p : Place) (l : Located) (ps : List Place) → Found I p l i → leadingBoxes (l .root .chain) < l .root .movedFrom
-      → readBarred nv Γ (p .root) ≡ false → judgeRecorded nv Γ i p none ≡ ok ps
+      → readBarred nv Γ (p .root) ≡ false → recordedPlaces nv Γ i p none ≡ ok ps
       → Progress nv Γ Γ (some (record { links = shared ∷ drop (p .follows) (l .root .chain); borrow = sharedOf ps })) lv (runBorrow s i p)
-  unfolding judgeRecorded leadingBoxes
+  unfolding recordedPlaces leadingBoxes
   recorded-itself i p l ps F wh rb k =
       let z : p ∷ [] ≡ ps = cc in
       subst (λ (y : List Place). Progress nv Γ Γ (some (record { links = shared ∷ drop (p .follows) (l .root .chain); borrow = sharedOf y })) lv (runBorrow s i p)) z
@@ -168,9 +168,9 @@ module _ {nv : ℕ} {Γ : Environment} {lv : ℕ} {s : State} (I : Invariant nv 
       (λ y B q K e. (λ k. absurd (false≢true k), λ k. let u = holder I y B q K in read-allowed nv Γ (p .root) (u .0) (u .1) q rb (u .3) (u .4) (u .5) (borrow-among (u .6) q (K .at)) (borrow-exclusive (u .6) k) (sym e))))
 
   recorded-behind : (i : ℕ) (p : Place) (l : Located) (ps : List Place) → Found I p l i → Whole Γ (p .root) (l .root) → (j : ℕ)
-      → lastShared (take (p .follows) (l .root .chain)) ≡ some j → judgeRecorded nv Γ i p (some j) ≡ ok ps
+      → lastShared (take (p .follows) (l .root .chain)) ≡ some j → recordedPlaces nv Γ i p (some j) ≡ ok ps
       → Progress nv Γ Γ (some (record { links = shared ∷ drop (p .follows) (l .root .chain); borrow = sharedOf ps })) lv (runBorrow s i p)
-  unfolding judgeRecorded
+  unfolding recordedPlaces
   recorded-behind i p l ps F wh j e k =
       let a = then (judgePlace nv Γ i (place (p .root) j)) _ ps k in
       let F₀ = judged-found I i i (place (p .root) j) (a .0) (a .1) in
@@ -187,14 +187,14 @@ module _ {nv : ℕ} {Γ : Environment} {lv : ℕ} {s : State} (I : Invariant nv 
       let a = then (judgeReadable nv Γ i p) _ out h in
       let b = readable-ok nv Γ i p (a .0) (a .1) in
       let c = then (need _ (42, i)) _ out (a .2) in
-      let d = then (judgeRecorded nv Γ i p (lastShared (take (p .follows) (a .0 .root .chain)))) _ out (c .2) in
+      let d = then (recordedPlaces nv Γ i p (lastShared (take (p .follows) (a .0 .root .chain)))) _ out (c .2) in
       let F = judged-found I i i p (a .0) (b .0) in
       let R = go (a .0) (d .0) F (is-whole nv Γ (p .root) (a .0 .root) (b .1)) (b .2) (lastShared (take (p .follows) (a .0 .root .chain))) refl (d .1) in
       let z : (Γ, some (record { links = shared ∷ drop (p .follows) (a .0 .root .chain); borrow = sharedOf (d .0) })) ≡ out = let k = d .2 in cc in
       subst (λ (q : Out). Progress nv Γ (q .0) (q .1) lv (runBorrow s i p)) z R
     where
       go : (l : Located) (ps : List Place) → Found I p l i → Whole Γ (p .root) (l .root) → readBarred nv Γ (p .root) ≡ false → (m : Option ℕ)
-          → lastShared (take (p .follows) (l .root .chain)) ≡ m → judgeRecorded nv Γ i p m ≡ ok ps
+          → lastShared (take (p .follows) (l .root .chain)) ≡ m → recordedPlaces nv Γ i p m ≡ ok ps
           → Progress nv Γ Γ (some (record { links = shared ∷ drop (p .follows) (l .root .chain); borrow = sharedOf ps })) lv (runBorrow s i p)
       go l ps F wh rb none e k = recorded-itself i p l ps F (root-whole Γ (p .root) (l .root) (F .is) wh) rb k
       go l ps F wh rb (some j) e k = recorded-behind i p l ps F wh j e k

@@ -14,7 +14,7 @@ use Rattle.reader.specs.Layout.{Form, inBytes, inRows}
 use Rattle.reader.specs.Reader.{Cursor, Reads, _>>=_ as _&_, done, expect, first, peek, skip, next, ranged, field, operands, zeroFields, restOfRow, known, kind, opening, counted, several, built, term, nothingLeft, over, script, mark, version, leading, wholeScript, answer, parse, decodeIn, decode}
 use Rattle.rules.specs.Environment.{Slot, free, used, live, Environment, Ty}
 use Rattle.rules.specs.Follow.{Met}
-use Rattle.rules.specs.Rules.{inScope, reached, valued, judgePlace, judgeReadable, judgeCopy, judgeMove, judgeRecorded, judgeShared, judgeExclusive, judgeBox, judgeLet, judgeAssign, judgeNumber, judgeBelow, judgeBlockEnd, judgeChoice}
+use Rattle.rules.specs.Rules.{inScope, reached, valued, judgePlace, judgeReadable, judgeCopy, judgeMove, recordedPlaces, judgeShared, judgeExclusive, judgeBox, judgeLet, judgeAssign, judgeNumber, judgeBelow, judgeBlockEnd, judgeChoice}
 use Rattle.rules.specs.Judge.{judge, judges, judgeScript}
 
 -- If the result is a refusal, its number is from a to b.
@@ -181,8 +181,8 @@ module _ (nv : ℕ) where
   unfolding judgeNumber judgeReadable judgePlace
   number-only Γ i p = search of-rules depth 8
 
-  recorded-only : (Γ : Environment) (i : ℕ) (p : Place) (passed : Option ℕ) → Only 30 43 (judgeRecorded nv Γ i p passed)
-  unfolding judgeRecorded judgePlace
+  recorded-only : (Γ : Environment) (i : ℕ) (p : Place) (passed : Option ℕ) → Only 30 43 (recordedPlaces nv Γ i p passed)
+  unfolding recordedPlaces judgePlace
   recorded-only Γ i p none = search of-rules
   recorded-only Γ i p (some j) = search of-rules depth 8
 
