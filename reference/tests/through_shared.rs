@@ -250,6 +250,9 @@ fn the_named_place_is_judged() {
     let full = opening(&[let_(3, boxes(7, number(1))), let_(4, shared((3, 0)))]);
     assert_eq!(behind(&full, &[shared((4, 1))]), Ok(()));
     assert_eq!(behind(&full, &[shared((4, 0))]), refused(42, 0));
+    // 34 comes before 42.
+    let both = opening(&[let_(3, boxes(8, number(1))), let_(4, exclusive((3, 1)))]);
+    assert_eq!(behind(&both, &[shared((3, 0))]), refused(34, 0));
 }
 
 /// After the choice v3 may borrow v1 or v2, and v4 exclusively v2 or v1. The

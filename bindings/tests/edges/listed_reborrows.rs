@@ -58,6 +58,23 @@ fn listed_roots() {
         number(0),
     ];
     assert_eq!(runs(&after_one(&own)), refused(35, 5));
+    // v1 is passed behind the shared link.
+    let behind = [
+        let_(1, exclusive((0, 0))),
+        let_(2, shared((1, 0))),
+        let_(3, shared((2, 2))),
+        mov((2, 0)),
+        mov((1, 0)),
+        number(0),
+    ];
+    assert_eq!(runs(&after_one(&behind)), refused(35, 10));
+    let too_long = [
+        let_(0, boxes(8, one())),
+        let_(1, exclusive((0, 1))),
+        shared((0, 0)),
+        number(0),
+    ];
+    assert_eq!(runs(&too_long), refused(34, 13));
 }
 
 #[test]
@@ -67,6 +84,68 @@ fn listed_several_places() {
     let with = |more: &[Term]| [&two_numbers()[..], &through, more].concat();
     gives(&with(&[copy((4, 1))]), [1, 2], 0);
     refuses(&with(&[assign((2, 0), number(7)), copy((4, 1))]), 35, 16);
+}
+
+#[test]
+fn listed_several_variables() {
+    let through = [
+        let_(3, shared((1, 0))),
+        let_(4, shared((2, 0))),
+        let_(5, choose(&[shared((3, 0))], &[shared((4, 0))])),
+        let_(6, shared((5, 2))),
+        mov((5, 0)),
+        mov((3, 0)),
+        mov((4, 0)),
+    ];
+    for root in [1, 2] {
+        let written = [assign((root, 0), number(7)), copy((6, 1))];
+        refuses(&[&two_numbers()[..], &through, &written].concat(), 35, 22);
+    }
+}
+
+/// v5 may hold v1 exclusively, which is recorded, and nobody v4, which is named.
+#[test]
+fn listed_recorded_root() {
+    let holders = [
+        let_(3, number(3)),
+        let_(4, shared((2, 0))),
+        let_(5, exclusive((3, 0))),
+    ];
+    let to_v1 = |root, borrow: fn(Place) -> Term| [assign((root, 0), borrow((1, 0))), one()];
+    let named = [
+        choose(&to_v1(4, shared), &to_v1(5, exclusive)),
+        shared((4, 1)),
+        number(0),
+    ];
+    gives(&[&two_numbers()[..], &holders, &named].concat(), [0, 0], 0);
+}
+
+/// v5 may borrow v3, v9 or v8, and v9 through v3: a place that is met again
+/// hides no borrowed one.
+#[test]
+fn listed_met_again() {
+    let holders = [
+        let_(6, number(3)),
+        let_(7, number(4)),
+        let_(3, exclusive((1, 0))),
+        let_(8, exclusive((6, 0))),
+        let_(9, exclusive((7, 0))),
+        let_(10, number(5)),
+        let_(11, exclusive((10, 0))),
+        let_(5, shared((11, 0))),
+    ];
+    let v9 = |place| assign((9, 0), exclusive(place));
+    let v5 = |root| assign((5, 0), shared((root, 0)));
+    let v8 = assign((8, 0), exclusive((2, 0)));
+    let second = choose(&[v9((3, 1)), v5(9), one()], &[v9((3, 1)), v8, v5(8), one()]);
+    let through = [
+        choose(&[v9((2, 0)), v5(3), one()], &[second]),
+        let_(12, shared((5, 2))),
+        v5(11),
+        mov((9, 0)),
+        number(0),
+    ];
+    refuses(&[&two_numbers()[..], &holders, &through].concat(), 35, 50);
 }
 
 /// v3 and v4 borrow through each other, and v6 through v3.

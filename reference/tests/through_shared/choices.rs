@@ -170,3 +170,35 @@ fn each_recorded_place_lives_long_enough() {
     assert_eq!(gives((2, 0)), Ok(()));
     assert_eq!(gives((4, 0)), refused(40, 1));
 }
+
+/// v5 may borrow v3, v9 or v8, and v9 through v3. That `*v3` is met again by
+/// way of v9 hides nothing: what the shared link of v5 borrows is recorded.
+#[test]
+fn a_place_met_again_hides_no_borrowed_one() {
+    let v9 = |place| assign((9, 0), exclusive(place));
+    let v5 = |root| assign((5, 0), shared((root, 0)));
+    let v8 = assign((8, 0), exclusive((2, 0)));
+    let one = || number(1);
+    let second = choice(
+        (0, 0),
+        &[v9((3, 1)), v5(9), one()],
+        &[v9((3, 1)), v8, v5(8), one()],
+    );
+    let before = opening(&[
+        let_(6, number(3)),
+        let_(7, number(4)),
+        let_(3, exclusive((1, 0))),
+        let_(8, exclusive((6, 0))),
+        let_(9, exclusive((7, 0))),
+        let_(10, number(5)),
+        let_(11, exclusive((10, 0))),
+        let_(5, shared((11, 0))),
+        choice((0, 0), &[v9((2, 0)), v5(3), one()], &[second]),
+        let_(12, shared((5, 2))),
+        v5(11),
+    ]);
+    for root in [3, 8, 9] {
+        assert_eq!(behind(&before, &[mov((root, 0))]), refused(35, 0), "{root}");
+    }
+    assert_eq!(behind(&before, &[mov((5, 0))]), Ok(()));
+}
