@@ -202,16 +202,20 @@ module _ (env : List ℕ) (nv : ℕ) (T : NeatTable env nv) (i : ℕ) (p : Place
         barred-is : (d : Bool) → b ≡ d → readBarred nv (environmentOf env) (p .root) ≡ d
         barred-is d h = ap (readBarred nv (environmentOf env)) (sym at) ∙ sym barred ∙ h
 
+        -- The last test of a readable place, by whether reading is barred.
+        abbrev tested : Bool → Judged rules.Located
+        tested d = need (not d) (34, i) >>= λ _. ok (paths.located (F .variable) (path yes-whole .0))
+
         pub readable-barred : b ≡ true → judgeReadable nv (environmentOf env) i p ≡ err (34, i)
         unfolding judgeReadable need _>>=_
-        readable-barred h = rw (path yes-whole .1, whole-is x at w true whole yes-whole, barred-is true h)
+        readable-barred h = rw (path yes-whole .1, whole-is x at w true whole yes-whole) (ap tested (barred-is true h))
 
         pub readable-there : b ≡ false → Read nv (environmentOf env) i p rest
         unfolding judgeReadable need _>>=_
         readable-there h = record {
           named = F;
           to = path yes-whole .0;
-          is = rw (path yes-whole .1, whole-is x at w true whole yes-whole, barred-is false h);
+          is = rw (path yes-whole .1, whole-is x at w true whole yes-whole) (ap tested (barred-is false h));
         }
 
       -- ---- exclusive borrow (LANGUAGE 3.22)
