@@ -1,11 +1,12 @@
 -- The two blocks of a choice: what is known of the table after each, and the answer from theirs.
-use Prim.Native.Nat.{ℕ, _+_, _-_}
-use mathlib.Core.Path.{_≡_, sym, ap, _∙_, subst}
+use Prim.Native.Nat.{ℕ, suc, _+_, _-_}
+use mathlib.Core.Path.{_≡_, refl, sym, ap, _∙_, subst}
 use mathlib.Core.Option.{some}
-use mathlib.Core.List.{List}
-use lib.ListN.{length}
+use mathlib.Core.List.{List, [], _∷_, _++_, append-assoc}
+use lib.ListN.{length, drop}
 use Rattle.reader.specs.Result.{ok, err, _>>=_}
-use Rattle.reader.specs.Script.{Term, Terms}
+use Rattle.reader.specs.Script.{Term, block, choice}
+use Rattle.reader.specs.Measures.{sizes}
 use Rattle.reader.specs.Reader.{branch}
 use Rattle.reader.specs.RowParts.{fieldAt}
 use Rattle.reader.specs.RowTrees.{placeAt, RowTree, IsTree, blockAt, treeAt}
@@ -19,7 +20,8 @@ use Rattle.ownership.specs.declared.judge.JudgedTerm.{JudgedTerm}
 use Rattle.rules.specs.Links.{Link}
 use Rattle.rules.specs.Environment.{Environment}
 use Rattle.rules.specs.Choice.{carried, joined}
-use Rattle.rules.specs.Rules.{judgeNumber, judgeChoice}
+use Rattle.rules.specs.Uses.{Unfinished, naming, finishing, finishingAll}
+use Rattle.rules.specs.Rules.{Judged, Out, judgeNumber, judgeChoice}
 use Rattle.rules.specs.Judge.{judge}
 use Rattle.rules.specs.Neat.{Neat, NeatValue, LetsBelow, LetsBelowAll}
 use Rattle.rules.specs.Met.{judgeBranch}
@@ -28,7 +30,11 @@ use Rattle.rules.specs.Verdicts.{asValue, verdictOf, answered, NumberIs, Joins}
 use Rattle.rules.specs.Kept.{Stays}
 use Rattle.ownership.specs.JudgeRows.{rowPlace, atRow, ended, judgedAt, judgeAt, judgeBranches, branchesAt}
 use Rattle.reader.proofs.ChoiceRows.{tree-some, BlockRows, ChoiceRows, choice-rows}
+use Rattle.rules.proofs.Answers.{same-steps}
 use Rattle.rules.proofs.Slots.{live-carried}
+use Rattle.rules.proofs.Finishing.{left-after-block}
+use Rattle.rules.proofs.SameLater.{SameLater, same-append, judged-alike}
+use Rattle.ownership.proofs.LaterLaws.{Follows}
 use Rattle.ownership.proofs.JudgeLaws.{refused-ended, told-ended, refused-is, fine-is}
 use Rattle.rules.proofs.NeatSteps.{Fine, Lived}
 use Rattle.rules.proofs.NeatBlocks.{neat-carried}
@@ -43,33 +49,35 @@ branch-is : (nv l : ℕ) (rows : List ℕ) (j : ℕ) (b : BlockRows nv l rows j)
 unfolding branch
 branch-is nv l rows j b = rw (b .is, b .kind)
 
--- The block at row j has been judged from Γ, and accepted.
-pub record Accepted (nv l : ℕ) (rows : List ℕ) (j level : ℕ) (Γ : Environment) (env : List ℕ) (r : JudgedTerm) (v : Value) : Type 0 where
-  pub terms : Terms
-  pub stands : blockAt (treeAt nv l rows) rows j ≡ some ((j, terms), r .next)
-  pub judged : judgeBranch nv terms j level Γ ≡ ok (environmentOf env, asValue env v)
-  pub lets : LetsBelowAll nv terms
+-- The block at row j has been judged from Γ, and accepted; ns is what comes after it.
+pub record Accepted (nv l : ℕ) (rows : List ℕ) (j : ℕ) (here : BlockRows nv l rows j) (level : ℕ) (ns : Unfinished) (Γ : Environment) (env : List ℕ) (r : JudgedTerm) (v : Value) : Type 0 where
+  pub stands : r .next ≡ here .end
+  pub judged : judgeBranch nv (here .terms) j level ((finishingAll (here .terms) ++ naming []) ++ ns) Γ ≡ ok (environmentOf env, asValue env v)
+  pub lets : LetsBelowAll nv (here .terms)
 
-module _ (nv l : ℕ) (rows : List ℕ) (j : ℕ) (here : BlockRows nv l rows j) (level : ℕ) (Γ : Environment) (env : List ℕ) (r : JudgedTerm) (e : ended env r ≡ judgeAt nv (treeAt nv l rows j) level Γ) where
-  block-ended : ended env r ≡ atRow (here .end) (judgeBranch nv (here .terms) j level Γ)
-  unfolding judgedAt judge
-  block-ended = rw (here .is) at e
+module _ (nv l : ℕ) (rows : List ℕ) (j : ℕ) (here : BlockRows nv l rows j) (level : ℕ) (later : ℕ → Unfinished) (Γ : Environment) (env : List ℕ) (r : JudgedTerm) (e : ended env r ≡ judgeAt nv (treeAt nv l rows j) level later Γ) (ns : Unfinished) (same : SameLater nv (later (here .end)) ns) where
+  abbrev answer : Judged Out
+  answer = judgeBranch nv (here .terms) j level ((finishingAll (here .terms) ++ naming []) ++ ns) Γ
+
+  block-ended : ended env r ≡ atRow (here .end) answer
+  unfolding judgedAt judge finishing
+  block-ended = rw (here .is) at e ∙ ap (atRow (here .end)) (judged-alike nv (block j (here .terms)) level (later (here .end)) ns Γ same)
 
   block-lets : LetsBelowAll nv (here .terms)
   unfolding LetsBelow
   block-lets = rw (here .is) at (tree-lets nv l rows j)
 
-  pub accepted : (v : Value) → verdictOf (r .told) ≡ verdict.Fine v → Accepted nv l rows j level Γ env r v
+  pub accepted : (v : Value) → verdictOf (r .told) ≡ verdict.Fine v → Accepted nv l rows j here level ns Γ env r v
   accepted v fine =
-      let z = fine-is (judgeBranch nv (here .terms) j level Γ) (here .end) env r block-ended v fine in
-      record { terms = here .terms; stands = rw (z .1) (branch-is nv l rows j here); judged = z .0; lets = block-lets }
+      let z = fine-is answer (here .end) env r block-ended v fine in
+      record { stands = z .1; judged = z .0; lets = block-lets }
 
-  not-accepted : (n : ℕ) → verdictOf (r .told) ≡ verdict.Refused n → judgeBranch nv (here .terms) j level Γ ≡ err (n, r .next)
-  not-accepted n q = refused-is (judgeBranch nv (here .terms) j level Γ) (here .end) env r block-ended n q
+  not-accepted : (n : ℕ) → verdictOf (r .told) ≡ verdict.Refused n → answer ≡ err (n, r .next)
+  not-accepted n q = refused-is answer (here .end) env r block-ended n q
 
-module _ {nv l : ℕ} {rows : List ℕ} {j level : ℕ} {Γ : Environment} {env : List ℕ} {r : JudgedTerm} {v : Value} (N : Neat nv Γ level) (A : Accepted nv l rows j level Γ env r v) where
+module _ {nv l : ℕ} {rows : List ℕ} {j : ℕ} {here : BlockRows nv l rows j} {level : ℕ} {ns : Unfinished} {Γ : Environment} {env : List ℕ} {r : JudgedTerm} {v : Value} (N : Neat nv Γ level) (A : Accepted nv l rows j here level ns Γ env r v) where
   both : Fine nv Γ (environmentOf env) (asValue env v) level × Lived Γ (environmentOf env)
-  both = neat.branch nv j (A .terms) (neat.neat-after-all nv (A .terms)) level Γ (environmentOf env, asValue env v) (A .lets) (A .judged) N
+  both = neat.branch nv j (here .terms) (neat.neat-after-all nv (here .terms)) level ((finishingAll (here .terms) ++ naming []) ++ ns) Γ (environmentOf env, asValue env v) (A .lets) (A .judged) N
 
   accepted-neat : Neat nv (environmentOf env) level
   accepted-neat = both .0 .neat
@@ -107,14 +115,25 @@ module _ (nv l : ℕ) (rows : List ℕ) (i : ℕ) (good : IsTree (treeAt nv l ro
   pub first-ready : IsTree (inside (i + 1)) × (fieldAt rows (i + 1) 0 ≡ 11)
   first-ready = (tree-some _ (both-blocks .first .is), both-blocks .first .kind)
 
-  module _ (level : ℕ) (Γ : Environment) (env₁ : List ℕ) (one : JudgedTerm) (e₁ : ended env₁ one ≡ judgeAt nv (inside (i + 1)) level Γ) where
-    pub first-refused : (n : ℕ) → verdictOf (one .told) ≡ verdict.Refused n → ended env₁ one ≡ branchesAt nv l rows i level Γ
+  module _ (level : ℕ) (later : ℕ → Unfinished) (follows : Follows nv later inside) (Γ : Environment) (env₁ : List ℕ) (one : JudgedTerm) (e₁ : ended env₁ one ≡ judgeAt nv (inside (i + 1)) level later Γ) where
+    -- What comes after the second block, and after the first: the second block, then that.
+    abbrev after-both : Unfinished
+    after-both = later (both-blocks .second .end)
+
+    abbrev after-first : Unfinished
+    after-first = (finishingAll (both-blocks .second .terms) ++ naming []) ++ after-both
+
+    second-next : SameLater nv (later (both-blocks .first .end)) after-first
+    unfolding finishing
+    second-next = follows (both-blocks .first .end) (block (both-blocks .first .end) (both-blocks .second .terms)) (both-blocks .second .end) (both-blocks .second .is)
+
+    pub first-refused : (n : ℕ) → verdictOf (one .told) ≡ verdict.Refused n → ended env₁ one ≡ branchesAt nv l rows i level later Γ
     unfolding judgedAt judgeBranches _>>=_
-    first-refused n q = rw (refused-ended env₁ one n q, first-is, second-is, not-accepted nv (l - 1) rows (i + 1) (both-blocks .first) level Γ env₁ one e₁ n q)
+    first-refused n q = rw (refused-ended env₁ one n q, first-is, second-is, not-accepted nv (l - 1) rows (i + 1) (both-blocks .first) level later Γ env₁ one e₁ after-first second-next n q)
 
     module _ (N : Neat nv Γ level) (v : Value) (fine₁ : verdictOf (one .told) ≡ verdict.Fine v) where
-      first : Accepted nv (l - 1) rows (i + 1) level Γ env₁ one v
-      first = accepted nv (l - 1) rows (i + 1) (both-blocks .first) level Γ env₁ one e₁ v fine₁
+      first : Accepted nv (l - 1) rows (i + 1) (both-blocks .first) level after-first Γ env₁ one v
+      first = accepted nv (l - 1) rows (i + 1) (both-blocks .first) level later Γ env₁ one e₁ after-first second-next v fine₁
 
       pub first-neat : Neat nv (environmentOf env₁) level
       first-neat = accepted-neat N first
@@ -123,30 +142,27 @@ module _ (nv l : ℕ) (rows : List ℕ) (i : ℕ) (good : IsTree (treeAt nv l ro
       first-stays = accepted-stays N first
 
       -- The second block is where the judge stands after the first.
-      second-block : BlockRows nv (l - 1) rows (one .next)
-      second-block =
-          let s = sym first-is ∙ first .stands in
-          let e : _≡_ {A = (ℕ × Terms) × ℕ} ((i + 1, both-blocks .first .terms), both-blocks .first .end) ((i + 1, first .terms), one .next) = cc in
-          subst (λ (r : (ℕ × Terms) × ℕ). BlockRows nv (l - 1) rows (r .1)) e (both-blocks .second)
-
       pub second-ready : IsTree (inside (one .next)) × (fieldAt rows (one .next) 0 ≡ 11)
-      second-ready = (tree-some _ (second-block .is), second-block .kind)
+      second-ready = rw (first .stands) (tree-some _ (both-blocks .second .is), both-blocks .second .kind)
 
       -- The second block is judged from what is carried into it.
       module _ (Γ₂ : Environment) (from : Γ₂ ≡ carried Γ (environmentOf env₁)) where
         pub second-start : Neat nv Γ₂ level
         second-start = subst (λ (Δ : Environment). Neat nv Δ level) (sym from) (neat-carried (environmentOf env₁) N)
 
-        module _ (env₂ : List ℕ) (two : JudgedTerm) (e₂ : ended env₂ two ≡ judgeAt nv (inside (one .next)) level Γ₂) where
-          pub second-refused : (n : ℕ) → verdictOf (two .told) ≡ verdict.Refused n → ended env₂ two ≡ branchesAt nv l rows i level Γ
+        module _ (env₂ : List ℕ) (two : JudgedTerm) (e₂ : ended env₂ two ≡ judgeAt nv (inside (one .next)) level later Γ₂) where
+          judged₂ : ended env₂ two ≡ judgeAt nv (inside (both-blocks .first .end)) level later Γ₂
+          judged₂ = rw (first .stands) at e₂
+
+          pub second-refused : (n : ℕ) → verdictOf (two .told) ≡ verdict.Refused n → ended env₂ two ≡ branchesAt nv l rows i level later Γ
           unfolding judgedAt judgeBranches _>>=_
           second-refused n q =
-              let z = not-accepted nv (l - 1) rows (one .next) second-block level Γ₂ env₂ two e₂ n q in
-              rw (refused-ended env₂ two n q, first .stands, branch-is nv (l - 1) rows (one .next) second-block, first .judged, ← from, z)
+              let z = not-accepted nv (l - 1) rows (both-blocks .first .end) (both-blocks .second) level later Γ₂ env₂ two judged₂ after-both (λ x b. refl) n q in
+              rw (refused-ended env₂ two n q, first-is, second-is, first .judged, ← from, z)
 
           module _ (w : Value) (fine₂ : verdictOf (two .told) ≡ verdict.Fine w) where
-            second : Accepted nv (l - 1) rows (one .next) level Γ₂ env₂ two w
-            second = accepted nv (l - 1) rows (one .next) second-block level Γ₂ env₂ two e₂ w fine₂
+            second : Accepted nv (l - 1) rows (both-blocks .first .end) (both-blocks .second) level after-both Γ₂ env₂ two w
+            second = accepted nv (l - 1) rows (both-blocks .first .end) (both-blocks .second) level later Γ₂ env₂ two judged₂ after-both (λ x b. refl) w fine₂
 
             pub second-neat : Neat nv (environmentOf env₂) level
             second-neat = accepted-neat second-start second
@@ -158,25 +174,57 @@ module _ (nv l : ℕ) (rows : List ℕ) (i : ℕ) (good : IsTree (treeAt nv l ro
               first-value : asValue env₃ v ≡ asValue env₁ v
               first-value = links-value env₂ env₃ same v ∙ same-value env₁ env₂ (as-long Γ env₁ env₂ first-stays second-stays) v level (accepted-value N first)
 
-              pub branches-fine : environmentOf env₃ ≡ joined Γ (environmentOf env₁) (environmentOf env₂) → (t : Told) → Joins v w t → (out : JudgedTerm) → ((env : List ℕ) → ended env out ≡ atRow (two .next) (answered env i t)) → ended env₃ out ≡ branchesAt nv l rows i level Γ
+              pub branches-fine : environmentOf env₃ ≡ joined Γ (environmentOf env₁) (environmentOf env₂) → (t : Told) → Joins v w t → (out : JudgedTerm) → ((env : List ℕ) → ended env out ≡ atRow (two .next) (answered env i t)) → ended env₃ out ≡ branchesAt nv l rows i level later Γ
               unfolding judgedAt judgeBranches judgeChoice _>>=_
-              branches-fine j t J out E = told-ended _ _ _ _ _ E env₃ (J env₃ i) ∙ rw (first .stands, second .stands, first .judged, ← from, second .judged, first-value, links-value env₂ env₃ same w, j)
+              branches-fine j t J out E = told-ended _ _ _ _ _ E env₃ (J env₃ i) ∙ rw (second .stands, first-is, second-is, first .judged, ← from, second .judged, first-value, links-value env₂ env₃ same w, j)
 
   -- ---- the choice
 
-  -- Its place is judged first.
-  module _ (p : Place) (is : p ≡ rowPlace rows i 1) (level : ℕ) (Γ : Environment) (r : Readable) (e : NumberIs (judgeNumber nv Γ i (asPlace p)) i r) where
-    place-judged : NumberIs (judgeNumber nv Γ i (placeAt rows i 1)) i r
-    place-judged = rw is at e
+  abbrev chosen : Term
+  chosen = choice i (placeAt rows i 1) (i + 1) (both-blocks .first .terms) (both-blocks .first .end) (both-blocks .second .terms)
 
-    pub choice-refused : (n : ℕ) → r ≡ readable.Refused n → (t : Told) → verdictOf t ≡ verdict.Refused n → (env : List ℕ) → ended env (record { next = i; told = t }) ≡ judgeAt nv (treeAt nv l rows i) level Γ
+  -- Its place is judged first; none of the term has finished then.
+  module _ (p : Place) (is : p ≡ rowPlace rows i 1) (level : ℕ) (later : ℕ → Unfinished) (Γ : Environment) (r : Readable)
+      (e : (t : Term) (next : ℕ) → treeAt nv l rows i ≡ some (t, next) → NumberIs (judgeNumber nv (finishing t ++ later next) Γ i (asPlace p)) i r) where
+    abbrev left : Unfinished
+    left = finishing chosen ++ later (both-blocks .second .end)
+
+    place-judged : NumberIs (judgeNumber nv left Γ i (placeAt rows i 1)) i r
+    place-judged = rw is at (e chosen (both-blocks .second .end) (both-blocks .is))
+
+    pub choice-refused : (n : ℕ) → r ≡ readable.Refused n → (t : Told) → verdictOf t ≡ verdict.Refused n → (env : List ℕ) → ended env (record { next = i; told = t }) ≡ judgeAt nv (treeAt nv l rows i) level later Γ
     unfolding judgedAt judge _>>=_
     choice-refused n q t h env =
-        let z : judgeNumber nv Γ i (placeAt rows i 1) ≡ err (n, i) = rw q at place-judged in
+        let z : judgeNumber nv left Γ i (placeAt rows i 1) ≡ err (n, i) = rw q at place-judged in
         refused-ended env (record { next = i; told = t }) n h ∙ rw (both-blocks .is, z)
 
-    pub choice-met : (m : ℕ) → r ≡ readable.Rest m → (env : List ℕ) (out : JudgedTerm) → ended env out ≡ branchesAt nv l rows i level Γ → ended env out ≡ judgeAt nv (treeAt nv l rows i) level Γ
-    unfolding judgedAt judge judgeBranches _>>=_
-    choice-met m q env out w =
-        let z : judgeNumber nv Γ i (placeAt rows i 1) ≡ ok tt = rw q at place-judged in
-        w ∙ rw (first-is, second-is, both-blocks .is, z)
+    -- The blocks are judged with `inner` after them, which has the choice in it.
+    module _ (inner : ℕ → Unfinished) (same : (next : ℕ) → SameLater nv (inner next) ((fieldAt rows i 1 ∷ []) ∷ later next)) where
+      blocks-judged : judgeNumber nv left Γ i (placeAt rows i 1) ≡ ok tt
+          → judgeBranches nv level Γ i ((i + 1, both-blocks .first .terms), (both-blocks .first .end, both-blocks .second .terms)) (inner (both-blocks .second .end)) ≡ judge nv chosen level left Γ
+      unfolding judge finishing judgeBranches _>>=_
+      blocks-judged z =
+          let us = both-blocks .first .terms in
+          let vs = both-blocks .second .terms in
+          let j = both-blocks .first .end in
+          let first = finishingAll us ++ naming [] in
+          let second = finishingAll vs ++ naming [] in
+          let own = naming (fieldAt rows i 1 ∷ []) in
+          let ns = later (both-blocks .second .end) in
+          let within = inner (both-blocks .second .end) in
+          let S = same (both-blocks .second .end) in
+          let f = append-assoc first (second ++ own) ns in
+          let g = append-assoc second own ns in
+          let d = left-after-block us left ((second ++ own) ++ ns) f ∙ g in
+          rw z (same-steps (judgeBranch nv us (i + 1) level (first ++ (second ++ within)) Γ) (judgeBranch nv us (i + 1) level left Γ) _ _
+          (judged-alike nv (block (i + 1) us) level (second ++ within) (second ++ (own ++ ns)) Γ (same-append nv second within (own ++ ns) S)
+          ∙ ap (λ (ks : Unfinished). judgeBranch nv us (i + 1) level ks Γ) (sym (f ∙ ap (λ (ks : Unfinished). first ++ ks) g)))
+          (λ a q. same-steps (judgeBranch nv vs j level (second ++ within) (carried Γ (a .0))) (judgeBranch nv vs j level (drop (suc (sizes us)) left) (carried Γ (a .0))) _ _
+          (judged-alike nv (block j vs) level within (own ++ ns) (carried Γ (a .0)) S ∙ ap (λ (ks : Unfinished). judgeBranch nv vs j level ks (carried Γ (a .0))) (sym d))
+          (λ b q. refl)))
+
+      pub choice-met : (m : ℕ) → r ≡ readable.Rest m → (env : List ℕ) (out : JudgedTerm) → ended env out ≡ branchesAt nv l rows i level inner Γ → ended env out ≡ judgeAt nv (treeAt nv l rows i) level later Γ
+      unfolding judgedAt
+      choice-met m q env out w =
+          let z : judgeNumber nv left Γ i (placeAt rows i 1) ≡ ok tt = rw q at place-judged in
+          w ∙ rw (first-is, second-is, both-blocks .is) (ap (atRow (both-blocks .second .end)) (blocks-judged z))

@@ -1,7 +1,7 @@
 -- `check`: what the reader and the judge answer make its answer.
-use Prim.Native.Nat.{ℕ}
+use Prim.Native.Nat.{ℕ, _≤_}
 use native.Mathlib.Omega.{arith}
-use mathlib.Core.Path.{_≡_, ap}
+use mathlib.Core.Path.{_≡_, sym, ap, subst}
 use mathlib.Core.Option.{some}
 use mathlib.Core.List.{List}
 use lib.ListN.{getD}
@@ -11,13 +11,15 @@ use Rattle.reader.specs.Result.{Result, ok, err, Refusal, _>>=_}
 use Rattle.reader.specs.Limits.{Limits}
 use Rattle.reader.specs.Script.{Term}
 use Rattle.reader.specs.Measures.{size}
-use Rattle.reader.specs.Within.{Under}
-use Rattle.reader.specs.RowTrees.{RowTree, IsTree, treeAt}
+use Rattle.reader.specs.Layout.{rowsOf}
+use Rattle.reader.specs.Within.{Within, Under}
+use Rattle.reader.specs.RowTrees.{RowTree, treeAt}
 use Rattle.reader.specs.Answers.{told, rowsTree, judgedOf}
 use Rattle.reader.specs.declared.Outcome.{Outcome}
 use Rattle.reader.specs.declared.Outcome.the-variants as outcome
 use Rattle.reader.proofs.Answers.{then}
 use Rattle.reader.proofs.Lists.{under-all}
+use Rattle.reader.proofs.RoundTrip.{decoded}
 use Rattle.reader.proofs.RowTrees.{tree-stands}
 use Rattle.reader.proofs.Promise.{Decoded, tree-decoded}
 use Rattle.reader.proofs.Ranges.{Ranged, ranged}
@@ -26,7 +28,9 @@ use Rattle.rules.specs.declared.rules.Requirement.the-variants as requirement
 use Rattle.rules.specs.Judge.{judgeScript}
 use Rattle.rules.specs.Verdicts.{asRequirement}
 use Rattle.ownership.specs.Answers.{checkOf}
-use Rattle.ownership.specs.JudgeRows.{scriptAt}
+use Rattle.ownership.specs.RowUses.{NamesBelow}
+use Rattle.ownership.specs.JudgeRows.{scriptAt, EndsAt}
+use Rattle.ownership.proofs.JudgedRows.{names-below}
 
 -- What the type of a slice says of its elements.
 pub under-words : (rows : List ℕ) → ((i : ℕ) → Fits w32 (getD rows i 0)) → Under 4294967296 rows
@@ -54,11 +58,20 @@ module _ (l : Limits) (rows : List ℕ) (under : Under 4294967296 rows) (n : ℕ
       let d = tree-decoded l rows (w .0) (w .1) in
       (w .0, d, w .1, cc (w .2), tree-stands l rows (w .0) under (d .length) (d .decodes))
 
+  rows-decoded : (rows ≡ rowsOf l (script .0)) × Within l (script .0)
+  rows-decoded = decoded l rows (script .0) under (script .1 .length) (script .1 .decodes)
+
   pub set-ranged : Ranged l
   set-ranged = ranged l (script .1 .ranges)
 
-  pub script-is : IsTree tree
-  script-is = rw (script .4) tt
+  pub script-ends : EndsAt tree n
+  script-ends = rw (script .4) (sym (script .3))
+
+  pub script-few : n ≤ 4096
+  script-few = omega (arith, script .3, rows-decoded .1 .terms, set-ranged .terms .1)
+
+  pub script-names : NamesBelow (l .variables) rows n
+  script-names = subst (λ (k : ℕ). NamesBelow (l .variables) rows k) (sym (script .3)) (names-below l rows (script .0) (rows-decoded .0) (script .4))
 
   -- The judge's answer is the check's, with the number of terms where it accepts.
   judged : (r : Requirement) → asRequirement r ≡ scriptAt (l .variables) tree → (asRequirement r >>= λ _. ok n) ≡ checkOf l rows

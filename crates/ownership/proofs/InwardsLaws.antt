@@ -2,6 +2,7 @@
 -- around it left; on the way outwards that state says what is known of the table.
 use Prim.Native.Nat.{ℕ, zero, suc, _+_, _-_, _<_, _≤_}
 use native.Mathlib.Omega.{arith}
+use native.Mathlib.Decide.{decLt}
 use native.Mathlib.Numerals.{add-one}
 use mathlib.Core.Path.{_≡_, refl, sym, _∙_, ap, subst}
 use mathlib.Core.Logic.{⊎-elim}
@@ -17,11 +18,13 @@ use Rattle.rules.specs.declared.verdicts.Value.{Value}
 use Rattle.rules.specs.declared.verdicts.Verdict.the-variants as verdict
 use Rattle.ownership.specs.declared.judge.JudgedTerm.{JudgedTerm}
 use Rattle.rules.specs.Environment.{used, Environment, update, isFree}
+use Rattle.rules.specs.Uses.{Unfinished}
 use Rattle.rules.specs.Rules.{Judged}
 use Rattle.rules.specs.Neat.{Neat}
 use Rattle.rules.specs.Table.{environmentOf}
 use Rattle.rules.specs.Verdicts.{asValue, verdictOf}
-use Rattle.ownership.specs.JudgeRows.{ended, judgeAt, Wraps, beginAt, AfterReady, afterAt}
+use Rattle.ownership.specs.RowUses.{laterIn}
+use Rattle.ownership.specs.JudgeRows.{Ended, ended, judgeAt, Wraps, AllWrap, beginAt, AfterReady, afterAt}
 use Rattle.rules.proofs.Answers.{was-free}
 use Rattle.rules.proofs.Slots.{update-same}
 use Rattle.rules.proofs.NeatSteps.{Fine, neat-take}
@@ -75,69 +78,103 @@ module _ (rows : List ℕ) (i : ℕ) where
   inwards-neat nv level Γ₀ N zero Γ I = subst (λ (Δ : Environment). Neat nv Δ level) (sym I) N
   inwards-neat nv level Γ₀ N (suc n) Γ I = begun-neat rows (i + n) (I .0) Γ (I .2) nv level (inwards-neat nv level Γ₀ N n (I .0) (I .1))
 
-module _ (nv levels : ℕ) (rows : List ℕ) (i : ℕ) where
+module _ (nv levels : ℕ) (rows : List ℕ) (i : ℕ) (good : IsTree (treeAt nv levels rows i)) where
+  pub inwards-tree : (Γ₀ : Environment) (n : ℕ) (Γ : Environment) → Inwards rows i Γ₀ n Γ → IsTree (treeAt nv (levels - n) rows (i + n))
+  unfolding Inwards
+  inwards-tree Γ₀ zero Γ I =
+      let a : levels - 0 ≡ levels = omega arith in
+      let b : i + 0 ≡ i = omega arith in
+      rw (a, b) good
+  inwards-tree Γ₀ (suc n) Γ I =
+      let a : levels - suc n ≡ levels - n - 1 = omega arith in
+      let b : i + suc n ≡ i + n + 1 = omega arith in
+      rw (a, b) (wrapped-inner nv (levels - n) rows (i + n) (inwards-tree Γ₀ n (I .0) (I .1)) (I .2 .kind))
+
+  inwards-wrap : (Γ₀ : Environment) (n : ℕ) (Γ : Environment) → Inwards rows i Γ₀ n Γ → AllWrap nv rows i n
+  unfolding Inwards
+  inwards-wrap Γ₀ zero Γ I k h = absurd (omega arith)
+  inwards-wrap Γ₀ (suc n) Γ I k h = go (inwards-wrap Γ₀ n (I .0) (I .1)) (decLt k n)
+    where
+      go : AllWrap nv rows i n → Dec (k < n) → Wraps nv rows (i + k)
+      go all (yes l) = all k l
+      go all (no l) =
+          let w : k ≡ n = omega arith in
+          rw w (wrapped nv (levels - n) rows (i + n) (inwards-tree Γ₀ n (I .0) (I .1)) (I .2 .kind))
+
+  -- The same counted from row to row: all before the term n in, and all up to the term m in, which is the last before it.
+  pub inwards-around : (Γ₀ : Environment) (n : ℕ) (Γ : Environment) → Inwards rows i Γ₀ n Γ → AllWrap nv rows i (i + n - i)
+  inwards-around Γ₀ n Γ I =
+      let w : i + n - i ≡ n = omega arith in
+      rw w (inwards-wrap Γ₀ n Γ I)
+
+  pub outwards-around : (Γ₀ : Environment) (n m : ℕ) (Γ : Environment) → 0 < n → m ≡ n - 1 → Inwards rows i Γ₀ n Γ → AllWrap nv rows i (i + m + 1 - i)
+  outwards-around Γ₀ n m Γ h q I =
+      let w : i + m + 1 - i ≡ n = omega arith in
+      rw w (inwards-wrap Γ₀ n Γ I)
+
+module _ (nv levels : ℕ) (rows : List ℕ) (i : ℕ) (later : ℕ → Unfinished) where
+  -- What has not finished once the term n in has: those around it, and what is after them.
+  abbrev pub inside : ℕ → ℕ → Unfinished
+  inside n next = laterIn rows i n (later next)
+
+  -- The answer of the term n in, where it is judged in Γ.
+  abbrev pub answerIn : ℕ → ℕ → Environment → Ended
+  answerIn level n Γ = judgeAt nv (treeAt nv (levels - n) rows (i + n)) level (inside n) Γ
+
   -- The term n in has been judged, in that state: this is its answer.
   abbrev pub Outwards : ℕ → Environment → ℕ → List ℕ → JudgedTerm → Type 0
-  Outwards level Γ₀ n env judged = (Γ : Environment) × Inwards rows i Γ₀ n Γ × (ended env judged ≡ judgeAt nv (treeAt nv (levels - n) rows (i + n)) level Γ)
+  Outwards level Γ₀ n env judged = (Γ : Environment) × Inwards rows i Γ₀ n Γ × (ended env judged ≡ answerIn level n Γ)
+
+  -- The innermost term has been judged.
+  pub outwards-start : (level : ℕ) (Γ₀ : Environment) (n : ℕ) (Γ : Environment) → Inwards rows i Γ₀ n Γ → (env : List ℕ) (judged : JudgedTerm)
+      → ended env judged ≡ judgeAt nv (treeAt nv (levels - n) rows (i + n)) level (λ next. laterIn rows i (i + n - i) (later next)) Γ → Outwards level Γ₀ n env judged
+  outwards-start level Γ₀ n Γ I env judged e =
+      let w : i + n - i ≡ n = omega arith in
+      (Γ, I, rw w at e)
 
   module _ (good : IsTree (treeAt nv levels rows i)) where
-    pub inwards-tree : (Γ₀ : Environment) (n : ℕ) (Γ : Environment) → Inwards rows i Γ₀ n Γ → IsTree (treeAt nv (levels - n) rows (i + n))
-    unfolding Inwards
-    inwards-tree Γ₀ zero Γ I =
-        let a : levels - 0 ≡ levels = omega arith in
-        let b : i + 0 ≡ i = omega arith in
-        rw (a, b) good
-    inwards-tree Γ₀ (suc n) Γ I =
-        let a : levels - suc n ≡ levels - n - 1 = omega arith in
-        let b : i + suc n ≡ i + n + 1 = omega arith in
-        rw (a, b) (wrapped-inner nv (levels - n) rows (i + n) (inwards-tree Γ₀ n (I .0) (I .1)) (I .2 .kind))
-
     module _ (level : ℕ) (Γ₀ : Environment) where
       -- A term's answer, from its inner term's.
-      step : (n : ℕ) (Γ Γ′ : Environment) → Inwards rows i Γ₀ n Γ′ → Begins rows (i + n) Γ′ Γ → judgeAt nv (treeAt nv (levels - n) rows (i + n)) level Γ′ ≡ afterAt nv level rows (i + n) (judgeAt nv (treeAt nv (levels - suc n) rows (i + suc n)) level Γ)
+      step : (n : ℕ) (Γ Γ′ : Environment) → Inwards rows i Γ₀ n Γ′ → Begins rows (i + n) Γ′ Γ → answerIn level n Γ′ ≡ afterAt nv level rows (i + n) (inside n) (answerIn level (suc n) Γ)
+      unfolding laterIn
       step n Γ Γ′ I B =
           let a : levels - suc n ≡ levels - n - 1 = omega arith in
           let b : i + suc n ≡ i + n + 1 = omega arith in
-          rw (a, b) (wrapped-fine nv (levels - n) rows (i + n) (inwards-tree Γ₀ n Γ′ I) (B .kind) level Γ′ Γ (B .to))
+          rw (a, b) (wrapped-fine nv (levels - n) rows (i + n) (inwards-tree nv levels rows i good Γ₀ n Γ′ I) (B .kind) level (inside n) Γ′ Γ (B .to))
 
-      outer-refused : (n : ℕ) (Γ : Environment) → Inwards rows i Γ₀ n Γ → (x : Refusal) → judgeAt nv (treeAt nv (levels - n) rows (i + n)) level Γ ≡ err x → err x ≡ judgeAt nv (treeAt nv levels rows i) level Γ₀
-      unfolding Inwards _>>=_
-      outer-refused zero Γ I x e =
+      outermost : answerIn level 0 Γ₀ ≡ judgeAt nv (treeAt nv levels rows i) level later Γ₀
+      unfolding laterIn
+      outermost =
           let a : levels - 0 ≡ levels = omega arith in
           let b : i + 0 ≡ i = omega arith in
-          sym (rw (a, b, I) at e)
-      outer-refused (suc n) Γ I x e = outer-refused n (I .0) (I .1) x (step n Γ (I .0) (I .1) (I .2) ∙ ap (afterAt nv level rows (i + n)) e)
+          rw (a, b)
+
+      outer-refused : (n : ℕ) (Γ : Environment) → Inwards rows i Γ₀ n Γ → (x : Refusal) → answerIn level n Γ ≡ err x → err x ≡ judgeAt nv (treeAt nv levels rows i) level later Γ₀
+      unfolding Inwards _>>=_
+      outer-refused zero Γ I x e = sym (rw I at e) ∙ outermost
+      outer-refused (suc n) Γ I x e = outer-refused n (I .0) (I .1) x (step n Γ (I .0) (I .1) (I .2) ∙ ap (afterAt nv level rows (i + n) (inside n)) e)
 
       -- A refusal on the way inwards is that of the outermost term.
-      pub inwards-refused : (n : ℕ) (Γ : Environment) → Inwards rows i Γ₀ n Γ → wrapsOf (fieldAt rows (i + n) 0) ≡ true → (x : Refusal) → beginAt rows (i + n) Γ ≡ err x → err x ≡ judgeAt nv (treeAt nv levels rows i) level Γ₀
-      inwards-refused n Γ I w x e = outer-refused n Γ I x (wrapped-refused nv (levels - n) rows (i + n) (inwards-tree Γ₀ n Γ I) w level Γ x e)
+      pub inwards-refused : (n : ℕ) (Γ : Environment) → Inwards rows i Γ₀ n Γ → wrapsOf (fieldAt rows (i + n) 0) ≡ true → (x : Refusal) → beginAt rows (i + n) Γ ≡ err x → err x ≡ judgeAt nv (treeAt nv levels rows i) level later Γ₀
+      inwards-refused n Γ I w x e = outer-refused n Γ I x (wrapped-refused nv (levels - n) rows (i + n) (inwards-tree nv levels rows i good Γ₀ n Γ I) w level (inside n) Γ x e)
 
       -- The outermost term's answer.
-      pub outwards-none : (n : ℕ) (env : List ℕ) (judged : JudgedTerm) → n ≤ 0 → Outwards level Γ₀ n env judged → ended env judged ≡ judgeAt nv (treeAt nv levels rows i) level Γ₀
+      pub outwards-none : (n : ℕ) (env : List ℕ) (judged : JudgedTerm) → n ≤ 0 → Outwards level Γ₀ n env judged → ended env judged ≡ judgeAt nv (treeAt nv levels rows i) level later Γ₀
       unfolding Inwards
-      outwards-none zero env judged h O =
-          let a : levels - 0 ≡ levels = omega arith in
-          let b : i + 0 ≡ i = omega arith in
-          rw (a, b, O .1) at (O .2)
+      outwards-none zero env judged h O = rw (O .1) at (O .2) ∙ outermost
       outwards-none (suc n) env judged h O = absurd (omega arith)
 
       module _ (env : List ℕ) (judged : JudgedTerm) where
         -- One term further out.
-        pub outwards-less : (n m : ℕ) → 0 < n → m ≡ n - 1 → Outwards level Γ₀ n env judged → (env′ : List ℕ) (out : JudgedTerm) → ended env′ out ≡ afterAt nv level rows (i + m) (ended env judged) → Outwards level Γ₀ m env′ out
+        pub outwards-less : (n m : ℕ) → 0 < n → m ≡ n - 1 → Outwards level Γ₀ n env judged → (env′ : List ℕ) (out : JudgedTerm) → ended env′ out ≡ afterAt nv level rows (i + m) (λ next. laterIn rows i (i + m - i) (later next)) (ended env judged) → Outwards level Γ₀ m env′ out
         unfolding Inwards
         outwards-less zero m h q O env′ out e = absurd (omega arith)
         outwards-less (suc n) m h q O env′ out e =
             let w : m ≡ n = omega arith in
             let I = O .1 in
-            rw w (I .0, I .1, rw w at e ∙ ap (afterAt nv level rows (i + n)) (O .2) ∙ sym (step n (O .0) (I .0) (I .1) (I .2)))
-
-        pub outwards-wraps : (n m : ℕ) → 0 < n → m ≡ n - 1 → Outwards level Γ₀ n env judged → Wraps nv rows (i + m)
-        unfolding Inwards
-        outwards-wraps zero m h q O = absurd (omega arith)
-        outwards-wraps (suc n) m h q O =
-            let w : m ≡ n = omega arith in
-            let I = O .1 in
-            rw w (wrapped nv (levels - n) rows (i + n) (inwards-tree Γ₀ n (I .0) (I .1)) (I .2 .kind))
+            let v : i + m - i ≡ m = omega arith in
+            let f : ended env′ out ≡ afterAt nv level rows (i + m) (inside m) (ended env judged) = rw v at e in
+            rw w (I .0, I .1, rw w at f ∙ ap (afterAt nv level rows (i + n) (inside n)) (O .2) ∙ sym (step n (O .0) (I .0) (I .1) (I .2)))
 
         -- What is known of the table after the inner term.
         pub outwards-ready : (n m : ℕ) → 0 < n → m ≡ n - 1 → Neat nv Γ₀ level → Outwards level Γ₀ n env judged → AfterReady nv level rows (i + m) env judged
@@ -153,4 +190,4 @@ module _ (nv levels : ℕ) (rows : List ℕ) (i : ℕ) where
             })
           where
             after : (v : Value) → verdictOf (judged .told) ≡ verdict.Fine v → Fine nv (O .0) (environmentOf env) (asValue env v) level
-            after v f = fine-tree nv level (O .0) (inwards-neat rows i nv level Γ₀ N (suc n) (O .0) (O .1)) env judged v f (levels - suc n) rows (i + suc n) (inwards-tree Γ₀ (suc n) (O .0) (O .1)) (O .2)
+            after v f = fine-tree nv level (inside (suc n)) (O .0) (inwards-neat rows i nv level Γ₀ N (suc n) (O .0) (O .1)) env judged v f (levels - suc n) rows (i + suc n) (inwards-tree nv levels rows i good Γ₀ (suc n) (O .0) (O .1)) (O .2)

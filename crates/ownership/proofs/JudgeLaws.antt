@@ -50,26 +50,26 @@ module _ (R : Judged Out) (j : ℕ) (env : List ℕ) (r : JudgedTerm) (e : ended
       go (err x) z = let y : _≡_ {A = ℕ} 0 1 = cc in absurd (omega arith)
 
 -- f makes the term, K is the rule that follows its inner term.
-module _ {A B : Type 0} (f : A → B) (J : A → Judged Out) (J′ : B → Judged Out) (K : Out → Judged Out) (rule : (a : A) → J′ (f a) ≡ (J a >>= K)) (env : List ℕ) (inner : JudgedTerm) where
+module _ {A B : Type 0} (f : A → B) (J : A → ℕ → Judged Out) (J′ : B → ℕ → Judged Out) (K : Out → Judged Out) (rule : (a : A) (j : ℕ) → J′ (f a) j ≡ (J a j >>= K)) (env : List ℕ) (inner : JudgedTerm) where
   pub inner-refused : (d : RowTree A) → IsTree d → ended env inner ≡ judgedAt J d → (n : ℕ) → verdictOf (inner .told) ≡ verdict.Refused n → ended env inner ≡ judgedAt J′ (around f d)
   unfolding judgedAt _>>=_
   inner-refused none h e n q = absurd h
-  inner-refused (some r) h e n q = rw (refused-ended env inner n q, rule (r .0), refused-is (J (r .0)) (r .1) env inner e n q)
+  inner-refused (some r) h e n q = rw (refused-ended env inner n q, rule (r .0) (r .1), refused-is (J (r .0) (r .1)) (r .1) env inner e n q)
 
   pub inner-fine : (d : RowTree A) → IsTree d → ended env inner ≡ judgedAt J d → (v : Value) → verdictOf (inner .told) ≡ verdict.Fine v → (env′ : List ℕ) (out : JudgedTerm) → ended env′ out ≡ atRow (inner .next) (K (environmentOf env, asValue env v)) → ended env′ out ≡ judgedAt J′ (around f d)
   unfolding judgedAt _>>=_
   inner-fine none h e v q env′ out w = absurd h
   inner-fine (some r) h e v q env′ out w =
-      let z = fine-is (J (r .0)) (r .1) env inner e v q in
-      w ∙ rw (z .1, rule (r .0), z .0)
+      let z = fine-is (J (r .0) (r .1)) (r .1) env inner e v q in
+      w ∙ rw (z .1, rule (r .0) (r .1), z .0)
 
--- The same, whatever the inner term's answer.
-bind-row : (R : Judged Out) (j : ℕ) (K : Out → Judged Out) → atRow j (R >>= K) ≡ (atRow j R >>= λ o. atRow (o .1) (K (o .0)))
+-- The same, whatever the inner term's answer; the rule may ask for the row after it.
+bind-row : (R : Judged Out) (j : ℕ) (K : ℕ → Out → Judged Out) → atRow j (R >>= K j) ≡ (atRow j R >>= λ o. atRow (o .1) (K (o .1) (o .0)))
 unfolding _>>=_
 bind-row (ok o) j K = refl
 bind-row (err e) j K = refl
 
-pub inner-step : {A B : Type 0} (f : A → B) (J : A → Judged Out) (J′ : B → Judged Out) (K : Out → Judged Out) → ((a : A) → J′ (f a) ≡ (J a >>= K)) → (d : RowTree A) → IsTree d → judgedAt J′ (around f d) ≡ (judgedAt J d >>= λ o. atRow (o .1) (K (o .0)))
+pub inner-step : {A B : Type 0} (f : A → B) (J : A → ℕ → Judged Out) (J′ : B → ℕ → Judged Out) (K : ℕ → Out → Judged Out) → ((a : A) (j : ℕ) → J′ (f a) j ≡ (J a j >>= K j)) → (d : RowTree A) → IsTree d → judgedAt J′ (around f d) ≡ (judgedAt J d >>= λ o. atRow (o .1) (K (o .1) (o .0)))
 unfolding judgedAt
 inner-step f J J′ K rule none h = absurd h
-inner-step f J J′ K rule (some r) h = rw (rule (r .0)) (bind-row (J (r .0)) (r .1) K)
+inner-step f J J′ K rule (some r) h = rw (rule (r .0) (r .1)) (bind-row (J (r .0) (r .1)) (r .1) K)

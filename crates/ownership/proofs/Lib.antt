@@ -1,5 +1,11 @@
 -- The laws that the proofs of the functions cite, and the theorem for the layers above.
 pub mod JudgeLaws
+pub mod RowUseLaws
+pub mod TreeNames
+pub mod FoundUses
+pub mod BarredLaws
+pub mod WrittenLaws
+pub mod LaterLaws
 pub mod AroundLaws
 pub mod TreeLets
 pub mod TreeStates
@@ -12,5 +18,7 @@ pub mod LeafLaws
 pub mod BlockLaws
 pub mod ScriptLaws
 pub mod TableStart
+pub mod UsesStart
+pub mod JudgedRows
 pub mod CheckLaws
 pub mod Accepted

@@ -26,7 +26,7 @@ module _ (l : List ℕ) (zeros : (k : ℕ) → _≡_ {A = ℕ} (getD l k 0) 0) w
   }
 
 -- The first w of m words.
-first-words : (m w k : ℕ) → _≡_ {A = ℕ} (getD (take w (replicate m 0)) k 0) 0
+pub first-words : (m w k : ℕ) → _≡_ {A = ℕ} (getD (take w (replicate m 0)) k 0) 0
 first-words m zero k = refl
 first-words zero (suc w) k = refl
 first-words (suc m) (suc w) zero = refl

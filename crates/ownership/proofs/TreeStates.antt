@@ -2,13 +2,14 @@
 use Prim.Native.Nat.{ℕ}
 use mathlib.Core.Path.{_≡_}
 use mathlib.Core.Option.{none, some}
-use mathlib.Core.List.{List}
+use mathlib.Core.List.{List, _++_}
 use Rattle.reader.specs.Script.{Term}
 use Rattle.reader.specs.RowTrees.{RowTree, IsTree, treeAt}
 use Rattle.rules.specs.declared.verdicts.Value.{Value}
 use Rattle.rules.specs.declared.verdicts.Verdict.the-variants as verdict
 use Rattle.ownership.specs.declared.judge.JudgedTerm.{JudgedTerm}
 use Rattle.rules.specs.Environment.{Environment}
+use Rattle.rules.specs.Uses.{Unfinished, finishing}
 use Rattle.rules.specs.Judge.{judge}
 use Rattle.rules.specs.Neat.{Neat}
 use Rattle.rules.specs.Table.{environmentOf}
@@ -19,11 +20,11 @@ use Rattle.rules.proofs.NeatSteps.{Fine}
 use Rattle.rules.proofs.NeatJudged.{NeatAfter, neat-after}
 use Rattle.ownership.proofs.TreeLets.{Lets, tree-lets}
 
-module _ (nv level : ℕ) (Γ : Environment) (N : Neat nv Γ level) (env : List ℕ) (r : JudgedTerm) (v : Value) (fine : verdictOf (r .told) ≡ verdict.Fine v) where
-  fine-lets : (d : RowTree Term) → IsTree d → Lets nv d → ended env r ≡ judgeAt nv d level Γ → Fine nv Γ (environmentOf env) (asValue env v) level
+module _ (nv level : ℕ) (later : ℕ → Unfinished) (Γ : Environment) (N : Neat nv Γ level) (env : List ℕ) (r : JudgedTerm) (v : Value) (fine : verdictOf (r .told) ≡ verdict.Fine v) where
+  fine-lets : (d : RowTree Term) → IsTree d → Lets nv d → ended env r ≡ judgeAt nv d level later Γ → Fine nv Γ (environmentOf env) (asValue env v) level
   unfolding judgedAt NeatAfter
   fine-lets none h w e = absurd h
-  fine-lets (some t) h w e = neat-after nv (t .0) level Γ (environmentOf env, asValue env v) w (fine-is (judge nv (t .0) level Γ) (t .1) env r e v fine .0) N
+  fine-lets (some t) h w e = neat-after nv (t .0) level (finishing (t .0) ++ later (t .1)) Γ (environmentOf env, asValue env v) w (fine-is (judge nv (t .0) level (finishing (t .0) ++ later (t .1)) Γ) (t .1) env r e v fine .0) N
 
-  pub fine-tree : (l : ℕ) (rows : List ℕ) (i : ℕ) → IsTree (treeAt nv l rows i) → ended env r ≡ judgeAt nv (treeAt nv l rows i) level Γ → Fine nv Γ (environmentOf env) (asValue env v) level
+  pub fine-tree : (l : ℕ) (rows : List ℕ) (i : ℕ) → IsTree (treeAt nv l rows i) → ended env r ≡ judgeAt nv (treeAt nv l rows i) level later Γ → Fine nv Γ (environmentOf env) (asValue env v) level
   fine-tree l rows i h e = fine-lets (treeAt nv l rows i) h (tree-lets nv l rows i) e

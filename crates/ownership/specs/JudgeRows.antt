@@ -3,7 +3,7 @@ use Prim.Native.Nat.{ℕ, zero, suc, _+_, _-_, _*_, _≤_, _<_}
 use mathlib.Core.Path.{_≡_}
 use mathlib.Core.Bool.{true}
 use mathlib.Core.Option.{Option, none, some}
-use mathlib.Core.List.{List}
+use mathlib.Core.List.{List, [], _∷_, _++_}
 use lib.Dec.{eqb}
 use lib.ListN.{length}
 use Rattle.reader.specs.Result.{ok, err, pick, _>>=_}
@@ -16,6 +16,7 @@ use Rattle.rules.specs.declared.verdicts.Value.{Value}
 use Rattle.rules.specs.declared.verdicts.Verdict.the-variants as verdict
 use Rattle.rules.specs.Environment.{used, Environment, Ty}
 use Rattle.rules.specs.Choice.{carried}
+use Rattle.rules.specs.Uses.{Unfinished, naming, finishing, finishingAll}
 use Rattle.rules.specs.Rules.{Judged, Out, numberTy, judgeCopy, judgeMove, judgeShared, judgeExclusive, judgeBox, judgeLet, judgeAssign, judgeBelow, judgeChoice}
 use Rattle.rules.specs.Judge.{judge, judges, judgeScript}
 use Rattle.rules.specs.Neat.{Neat, NeatValue}
@@ -23,6 +24,7 @@ use Rattle.rules.specs.Met.{judgeBranch}
 use Rattle.rules.specs.Table.{environmentOf}
 use Rattle.rules.specs.Verdicts.{verdictOf, beginLet, asValue, answered}
 use Rattle.ownership.specs.declared.judge.JudgedTerm.{JudgedTerm}
+use Rattle.ownership.specs.RowUses.{rowNames}
 
 -- The place in fields k and k + 1 of row i, as the code has it.
 abbrev pub rowPlace : List ℕ → ℕ → ℕ → table.Place
@@ -39,35 +41,40 @@ unfoldable pub ended : List ℕ → JudgedTerm → Ended
 ended env r = atRow (r .next) (answered env (r .next) (r .told))
 
 -- Where no tree stands the answer does not matter: the code asks that one does.
-unfoldable pub judgedAt : {A : Type 0} → (A → Judged Out) → RowTree A → Ended
+unfoldable pub judgedAt : {A : Type 0} → (A → ℕ → Judged Out) → RowTree A → Ended
 judgedAt judged none = err (0, 0)
-judgedAt judged (some r) = atRow (r .1) (judged (r .0))
+judgedAt judged (some r) = atRow (r .1) (judged (r .0) (r .1))
 
-abbrev pub judgeAt : ℕ → RowTree Term → ℕ → Environment → Ended
-judgeAt nv d level Γ = judgedAt (λ t. judge nv t level Γ) d
+-- `later` gives the terms that have not finished once the tree has, which ends before that row.
+abbrev pub judgeAt : ℕ → RowTree Term → ℕ → (ℕ → Unfinished) → Environment → Ended
+judgeAt nv d level later Γ = judgedAt (λ t next. judge nv t level (finishing t ++ later next) Γ) d
 
-abbrev pub judgesAt : ℕ → RowTree Terms → ℕ → Environment → Ended
-judgesAt nv d level Γ = judgedAt (λ ts. judges nv ts level Γ) d
+abbrev pub judgesAt : ℕ → RowTree Terms → ℕ → (ℕ → Unfinished) → Environment → Ended
+judgesAt nv d level later Γ = judgedAt (λ ts next. judges nv ts level (finishingAll ts ++ later next) Γ) d
 
 -- At row i stands a term around one inner term.
 pub record Wraps (nv : ℕ) (rows : List ℕ) (i : ℕ) : Type 0 where
   pub room : 5 * i + 5 ≤ length rows
   pub kind : wrapsOf (fieldAt rows i 0) ≡ true
-  pub number : fieldAt rows i 0 ≡ 8 → fieldAt rows i 1 < nv
+  pub number : (fieldAt rows i 0 ≡ 7 → ⊥) → fieldAt rows i 1 < nv
+
+-- So at each of the n rows from i on.
+abbrev pub AllWrap : ℕ → List ℕ → ℕ → ℕ → Type 0
+AllWrap nv rows i n = (k : ℕ) → k < n → Wraps nv rows (i + k)
 
 -- What comes before its inner term.
 unfoldable pub beginAt : List ℕ → ℕ → Environment → Judged Environment
 beginAt rows i Γ = pick (eqb (fieldAt rows i 0) 8) (beginLet Γ i (fieldAt rows i 1)) (ok Γ)
 
--- The rule that follows it.
-unfoldable pub ruleAfter : ℕ → ℕ → List ℕ → ℕ → Out → Judged Out
-ruleAfter nv level rows i o =
+-- The rule that follows it; ns is the terms that have not finished then, itself first.
+unfoldable pub ruleAfter : ℕ → ℕ → List ℕ → ℕ → Unfinished → Out → Judged Out
+ruleAfter nv level rows i ns o =
     pick (eqb (fieldAt rows i 0) 7) (judgeBox nv (o .0) i (o .1))
     (pick (eqb (fieldAt rows i 0) 8) (judgeLet nv level (o .0) i (fieldAt rows i 1) (o .1))
-    (judgeAssign nv (o .0) i (placeAt rows i 1) (o .1)))
+    (judgeAssign nv ns (o .0) i (placeAt rows i 1) (o .1)))
 
-abbrev pub afterAt : ℕ → ℕ → List ℕ → ℕ → Ended → Ended
-afterAt nv level rows i inner = inner >>= λ o. atRow (o .1) (ruleAfter nv level rows i (o .0))
+abbrev pub afterAt : ℕ → ℕ → List ℕ → ℕ → (ℕ → Unfinished) → Ended → Ended
+afterAt nv level rows i later inner = inner >>= λ o. atRow (o .1) (ruleAfter nv level rows i (rowNames rows i ∷ later (o .1)) (o .0))
 
 -- What is asked of the table after the inner term: its state and the value are neat, and the number of a let is taken.
 pub record AfterReady (nv level : ℕ) (rows : List ℕ) (i : ℕ) (env : List ℕ) (inner : JudgedTerm) : Type 0 where
@@ -76,39 +83,50 @@ pub record AfterReady (nv level : ℕ) (rows : List ℕ) (i : ℕ) (env : List �
   pub taken : (v : Value) → verdictOf (inner .told) ≡ verdict.Fine v → fieldAt rows i 0 ≡ 8 → environmentOf env (fieldAt rows i 1) ≡ used
 
 -- What is left of a block: n terms from row i on, after one with this value.
-unfoldable pub restAt : ℕ → (ℕ → RowTree Term) → ℕ → ℕ → ℕ → Option Ty → Environment → Ended
-restAt nv term level zero i o Γ = ok ((Γ, o), i)
-restAt nv term level (suc n) i o Γ = judgesAt nv (severalAt term n i) level Γ
+unfoldable pub restAt : ℕ → (ℕ → RowTree Term) → ℕ → (ℕ → Unfinished) → ℕ → ℕ → Option Ty → Environment → Ended
+restAt nv term level later zero i o Γ = ok ((Γ, o), i)
+restAt nv term level later (suc n) i o Γ = judgesAt nv (severalAt term n i) level later Γ
 
 -- The two blocks of a choice, once its place is judged (LANGUAGE 3.31), and what is known after either.
-unfoldable pub judgeBranches : ℕ → ℕ → Environment → ℕ → (ℕ × Terms) × (ℕ × Terms) → Judged Out
-judgeBranches nv level Γ i b =
-    judgeBranch nv (b .0 .1) (b .0 .0) level Γ >>= λ one.
-    judgeBranch nv (b .1 .1) (b .1 .0) level (carried Γ (one .0)) >>= λ other.
+-- ns is the terms that have not finished once both have, the choice first.
+unfoldable pub judgeBranches : ℕ → ℕ → Environment → ℕ → (ℕ × Terms) × (ℕ × Terms) → Unfinished → Judged Out
+judgeBranches nv level Γ i b ns =
+    judgeBranch nv (b .0 .1) (b .0 .0) level ((finishingAll (b .0 .1) ++ naming []) ++ ((finishingAll (b .1 .1) ++ naming []) ++ ns)) Γ >>= λ one.
+    judgeBranch nv (b .1 .1) (b .1 .0) level ((finishingAll (b .1 .1) ++ naming []) ++ ns) (carried Γ (one .0)) >>= λ other.
     judgeChoice nv Γ i one other
 
--- Those of the choice at row i, which has so many levels left.
-abbrev pub branchesAt : ℕ → ℕ → List ℕ → ℕ → ℕ → Environment → Ended
-branchesAt nv levels rows i level Γ =
-    judgedAt (judgeBranches nv level Γ i) (thenBlock (blockAt (treeAt nv (levels - 1) rows) rows (i + 1)) (blockAt (treeAt nv (levels - 1) rows) rows))
+-- Those of the choice at row i, which has so many levels left. `later` has the choice in it.
+abbrev pub branchesAt : ℕ → ℕ → List ℕ → ℕ → ℕ → (ℕ → Unfinished) → Environment → Ended
+branchesAt nv levels rows i level later Γ =
+    judgedAt (λ b next. judgeBranches nv level Γ i b (later next)) (thenBlock (blockAt (treeAt nv (levels - 1) rows) rows (i + 1)) (blockAt (treeAt nv (levels - 1) rows) rows))
 
 -- A term with no inner term, by its kind.
-unfoldable pub judgeLeaf : ℕ → Option Kind → ℕ → Place → Place → Environment → Judged Out
-judgeLeaf nv none i p q Γ = ok (Γ, some numberTy)
-judgeLeaf nv (some kNumber) i p q Γ = ok (Γ, some numberTy)
-judgeLeaf nv (some kReading) i p q Γ = ok (Γ, some numberTy)
-judgeLeaf nv (some kCopy) i p q Γ = judgeCopy nv Γ i p
-judgeLeaf nv (some kMove) i p q Γ = judgeMove nv Γ i p
-judgeLeaf nv (some kShared) i p q Γ = judgeShared nv Γ i p
-judgeLeaf nv (some kExclusive) i p q Γ = judgeExclusive nv Γ i p
-judgeLeaf nv (some kBox) i p q Γ = ok (Γ, some numberTy)
-judgeLeaf nv (some kLet) i p q Γ = ok (Γ, some numberTy)
-judgeLeaf nv (some kAssign) i p q Γ = ok (Γ, some numberTy)
-judgeLeaf nv (some kBelow) i p q Γ = judgeBelow nv Γ i p q
-judgeLeaf nv (some kBlock) i p q Γ = ok (Γ, some numberTy)
-judgeLeaf nv (some kChoice) i p q Γ = ok (Γ, some numberTy)
-judgeLeaf nv (some kSum) i p q Γ = judgeBelow nv Γ i p q
+unfoldable pub judgeLeaf : ℕ → Option Kind → ℕ → Place → Place → Unfinished → Environment → Judged Out
+judgeLeaf nv none i p q ns Γ = ok (Γ, some numberTy)
+judgeLeaf nv (some kNumber) i p q ns Γ = ok (Γ, some numberTy)
+judgeLeaf nv (some kReading) i p q ns Γ = ok (Γ, some numberTy)
+judgeLeaf nv (some kCopy) i p q ns Γ = judgeCopy nv ns Γ i p
+judgeLeaf nv (some kMove) i p q ns Γ = judgeMove nv ns Γ i p
+judgeLeaf nv (some kShared) i p q ns Γ = judgeShared nv ns Γ i p
+judgeLeaf nv (some kExclusive) i p q ns Γ = judgeExclusive nv ns Γ i p
+judgeLeaf nv (some kBox) i p q ns Γ = ok (Γ, some numberTy)
+judgeLeaf nv (some kLet) i p q ns Γ = ok (Γ, some numberTy)
+judgeLeaf nv (some kAssign) i p q ns Γ = ok (Γ, some numberTy)
+judgeLeaf nv (some kBelow) i p q ns Γ = judgeBelow nv ns Γ i p q
+judgeLeaf nv (some kBlock) i p q ns Γ = ok (Γ, some numberTy)
+judgeLeaf nv (some kChoice) i p q ns Γ = ok (Γ, some numberTy)
+judgeLeaf nv (some kSum) i p q ns Γ = judgeBelow nv ns Γ i p q
 
 unfoldable pub scriptAt : ℕ → RowTree Term → Judged (Unit {0})
 scriptAt nv none = err (0, 0)
 scriptAt nv (some r) = judgeScript nv (r .0)
+
+-- A tree stands there, and the row after it is n.
+abbrev pub EndsAt : {A : Type 0} → RowTree A → ℕ → Type 0
+EndsAt none n = ⊥
+EndsAt (some r) n = r .1 ≡ n
+
+-- The rows after it name nothing.
+abbrev pub NothingAfter : {A : Type 0} → List ℕ → RowTree A → Type 0
+NothingAfter rows none = ⊥
+NothingAfter rows (some r) = (k : ℕ) → r .1 ≤ k → rowNames rows k ≡ []

@@ -1,28 +1,38 @@
 // Judging terms and blocks over term rows, in the order of a run (LANGUAGE 3.1). The table of the variables is lent
-// down; after a refusal it is not looked at again.
+// down; after a refusal it is not looked at again. With it go the last uses of the variables, and the set of what the
+// terms around the block name (3.33): these have not finished.
 ghost use mathlib.Core.Path.{_≡_};
-ghost use mathlib.Core.Bool.{false};
+ghost use mathlib.Core.Bool.{true, false};
 ghost use mathlib.Core.Option.{none};
 ghost use mathlib.Core.List.{List};
-ghost use Prim.Native.Nat.{ℕ, suc, _<_, _≤_, _+_, _*_};
+ghost use Prim.Native.Nat.{ℕ, suc, _<_, _≤_, _+_, _-_, _*_};
 ghost use lib.ListN.{length};
 ghost use Rattle.reader.specs.Kinds.{newest, kindOf, wrapsOf};
 ghost use Rattle.reader.specs.RowParts.{fieldAt};
-ghost use Rattle.reader.specs.RowTrees.{IsTree, IsRest, treeAt};
+ghost use Rattle.reader.specs.RowTrees.{placeAt, IsTree, IsRest, treeAt};
+ghost use Rattle.rules.specs.Uses.{Unfinished, names};
+ghost use Rattle.rules.specs.Rules.{judgeAssign};
 ghost use Rattle.rules.specs.Judge.{nothingTaken};
+ghost use Rattle.rules.specs.Masks.{has};
 ghost use Rattle.rules.specs.Neat.{Neat};
 ghost use Rattle.rules.specs.Table.{TableFor, environmentOf, noteAt, asPlace};
-ghost use Rattle.rules.specs.Verdicts.{NeatTable, asRequirement, begun, answered};
-ghost use Rattle.ownership.specs.JudgeRows.{judgeLeaf, atRow, ended, judgeAt, Wraps, beginAt, AfterReady, afterAt, restAt, branchesAt, scriptAt};
+ghost use Rattle.rules.specs.Verdicts.{NeatTable, LaterIs, asRequirement, begun, asValue, answered};
+ghost use Rattle.ownership.specs.RowUses.{namesOf, UsesFor, laterAt, laterIn, namedWith};
+ghost use Rattle.ownership.specs.JudgeRows.{judgeLeaf, atRow, ended, judgeAt, Wraps, AllWrap, beginAt, AfterReady, afterAt, restAt, branchesAt, NothingAfter, scriptAt};
 use crate::row::place_at;
+use crate::uses::read_barred;
+use crate::uses::with_named;
+use crate::uses::write_barred;
 use reader::fields::field_at;
 use reader::fields::index_at;
+use reader::fields::index_of;
 use reader::kinds;
 use reader::kinds::wraps;
 use rules::KEPT;
 use rules::Place;
 use rules::Readable;
 use rules::Requirement;
+use rules::Roots;
 use rules::Told;
 use rules::Value;
 use rules::Verdict;
@@ -32,7 +42,6 @@ use rules::fine;
 use rules::in_scope;
 use rules::join;
 use rules::judge_answer;
-use rules::judge_assign;
 use rules::judge_below;
 use rules::judge_block_end;
 use rules::judge_box;
@@ -43,10 +52,15 @@ use rules::judge_let;
 use rules::judge_move;
 use rules::judge_number;
 use rules::judge_shared;
+use rules::judge_write;
+use rules::judge_written;
 use rules::keep;
+use rules::no_roots;
 use rules::number_value;
 use rules::numbers_taken;
+use rules::only;
 use rules::refused;
+use rules::unite;
 use rules::verdict_of;
 
 // What judging told, and the row after the term; after a refusal, the term that is refused (LANGUAGE 3.17).
@@ -78,17 +92,58 @@ const FEW: usize = 16;
 
 const MANY: usize = 128;
 
-// The terms that have no inner term: the rule of each kind (LANGUAGE 3.18 to 3.22, 3.27).
-fn judge_leaf(env: &mut [u64], variables: usize, kind: u32, first: Place, second: Place) -> Told
-    requires { ⌜ NeatTable (now env) variables ⌝ }
-    ensures { λ r. ⌜ ((i : ℕ) → answered (now (env .exit)) i r ≡ judgeLeaf variables (kindOf newest kind) i (asPlace first) (asPlace second) (environmentOf (now (env .entry)))) × TableFor (now (env .exit)) variables ⌝ }
+// The terms that have no inner term: the rule of each kind (LANGUAGE 3.18 to 3.22, 3.27). Rows from `start` to i stand
+// around the term at row i.
+fn judge_leaf(
+    rows: &[u32],
+    start: usize,
+    i: usize,
+    env: &mut [u64],
+    variables: usize,
+    uses: &[u32],
+    named: Roots,
+    kind: u32,
+    first: Place,
+    second: Place,
+) -> Told
+    requires { ⌜ NeatTable (now env) variables × (length (now uses) ≡ variables) × (start ≤ i) × AllWrap variables (now rows) start (i - start) × ((x : ℕ) → names (namesOf (kindOf newest kind) (first .root) (second .root)) x ≡ true → x < variables) ⌝ }
+    ensures { λ r. ⌜ ((ns : Unfinished) → LaterIs variables (now (uses .entry)) i (namedWith (now (rows .entry)) start (i - start) (has named)) ns → answered (now (env .exit)) i r ≡ judgeLeaf variables (kindOf newest kind) i (asPlace first) (asPlace second) ns (environmentOf (now (env .entry)))) × TableFor (now (env .exit)) variables ⌝ }
 {
+    let root = index_of(first.root);
+    let count = i - start;
     match kind {
-        kinds::COPY => judge_copy(env, variables, first),
-        kinds::MOVE => judge_move(env, variables, first),
-        kinds::SHARED => judge_shared(env, variables, first),
-        kinds::EXCLUSIVE => judge_exclusive(env, variables, first),
-        kinds::BELOW | kinds::SUM => judge_below(env, variables, first, second),
+        kinds::COPY => {
+            let barred = read_barred(rows, start, count, i, env, variables, uses, named, root);
+            judge_copy(env, variables, first, barred)
+        }
+        kinds::MOVE => {
+            let barred = write_barred(rows, start, count, i, env, variables, uses, named, root);
+            judge_move(env, variables, first, barred)
+        }
+        kinds::SHARED => {
+            let barred = read_barred(rows, start, count, i, env, variables, uses, named, root);
+            judge_shared(env, variables, first, barred)
+        }
+        kinds::EXCLUSIVE => {
+            let barred = write_barred(rows, start, count, i, env, variables, uses, named, root);
+            judge_exclusive(env, variables, first, barred)
+        }
+        kinds::BELOW | kinds::SUM => {
+            let barred = read_barred(rows, start, count, i, env, variables, uses, named, root);
+            let other = index_of(second.root);
+            let other_barred = read_barred(
+                rows,
+                start,
+                count,
+                i,
+                env,
+                variables,
+                uses,
+                named,
+                other,
+            );
+            judge_below(env, variables, first, barred, second, other_barred)
+        }
         _ => number_value(),
     }
 }
@@ -107,17 +162,58 @@ fn judge_before(rows: &[u32], i: usize, env: &mut [u64], variables: usize) -> Re
     begin_let(env, variables, i, x)
 }
 
-// What follows it: the rest of the rule (LANGUAGE 3.23 to 3.25). An inner term's refusal is the script's (3.17).
+// The rest of the rule of the assign at row i (LANGUAGE 3.25), after its right side, which ends before row `next`. Rows
+// from `start` to i stand around it.
+fn judge_assign(
+    rows: &[u32],
+    start: usize,
+    i: usize,
+    next: usize,
+    env: &mut [u64],
+    variables: usize,
+    uses: &[u32],
+    named: Roots,
+    inner: Value,
+) -> Told
+    requires { ⌜ NeatTable (now env) variables × (length (now uses) ≡ variables) × (start ≤ i) × AllWrap variables (now rows) start (i + 1 - start) × (fieldAt (now rows) i 1 < variables) ⌝ }
+    ensures { λ r. ⌜ ((ns : Unfinished) → LaterIs variables (now (uses .entry)) next (namedWith (now (rows .entry)) start (i + 1 - start) (has named)) ns → answered (now (env .exit)) i r ≡ judgeAssign variables ns (environmentOf (now (env .entry))) i (placeAt (now (rows .entry)) i 1) (asValue (now (env .entry)) inner)) × TableFor (now (env .exit)) variables ⌝ }
+{
+    let place = place_at(rows, i, 1);
+    let written = judge_write(env, variables, place, inner);
+    let verdict = verdict_of(written);
+    let Verdict::Fine(_) = verdict else {
+        return written;
+    };
+    let root = index_of(place.root);
+    let barred = write_barred(
+        rows,
+        start,
+        i + 1 - start,
+        next,
+        env,
+        variables,
+        uses,
+        named,
+        root,
+    );
+    judge_written(barred)
+}
+
+// What follows it: the rest of the rule (LANGUAGE 3.23 to 3.25). An inner term's refusal is the script's (3.17). Rows from
+// `start` to i stand around it.
 fn judge_after(
     rows: &[u32],
+    start: usize,
     i: usize,
     env: &mut [u64],
     variables: usize,
     level: u64,
+    uses: &[u32],
+    named: Roots,
     inner: JudgedTerm,
 ) -> JudgedTerm
-    requires { ⌜ Wraps variables (now rows) i × TableFor (now env) variables × AfterReady variables level (now rows) i (now env) inner ⌝ }
-    ensures { λ r. ⌜ (ended (now (env .exit)) r ≡ afterAt variables level (now (rows .entry)) i (ended (now (env .entry)) inner)) × TableFor (now (env .exit)) variables ⌝ }
+    requires { ⌜ (start ≤ i) × AllWrap variables (now rows) start (i + 1 - start) × TableFor (now env) variables × (length (now uses) ≡ variables) × AfterReady variables level (now rows) i (now env) inner ⌝ }
+    ensures { λ r. ⌜ (ended (now (env .exit)) r ≡ afterAt variables level (now (rows .entry)) i (λ next. laterIn (now (rows .entry)) start (i - start) (laterAt variables (now (uses .entry)) (has named) next)) (ended (now (env .entry)) inner)) × TableFor (now (env .exit)) variables ⌝ }
 {
     let verdict = verdict_of(inner.told);
     let Verdict::Fine(value) = verdict else {
@@ -131,8 +227,18 @@ fn judge_after(
             judged_term(i, inner.next, judge_let(env, variables, level, x, value))
         }
         _ => {
-            let place = place_at(rows, i, 1);
-            judged_term(i, inner.next, judge_assign(env, variables, place, value))
+            let told = judge_assign(
+                rows,
+                start,
+                i,
+                inner.next,
+                env,
+                variables,
+                uses,
+                named,
+                value,
+            );
+            judged_term(i, inner.next, told)
         }
     }
 }
@@ -141,18 +247,32 @@ fn judge_after(
 // before the block stays so after it.
 fn judge_block(
     rows: &[u32],
+    start: usize,
     i: usize,
     levels: usize,
     env: &mut [u64],
     variables: usize,
     level: u64,
+    uses: &[u32],
+    named: Roots,
 ) -> JudgedTerm
-    requires { ⌜ IsTree (treeAt variables levels (now rows) i) × (fieldAt (now rows) i 0 ≡ 11) × TableFor (now env) variables × Neat variables (environmentOf (now env)) level × (level + levels < 4294967296) ⌝ }
-    ensures { λ r. ⌜ (ended (now (env .exit)) r ≡ judgeAt variables (treeAt variables levels (now (rows .entry)) i) level (environmentOf (now (env .entry)))) × TableFor (now (env .exit)) variables ⌝ }
+    requires { ⌜ IsTree (treeAt variables levels (now rows) i) × (fieldAt (now rows) i 0 ≡ 11) × TableFor (now env) variables × Neat variables (environmentOf (now env)) level × (level + levels < 4294967296) × UsesFor variables (now rows) (now uses) × (start ≤ i) × AllWrap variables (now rows) start (i - start) ⌝ }
+    ensures { λ r. ⌜ (ended (now (env .exit)) r ≡ judgeAt variables (treeAt variables levels (now (rows .entry)) i) level (λ next. laterIn (now (rows .entry)) start (i - start) (laterAt variables (now (uses .entry)) (has named) next)) (environmentOf (now (env .entry)))) × TableFor (now (env .exit)) variables ⌝ }
 {
     let count = index_at(rows, i, 1);
     let before = in_scope(env, variables);
-    let inner = judge_terms(rows, i + 1, count, levels - 1, env, variables, level + 1);
+    let inside = with_named(rows, start, i - start, variables, named);
+    let inner = judge_terms(
+        rows,
+        i + 1,
+        count,
+        levels - 1,
+        env,
+        variables,
+        level + 1,
+        uses,
+        inside,
+    );
     let verdict = verdict_of(inner.told);
     let Verdict::Fine(value) = verdict else {
         return inner;
@@ -174,20 +294,42 @@ fn judge_branches(
     env: &mut [u64],
     variables: usize,
     level: u64,
+    uses: &[u32],
+    named: Roots,
     kept: &mut [u64],
     count: usize,
 ) -> JudgedTerm
-    requires { ⌜ IsTree (treeAt variables levels (now rows) i) × (fieldAt (now rows) i 0 ≡ 12) × TableFor (now env) variables × Neat variables (environmentOf (now env)) level × (level + levels < 4294967296) × (count ≡ noteAt (now env) (suc variables)) × (count * 3 ≤ length (now kept)) ⌝ }
-    ensures { λ r. ⌜ (ended (now (env .exit)) r ≡ branchesAt variables levels (now (rows .entry)) i level (environmentOf (now (env .entry)))) × TableFor (now (env .exit)) variables ⌝ }
+    requires { ⌜ IsTree (treeAt variables levels (now rows) i) × (fieldAt (now rows) i 0 ≡ 12) × TableFor (now env) variables × Neat variables (environmentOf (now env)) level × (level + levels < 4294967296) × UsesFor variables (now rows) (now uses) × (count ≡ noteAt (now env) (suc variables)) × (count * 3 ≤ length (now kept)) ⌝ }
+    ensures { λ r. ⌜ (ended (now (env .exit)) r ≡ branchesAt variables levels (now (rows .entry)) i level (laterAt variables (now (uses .entry)) (has named)) (environmentOf (now (env .entry)))) × TableFor (now (env .exit)) variables ⌝ }
 {
     keep(env, variables, kept, count);
-    let first = judge_terms(rows, i + 1, 1, levels - 1, env, variables, level);
+    let first = judge_terms(
+        rows,
+        i + 1,
+        1,
+        levels - 1,
+        env,
+        variables,
+        level,
+        uses,
+        named,
+    );
     let verdict = verdict_of(first.told);
     let Verdict::Fine(value) = verdict else {
         return first;
     };
     exchange(env, variables, kept, count);
-    let second = judge_terms(rows, first.next, 1, levels - 1, env, variables, level);
+    let second = judge_terms(
+        rows,
+        first.next,
+        1,
+        levels - 1,
+        env,
+        variables,
+        level,
+        uses,
+        named,
+    );
     let other_verdict = verdict_of(second.told);
     let Verdict::Fine(other_value) = other_verdict else {
         return second;
@@ -204,13 +346,26 @@ fn judge_few_kept(
     env: &mut [u64],
     variables: usize,
     level: u64,
+    uses: &[u32],
+    named: Roots,
     count: usize,
 ) -> JudgedTerm
-    requires { ⌜ IsTree (treeAt variables levels (now rows) i) × (fieldAt (now rows) i 0 ≡ 12) × TableFor (now env) variables × Neat variables (environmentOf (now env)) level × (level + levels < 4294967296) × (count ≡ noteAt (now env) (suc variables)) × (count ≤ 16) ⌝ }
-    ensures { λ r. ⌜ (ended (now (env .exit)) r ≡ branchesAt variables levels (now (rows .entry)) i level (environmentOf (now (env .entry)))) × TableFor (now (env .exit)) variables ⌝ }
+    requires { ⌜ IsTree (treeAt variables levels (now rows) i) × (fieldAt (now rows) i 0 ≡ 12) × TableFor (now env) variables × Neat variables (environmentOf (now env)) level × (level + levels < 4294967296) × UsesFor variables (now rows) (now uses) × (count ≡ noteAt (now env) (suc variables)) × (count ≤ 16) ⌝ }
+    ensures { λ r. ⌜ (ended (now (env .exit)) r ≡ branchesAt variables levels (now (rows .entry)) i level (laterAt variables (now (uses .entry)) (has named)) (environmentOf (now (env .entry)))) × TableFor (now (env .exit)) variables ⌝ }
 {
     let mut kept: [u64; FEW * KEPT] = [0; FEW * KEPT];
-    judge_branches(rows, i, levels, env, variables, level, &mut kept, count)
+    judge_branches(
+        rows,
+        i,
+        levels,
+        env,
+        variables,
+        level,
+        uses,
+        named,
+        &mut kept,
+        count,
+    )
 }
 
 // The same with room for all numbers of the largest set (LANGUAGE 2.8).
@@ -221,49 +376,83 @@ fn judge_many_kept(
     env: &mut [u64],
     variables: usize,
     level: u64,
+    uses: &[u32],
+    named: Roots,
     count: usize,
 ) -> JudgedTerm
-    requires { ⌜ IsTree (treeAt variables levels (now rows) i) × (fieldAt (now rows) i 0 ≡ 12) × TableFor (now env) variables × Neat variables (environmentOf (now env)) level × (level + levels < 4294967296) × (count ≡ noteAt (now env) (suc variables)) ⌝ }
-    ensures { λ r. ⌜ (ended (now (env .exit)) r ≡ branchesAt variables levels (now (rows .entry)) i level (environmentOf (now (env .entry)))) × TableFor (now (env .exit)) variables ⌝ }
+    requires { ⌜ IsTree (treeAt variables levels (now rows) i) × (fieldAt (now rows) i 0 ≡ 12) × TableFor (now env) variables × Neat variables (environmentOf (now env)) level × (level + levels < 4294967296) × UsesFor variables (now rows) (now uses) × (count ≡ noteAt (now env) (suc variables)) ⌝ }
+    ensures { λ r. ⌜ (ended (now (env .exit)) r ≡ branchesAt variables levels (now (rows .entry)) i level (laterAt variables (now (uses .entry)) (has named)) (environmentOf (now (env .entry)))) × TableFor (now (env .exit)) variables ⌝ }
 {
     let mut kept: [u64; MANY * KEPT] = [0; MANY * KEPT];
-    judge_branches(rows, i, levels, env, variables, level, &mut kept, count)
+    judge_branches(
+        rows,
+        i,
+        levels,
+        env,
+        variables,
+        level,
+        uses,
+        named,
+        &mut kept,
+        count,
+    )
 }
 
 // The term at row i, which has no one inner term: a block, a choice, whose place is a number before its blocks are judged
 // (LANGUAGE 3.31), or a term with no inner term.
 fn judge_inmost(
     rows: &[u32],
+    start: usize,
     i: usize,
     levels: usize,
     env: &mut [u64],
     variables: usize,
     level: u64,
+    uses: &[u32],
+    named: Roots,
 ) -> JudgedTerm
-    requires { ⌜ IsTree (treeAt variables levels (now rows) i) × (wrapsOf (fieldAt (now rows) i 0) ≡ false) × TableFor (now env) variables × Neat variables (environmentOf (now env)) level × (level + levels < 4294967296) ⌝ }
-    ensures { λ r. ⌜ (ended (now (env .exit)) r ≡ judgeAt variables (treeAt variables levels (now (rows .entry)) i) level (environmentOf (now (env .entry)))) × TableFor (now (env .exit)) variables ⌝ }
+    requires { ⌜ IsTree (treeAt variables levels (now rows) i) × (wrapsOf (fieldAt (now rows) i 0) ≡ false) × TableFor (now env) variables × Neat variables (environmentOf (now env)) level × (level + levels < 4294967296) × UsesFor variables (now rows) (now uses) × (start ≤ i) × AllWrap variables (now rows) start (i - start) ⌝ }
+    ensures { λ r. ⌜ (ended (now (env .exit)) r ≡ judgeAt variables (treeAt variables levels (now (rows .entry)) i) level (λ next. laterIn (now (rows .entry)) start (i - start) (laterAt variables (now (uses .entry)) (has named) next)) (environmentOf (now (env .entry)))) × TableFor (now (env .exit)) variables ⌝ }
 {
     let kind = field_at(rows, i, 0);
     if kind == kinds::BLOCK {
-        return judge_block(rows, i, levels, env, variables, level);
+        return judge_block(rows, start, i, levels, env, variables, level, uses, named);
     }
     let first = place_at(rows, i, 1);
     if kind == kinds::CHOICE {
-        let number = judge_number(env, variables, first);
+        let root = index_of(first.root);
+        let barred = read_barred(rows, start, i - start, i, env, variables, uses, named, root);
+        let number = judge_number(env, variables, first, barred);
         if let Readable::Refused(refusal) = number {
             return JudgedTerm {
                 next: i,
                 told: refused(refusal),
             };
         }
+        let inside = unite(
+            with_named(rows, start, i - start, variables, named),
+            only(root),
+        );
         let count = numbers_taken(env, variables);
         if count <= FEW {
-            return judge_few_kept(rows, i, levels, env, variables, level, count);
+            return judge_few_kept(rows, i, levels, env, variables, level, uses, inside, count);
         }
-        return judge_many_kept(rows, i, levels, env, variables, level, count);
+        return judge_many_kept(rows, i, levels, env, variables, level, uses, inside, count);
     }
     let second = place_at(rows, i, 3);
-    judged_term(i, i + 1, judge_leaf(env, variables, kind, first, second))
+    let told = judge_leaf(
+        rows,
+        start,
+        i,
+        env,
+        variables,
+        uses,
+        named,
+        kind,
+        first,
+        second,
+    );
+    judged_term(i, i + 1, told)
 }
 
 // The term at row i, with the levels that are left, inner terms where its rule says so (LANGUAGE 3.1). `level` is that
@@ -276,9 +465,11 @@ fn judge_term(
     env: &mut [u64],
     variables: usize,
     level: u64,
+    uses: &[u32],
+    named: Roots,
 ) -> JudgedTerm
-    requires { ⌜ IsTree (treeAt variables levels (now rows) i) × TableFor (now env) variables × Neat variables (environmentOf (now env)) level × (level + levels < 4294967296) ⌝ }
-    ensures { λ r. ⌜ (ended (now (env .exit)) r ≡ judgeAt variables (treeAt variables levels (now (rows .entry)) i) level (environmentOf (now (env .entry)))) × TableFor (now (env .exit)) variables ⌝ }
+    requires { ⌜ IsTree (treeAt variables levels (now rows) i) × TableFor (now env) variables × Neat variables (environmentOf (now env)) level × (level + levels < 4294967296) × UsesFor variables (now rows) (now uses) ⌝ }
+    ensures { λ r. ⌜ (ended (now (env .exit)) r ≡ judgeAt variables (treeAt variables levels (now (rows .entry)) i) level (laterAt variables (now (uses .entry)) (has named)) (environmentOf (now (env .entry)))) × TableFor (now (env .exit)) variables ⌝ }
 {
     let mut around: usize = 0;
     while wraps(field_at(rows, i + around, 0)) {
@@ -291,10 +482,30 @@ fn judge_term(
         }
         around += 1;
     }
-    let mut judged = judge_inmost(rows, i + around, levels - around, env, variables, level);
+    let mut judged = judge_inmost(
+        rows,
+        i,
+        i + around,
+        levels - around,
+        env,
+        variables,
+        level,
+        uses,
+        named,
+    );
     while 0 < around {
         around -= 1;
-        judged = judge_after(rows, i + around, env, variables, level, judged);
+        judged = judge_after(
+            rows,
+            i,
+            i + around,
+            env,
+            variables,
+            level,
+            uses,
+            named,
+            judged,
+        );
     }
     judged
 }
@@ -308,9 +519,11 @@ fn judge_terms(
     env: &mut [u64],
     variables: usize,
     level: u64,
+    uses: &[u32],
+    named: Roots,
 ) -> JudgedTerm
-    requires { ⌜ IsRest (treeAt variables levels (now rows)) count i × TableFor (now env) variables × Neat variables (environmentOf (now env)) level × (level + levels < 4294967296) ⌝ }
-    ensures { λ r. ⌜ (ended (now (env .exit)) r ≡ restAt variables (treeAt variables levels (now (rows .entry))) level count i none (environmentOf (now (env .entry)))) × TableFor (now (env .exit)) variables ⌝ }
+    requires { ⌜ IsRest (treeAt variables levels (now rows)) count i × TableFor (now env) variables × Neat variables (environmentOf (now env)) level × (level + levels < 4294967296) × UsesFor variables (now rows) (now uses) ⌝ }
+    ensures { λ r. ⌜ (ended (now (env .exit)) r ≡ restAt variables (treeAt variables levels (now (rows .entry))) level (laterAt variables (now (uses .entry)) (has named)) count i none (environmentOf (now (env .entry)))) × TableFor (now (env .exit)) variables ⌝ }
 {
     let mut judged = JudgedTerm {
         next: i,
@@ -318,7 +531,16 @@ fn judge_terms(
     };
     let mut left = count;
     while 0 < left {
-        judged = judge_term(rows, judged.next, levels, env, variables, level);
+        judged = judge_term(
+            rows,
+            judged.next,
+            levels,
+            env,
+            variables,
+            level,
+            uses,
+            named,
+        );
         let verdict = verdict_of(judged.told);
         let Verdict::Fine(_) = verdict else {
             return judged;
@@ -329,11 +551,17 @@ fn judge_terms(
 }
 
 // The script (LANGUAGE 3.29), with no number taken before it (3.1).
-pub fn judge_script(rows: &[u32], levels: usize, env: &mut [u64], variables: usize) -> Requirement
-    requires { ⌜ IsTree (treeAt variables levels (now rows) 0) × TableFor (now env) variables × (environmentOf (now env) ≡ nothingTaken variables) × (levels < 4294967296) ⌝ }
+pub fn judge_script(
+    rows: &[u32],
+    levels: usize,
+    env: &mut [u64],
+    variables: usize,
+    uses: &[u32],
+) -> Requirement
+    requires { ⌜ IsTree (treeAt variables levels (now rows) 0) × TableFor (now env) variables × (environmentOf (now env) ≡ nothingTaken variables) × (levels < 4294967296) × UsesFor variables (now rows) (now uses) × NothingAfter (now rows) (treeAt variables levels (now rows) 0) ⌝ }
     ensures { λ r. ⌜ asRequirement r ≡ scriptAt variables (treeAt variables levels (now (rows .entry)) 0) ⌝ }
 {
-    let judged = judge_terms(rows, 0, 1, levels, env, variables, 0);
+    let judged = judge_terms(rows, 0, 1, levels, env, variables, 0, uses, no_roots());
     let verdict = verdict_of(judged.told);
     match verdict {
         Verdict::Refused(number) => Requirement::Refused(number, judged.next),

@@ -7,8 +7,9 @@ ghost use Rattle.reader.specs.Answers.{judgedOf};
 ghost use Rattle.ownership.specs.Answers.{toldChecked, checkOf};
 
 mod row; // row.rt: the places in a term row
+mod uses; // uses.rt: the last uses of the variables, and what is barred
 mod judge; // judge.rt: terms, blocks and the whole script
-mod tables; // tables.rt: the table of the variables, in two sizes
+mod tables; // tables.rt: the tables of the variables, in two sizes
 
 use crate::tables::judge_alone;
 use reader::Outcome;
@@ -30,7 +31,7 @@ pub fn check_judged(set: Limits, rows: &[u32], terms: usize) -> Checked
 {
     let levels = set.levels as usize;
     let variables = set.variables as usize;
-    let verdict = judge_alone(rows, levels, variables);
+    let verdict = judge_alone(rows, levels, variables, terms);
     match verdict {
         Requirement::Met => Checked::Accepted(terms),
         Requirement::Refused(number, term) => Checked::Refused(number, term),

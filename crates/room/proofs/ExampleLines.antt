@@ -11,6 +11,7 @@ use Rattle.rules.specs.Links
 use Rattle.rules.specs.Places
 use Rattle.rules.specs.Environment
 use Rattle.rules.specs.Follow
+use Rattle.rules.specs.Uses
 use Rattle.rules.specs.Bars
 use Rattle.rules.specs.Choice
 use Rattle.rules.specs.Rules
@@ -45,9 +46,10 @@ unfolding
     Places.samePlace Places.before Places.member Places.insert Places.unite Places.every Places.someOf Places.only Places.rooted
     Environment.borrowEnd Environment.update Environment.write Environment.isFree Environment.levelOf Environment.borrowOf Environment.borrowsAt Environment.livesAt Environment.leaveSlot Environment.leave Environment.holding
     Follow.past Follow.onward Follow.onMet Follow.meetAll Follow.follow Follow.ownLink Follow.ownPath Follow.wholeSlot Follow.wholeThere Follow.valueWhole
-    Bars.borrowsAny Bars.borrowsExclusive Bars.heldBy Bars.held
+    Uses.finishing Uses.names Uses.namedLater
+    Bars.borrowsAny Bars.borrowsExclusive Bars.heldBy Bars.held Bars.spread Bars.inUse
     Choice.carried Choice.earlier Choice.joined Choice.agreeing
-    Rules.inScope Rules.reached Rules.valued Rules.judgePlace Rules.judgeReadable Rules.judgeCopy Rules.judgeMove Rules.recordedPlaces Rules.judgeShared Rules.judgeExclusive Rules.judgeBox Rules.judgeLet Rules.judgeAssign Rules.judgeNumber Rules.judgeBelow Rules.judgeBlockEnd Rules.judgeChoice
+    Rules.inScope Rules.reached Rules.valued Rules.judgePlace Rules.judgeReadable Rules.judgeCopy Rules.judgeMove Rules.recordedPlaces Rules.judgeShared Rules.judgeExclusive Rules.judgeBox Rules.judgeLet Rules.judgeWrite Rules.judgeAssign Rules.judgeNumber Rules.judgeBelow Rules.judgeBlockEnd Rules.judgeChoice
     Judge.judge Judge.judgeScript
     Store.sameLocation Store.put Store.isOpen
     Locate.followed Locate.locateFrom Locate.locate Locate.filled Locate.numberIn
@@ -55,5 +57,5 @@ unfolding
     Signed.less Signed.compared Signed.held Signed.heldSum
     Run.runCopy Run.runMove Run.runBorrow Run.runNumber Run.runPair Run.runBox Run.runLet Run.runAssign Run.runBlockEnd Run.run Run.runScript
     Answers.runFits Answers.runnable Answers.bitsOf
-    Examples.boxed Examples.e1Bytes Examples.e2 Examples.e3 Examples.e4 Examples.e5 Examples.e6 Examples.e7 Examples.e9 Examples.nine Examples.eight Examples.e11 Examples.sums Examples.lent Examples.away
+    Examples.boxed Examples.e1Bytes Examples.e2 Examples.e2UsedAgain Examples.e3 Examples.e4 Examples.e5 Examples.e6 Examples.e7 Examples.e9 Examples.nine Examples.eight Examples.e11 Examples.sums Examples.lent Examples.away
 lines-hold = refl

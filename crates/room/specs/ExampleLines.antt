@@ -8,7 +8,7 @@ use lib.ListN.{take}
 use Rattle.reader.specs.Limits.{base, rowNumbers, storeNumbers}
 use Rattle.reader.specs.Script.{Term}
 use Rattle.reader.specs.Layout.{zeros, bytesOf}
-use Rattle.safety.specs.Examples.{e1Bytes, e2, e3, e4, e5, e6, e7, e9, nine, eight, e11, sums, lent, away}
+use Rattle.safety.specs.Examples.{e1Bytes, e2, e2UsedAgain, e3, e4, e5, e6, e7, e9, nine, eight, e11, sums, lent, away}
 use Rattle.room.specs.Line.{ascii, Reported, reportOf}
 
 -- The bytes that go out: as many of the buffer's as the answer says.
@@ -34,7 +34,8 @@ on t = zeros 32 ++ bytesIn 1 t
 unfoldable pub examples : List (List ℕ × String)
 examples =
     (someReadings ++ e1Bytes, "accepted 8 call 1 cells 0\n")
-    ∷ (on e2, "refused 34 at 5\n")
+    ∷ (on e2, "accepted 6 call 5 cells 0\n")
+    ∷ (on e2UsedAgain, "refused 34 at 5\n")
     ∷ (on e3, "refused 33 at 6\n")
     ∷ (on e4, "accepted 9 call 8 cells 1\n")
     ∷ (on e5, "refused 40 at 4\n")

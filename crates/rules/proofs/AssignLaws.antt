@@ -1,5 +1,5 @@
--- The answer of an assign, from what its parts found: the place, the roots of the value, whether they live long enough, and the table after the
--- write.
+-- The answer of an assign but for 35, from what its parts found: the place, the roots of the value, whether they live long enough, and the table
+-- after the write.
 use Prim.Native.Nat.{ℕ, _≤_}
 use native.Mathlib.Omega.{arith}
 use mathlib.Core.Path.{_≡_, refl, sym, ap, fun-ext, _∙_, subst}
@@ -18,8 +18,7 @@ use Rattle.rules.specs.declared.verdicts.ValueType.{ValueType}
 use Rattle.rules.specs.Links.{Link, leadingBoxes, noShared}
 use Rattle.rules.specs.Places.{every}
 use Rattle.rules.specs.Environment.{Borrow, places, borrowEnd, Variable, Environment, write, levelOf, livesAt}
-use Rattle.rules.specs.Bars.{writeBarred}
-use Rattle.rules.specs.Rules.{valued, judgePlace, judgeAssign}
+use Rattle.rules.specs.Rules.{valued, judgePlace, judgeWrite}
 use Rattle.rules.specs.Neat.{Among, Neat}
 use Rattle.rules.specs.Roots.{lengths, placeAt, placesOf, left}
 use Rattle.rules.specs.Chains.{chainOf}
@@ -41,9 +40,6 @@ located-as nv Γ i p r l L e = subst (λ (k : Located). LocatedIs nv Γ i p k) e
 
 pub passes-as : (follows k links : ℕ) (r b : Bool) → k ≡ follows → r ≡ noShared (take k (chainOf links)) → r ≡ b → noShared (take follows (chainOf links)) ≡ b
 passes-as follows k links r b e f h = ap (λ (j : ℕ). noShared (take j (chainOf links))) (sym e) ∙ sym f ∙ h
-
-pub barred-as : (n root x : ℕ) (Γ : Environment) (r b : Bool) → x ≡ root → r ≡ writeBarred n Γ x → r ≡ b → writeBarred n Γ root ≡ b
-barred-as n root x Γ r b e f h = ap (writeBarred n Γ) (sym e) ∙ sym f ∙ h
 
 -- ---- the rule
 
@@ -79,13 +75,13 @@ module _ (n : ℕ) (env : List ℕ) (level : ℕ) (N : Neat n (environmentOf env
 
   -- The tests, one after the other: what the value is, and that each before is passed.
   module _ (t : ValueType) where
-    pub shared-passed : noShared (take (p .follows) (chainOf links)) ≡ false → judgeAssign n (environmentOf env) i p (asValue env (value.Of t)) ≡ err (36, i)
-    unfolding judgeAssign asValue valued need _>>=_
+    pub shared-passed : noShared (take (p .follows) (chainOf links)) ≡ false → judgeWrite n (environmentOf env) i p (asValue env (value.Of t)) ≡ err (36, i)
+    unfolding judgeWrite asValue valued need _>>=_
     shared-passed h = rw (F .is, F .chain, h) refl
 
     module _ (passed : noShared (take (p .follows) (chainOf links)) ≡ true) where
-      pub other-links : (rest ≡ t .links → ⊥) → judgeAssign n (environmentOf env) i p (asValue env (value.Of t)) ≡ err (39, i)
-      unfolding judgeAssign asValue valued need _>>=_
+      pub other-links : (rest ≡ t .links → ⊥) → judgeWrite n (environmentOf env) i p (asValue env (value.Of t)) ≡ err (39, i)
+      unfolding judgeWrite asValue valued need _>>=_
       other-links h = rw (F .is, F .chain, passed, after-links, same-links rest (t .links), ne-eqb rest (t .links) h) refl
 
       module _ (same : rest ≡ t .links) (s : Roots) (recorded : places (endIn env (chainOf rest) (t .roots)) ≡ placesIn env (chainOf rest) s) (long : Bool)
@@ -104,8 +100,8 @@ module _ (n : ℕ) (env : List ℕ) (level : ℕ) (N : Neat n (environmentOf env
             (ap places (sym is-b) ∙ recorded)
             ∙ sym (asked (left (chainOf rest)) (length (chainOf rest)))
 
-        pub lives-too-short : long ≡ false → judgeAssign n (environmentOf env) i p (asValue env (value.Of t)) ≡ err (40, i)
-        unfolding judgeAssign asValue valued need _>>=_
+        pub lives-too-short : long ≡ false → judgeWrite n (environmentOf env) i p (asValue env (value.Of t)) ≡ err (40, i)
+        unfolding judgeWrite asValue valued need _>>=_
         lives-too-short h = rw (F .is, F .chain, passed, after-links, same-links rest (t .links), eq-eqb rest (t .links) same, lives, h) refl
 
         module _ (enough : long ≡ true) (env′ : List ℕ) (W : Written env n to s env′) where
@@ -114,10 +110,6 @@ module _ (n : ℕ) (env : List ℕ) (level : ℕ) (N : Neat n (environmentOf env
               W .is b (length (chainOf rest)) (λ x h. written-end (t .roots) s recorded x h ∙ is-b)
               ∙ fun-ext (λ x. write-same (environmentOf env) (placesOf n (has to) (lengths (environmentOf env)) (length (chainOf rest))) (F .located .to) b (turned (F .to)) x)
 
-          pub writing-barred : writeBarred n (environmentOf env′) (p .root) ≡ true → judgeAssign n (environmentOf env) i p (asValue env (value.Of t)) ≡ err (35, i)
-          unfolding judgeAssign asValue valued need _>>=_
-          writing-barred h = rw (F .is, F .chain, passed, after-links, same-links rest (t .links), eq-eqb rest (t .links) same, lives, enough, ← written-is, h) refl
-
-          pub assigned : writeBarred n (environmentOf env′) (p .root) ≡ false → judgeAssign n (environmentOf env) i p (asValue env (value.Of t)) ≡ ok (environmentOf env′, none)
-          unfolding judgeAssign asValue valued need _>>=_
-          assigned h = rw (F .is, F .chain, passed, after-links, same-links rest (t .links), eq-eqb rest (t .links) same, lives, enough, ← written-is, h) refl
+          pub written : judgeWrite n (environmentOf env) i p (asValue env (value.Of t)) ≡ ok (environmentOf env′, none)
+          unfolding judgeWrite asValue valued need _>>=_
+          written = rw (F .is, F .chain, passed, after-links, same-links rest (t .links), eq-eqb rest (t .links) same, lives, enough, ← written-is) refl

@@ -1,12 +1,10 @@
 -- Who holds a borrow of a root: by the words of its entry, and by the note of the root, outside which nobody holds one. Assumes nothing.
-use Prim.Native.Nat.{ℕ, zero, suc, _<_, _≤_}
-use native.Mathlib.Omega.{arith}
-use native.Mathlib.Decide.{ℕ-discrete}
+use Prim.Native.Nat.{ℕ, suc, _<_, _≤_}
 use mathlib.Core.Path.{_≡_, refl, sym, ap, ap₂, _∙_}
 use mathlib.Core.Bool.{Bool, true, false, false≢true}
 use mathlib.Core.List.{List, [], _∷_}
-use lib.Dec.{ltb, eqb}
-use borrow.Author.Tests.{eqb-true, le-leb, le-ltb, lt-ltb}
+use lib.Dec.{ltb}
+use borrow.Author.Tests.{le-leb, le-ltb, lt-ltb}
 use Rattle.reader.specs.Result.{pick}
 use Rattle.reader.specs.Script.{Place}
 use Rattle.rules.specs.declared.roots.Roots.{Roots}
@@ -17,33 +15,14 @@ use Rattle.rules.specs.declared.table.BorrowEnd.{BorrowEnd}
 use Rattle.rules.specs.declared.table.BorrowEnd.the-variants as end
 use Rattle.rules.specs.Links.{Link, boxed, shared, exclusive, leadingBoxes}
 use Rattle.rules.specs.Places.{someOf, rooted}
-use Rattle.rules.specs.Environment.{Borrow, noBorrow, sharedOf, exclusiveOf, places, borrowEnd, Variable, Slot, free, used, live, Environment, holding}
-use Rattle.rules.specs.Bars.{borrowsAny, borrowsExclusive, heldBy, held}
+use Rattle.rules.specs.Environment.{Borrow, noBorrow, sharedOf, exclusiveOf, places, borrowEnd, Variable, Slot, free, used, live, holding}
+use Rattle.rules.specs.Bars.{borrowsAny, borrowsExclusive, heldBy}
 use Rattle.rules.specs.Roots.{left}
 use Rattle.rules.specs.Chains.{chainOf, isExclusive}
-use Rattle.rules.specs.Masks.{has, isEmpty}
+use Rattle.rules.specs.Masks.{has}
 use Rattle.rules.specs.Table.{entryWord, linksAt, longAt, rootsAt, holdersAt, placesIn, endIn, borrowEndOf, stateAt, entryAt, variableAt, environmentOf, TableFor, borrowsBy, MayHold}
-use Rattle.rules.proofs.MaskLaws.{none-in}
 use Rattle.rules.proofs.EntryLaws.{NotLive, status-live, live-status, live-inside, slot-live, not-live}
 use Rattle.rules.proofs.EndLaws.{told-none, told-shared, told-exclusive, rooted-in-set, end-in-set}
-
--- ---- one of several numbers
-
-held-none : (h : Borrow → ℕ → Bool) (n : ℕ) (Γ : Environment) (x : ℕ) → ((y : ℕ) → y < n → heldBy h (Γ y) x ≡ false) → held h n Γ x ≡ false
-unfolding held
-held-none h zero Γ x k = refl
-held-none h (suc n) Γ x k = rw (k n (omega arith)) (held-none h n Γ x (λ y l. k y (omega arith)))
-
-pub held-some : (h : Borrow → ℕ → Bool) (n : ℕ) (Γ : Environment) (x y : ℕ) → y < n → heldBy h (Γ y) x ≡ true → held h n Γ x ≡ true
-unfolding held
-held-some h zero Γ x y l e = absurd (omega arith)
-held-some h (suc n) Γ x y l e = go (ℕ-discrete y n) (λ k. held-some h n Γ x y k e) (heldBy h (Γ n) x) refl
-  where
-    go : Dec (y ≡ n) → (y < n → held h n Γ x ≡ true) → (b : Bool) → heldBy h (Γ n) x ≡ b → pick b true (held h n Γ x) ≡ true
-    go (yes q) ih true k = refl
-    go (yes q) ih false k = absurd (false≢true (sym k ∙ ap (λ (z : ℕ). heldBy h (Γ z) x) (sym q) ∙ e))
-    go (no q) ih true k = refl
-    go (no q) ih false k = ih (omega arith)
 
 -- ---- one number
 
@@ -163,6 +142,10 @@ held-noted env n root T l any y h =
     let r : rooted (places (variableAt env y .borrow)) root ≡ true = borrows-rooted any (variableAt env y .borrow) root (k .1) in
     (i, T .2 .held y root i l (k .0) (end-in-set env (chainOf (linksAt env y)) (rootsAt env y) root r))
 
+-- It is in the set of those in scope.
+pub held-scoped : (env : List ℕ) (n root : ℕ) → TableFor env n → (any : Bool) (y : ℕ) → heldBy (borrowsBy any) (environmentOf env y) root ≡ true → has (rootsAt env (suc n)) y ≡ true
+held-scoped env n root T any y h = T .2 .scope y ∙ le-leb 2 (entryWord env y 0) (held-live env any y root h .0)
+
 -- An exclusive borrow end is that of an exclusive link.
 exclusive-link : (ks : List Link) (ps : List Place) (x : ℕ) → borrowsExclusive (borrowEnd ks ps) x ≡ true → isExclusive ks ≡ true
 unfolding borrowEnd borrowsExclusive isExclusive
@@ -178,29 +161,10 @@ module _ (env : List ℕ) (n root : ℕ) (T : TableFor env n) (l : root < n) (s 
   may-hold any h y k = both y ∙ ap₂ (λ (a b : Bool). pick a b false) (ap (λ (r : Roots). has r y) noted ∙ held-noted env n root T l any y k .1) (h y k)
 
   pub any-in : t ≡ rootsAt env (suc n) → MayHold env true root may
-  any-in e = may-hold true (λ y k. ap (λ (r : Roots). has r y) e ∙ T .2 .scope y ∙ le-leb 2 (entryWord env y 0) (held-live env true y root k .0))
+  any-in e = may-hold true (λ y k. ap (λ (r : Roots). has r y) e ∙ held-scoped env n root T true y k)
 
   pub exclusive-in : t ≡ rootsAt env n → MayHold env false root may
   unfolding borrowsBy
   exclusive-in e = may-hold false (λ y k.
       let h = held-live env false y root k in
       ap (λ (r : Roots). has r y) e ∙ T .2 .exclusives y (h .0) (exclusive-link (chainOf (linksAt env y)) (placesIn env (chainOf (linksAt env y)) (rootsAt env y)) root (h .1)))
-
--- Those in the set are all that hold: an empty one says that nobody does, and one that holds nothing may be taken out.
-abbrev pub AllIn : Roots → (Borrow → ℕ → Bool) → Environment → ℕ → Type 0
-AllIn s h Γ root = (y : ℕ) → heldBy h (Γ y) root ≡ true → has s y ≡ true
-
-pub nobody-in : (s : Roots) (h : Borrow → ℕ → Bool) (n : ℕ) (Γ : Environment) (root : ℕ) → AllIn s h Γ root → isEmpty s ≡ true → held h n Γ root ≡ false
-nobody-in s h n Γ root A e = held-none h n Γ root (λ y l. go y (heldBy h (Γ y) root) refl)
-  where
-    go : (y : ℕ) (b : Bool) → heldBy h (Γ y) root ≡ b → b ≡ false
-    go y true k = absurd (false≢true (sym (none-in s e y) ∙ A y k))
-    go y false k = refl
-
-pub one-less : (s s′ : Roots) (h : Borrow → ℕ → Bool) (Γ : Environment) (root x : ℕ) → AllIn s h Γ root → heldBy h (Γ x) root ≡ false
-    → ((y : ℕ) → has s′ y ≡ pick (eqb x y) false (has s y)) → AllIn s′ h Γ root
-one-less s s′ h Γ root x A e out y k = out y ∙ go (eqb x y) refl
-  where
-    go : (b : Bool) → eqb x y ≡ b → pick b false (has s y) ≡ true
-    go true q = absurd (false≢true (sym e ∙ ap (λ (z : ℕ). heldBy h (Γ z) root) (eqb-true x y q) ∙ k))
-    go false q = A y k

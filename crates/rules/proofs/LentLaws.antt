@@ -16,8 +16,9 @@ use Rattle.rules.specs.declared.verdicts.Told as verdicts
 use Rattle.rules.specs.Links.{Link, shared, leadingBoxes, lastShared, isNumber, copies}
 use Rattle.rules.specs.Environment.{places, borrowEnd, Variable, live, borrowsAt}
 use Rattle.rules.specs.Follow.{past, valueWhole}
+use Rattle.rules.specs.Uses.{Unfinished}
 use Rattle.rules.specs.Rules as rules
-use Rattle.rules.specs.Rules.{judgePlace, judgeReadable, judgeCopy, recordedPlaces, judgeShared}
+use Rattle.rules.specs.Rules.{judgePlace, judgeCopy, recordedPlaces, judgeShared}
 use Rattle.rules.specs.Neat.{place, Among, SameSet}
 use Rattle.rules.specs.Roots.{lengths, placesOf, left}
 use Rattle.rules.specs.Masks.{has}
@@ -25,7 +26,6 @@ use Rattle.rules.specs.Chains.{chainOf}
 use Rattle.rules.specs.Steps.{Searched, BorrowedAt}
 use Rattle.rules.specs.Table.{linksAt, longAt, rootsAt, variableAt, placesIn, endIn, environmentOf}
 use Rattle.rules.specs.Verdicts.{NeatTable, PlaceFound, Named, Read, WholeBorrow, LentAt, typeOf, answered, Answers, atMost8}
-use Rattle.reader.proofs.Answers.{then, needed}
 use Rattle.rules.proofs.Answers.{err≢ok}
 use Rattle.rules.proofs.LinkChains.{last-at}
 use Rattle.rules.proofs.ChainLaws.{rest-number}
@@ -39,7 +39,7 @@ use Rattle.rules.proofs.WholePath.{whole-path}
 use Rattle.rules.proofs.EntryLaws.{live-status}
 use Rattle.rules.proofs.EndLaws.{linked-places}
 use Rattle.rules.proofs.ValueLaws.{copied-borrow, borrows-there}
-use Rattle.rules.proofs.PlaceLaws.{variable-is, on-chain, search-fits, place-moved, place-there, copy-is}
+use Rattle.rules.proofs.PlaceLaws.{variable-is, named-live, on-chain, search-fits, place-moved, place-there, copy-is}
 use Rattle.rules.proofs.OwnLaws.{found-own, own-borrows}
 
 -- ---- the search for it
@@ -93,66 +93,74 @@ module _ (env : List ℕ) (nv : ℕ) (T : NeatTable env nv) (i x follows : ℕ) 
     never-moved h =
         err≢ok (sym (place-moved env nv T i (place x follows) named x refl follows refl e S h) ∙ whole-path (T .1 .1) (place x follows) (variableAt env x) (W .is) (W .long) i (W .whole) .1)
 
--- ---- the rules that ask for it, of a place that may be read
+-- ---- the rules that ask for it, of a place that is named and whose value is whole
 
-module _ (env : List ℕ) (nv : ℕ) (T : NeatTable env nv) (i : ℕ) (p : Place) {rest : ℕ} (R : Read nv (environmentOf env) i p rest) (x : ℕ) (at : x ≡ p .root) where
-  is-root : R .named .variable ≡ variableAt env x
-  is-root = variable-is env nv T i p (R .named) ∙ ap (variableAt env) (sym at)
-
-  located : judgePlace nv (environmentOf env) i p ≡ ok (paths.located (R .named .variable) (R .to))
-  located = readable-place nv (environmentOf env) i p (paths.located (R .named .variable) (R .to)) (R .is)
-
-  root-whole : valueWhole nv (environmentOf env) x (variableAt env x) ≡ true
-  unfolding judgeReadable
-  root-whole =
-      let l = paths.located (R .named .variable) (R .to) in
-      let a = then (judgePlace nv (environmentOf env) i p) _ l (R .is) in
-      let b = then (need (valueWhole nv (environmentOf env) (p .root) (a .0 .root)) (33, i)) _ l (a .2) in
-      let same : a .0 ≡ l = (let z = sym (a .1) ∙ located in cc) in
-      ap₂ (λ (y : ℕ) (v : Variable). valueWhole nv (environmentOf env) y v) at (sym is-root ∙ ap (λ (k : rules.Located). k .root) (sym same)) ∙ needed _ _ _ (b .1)
+module _ (env : List ℕ) (nv : ℕ) (T : NeatTable env nv) (p : Place) {rest : ℕ} (F : Named (environmentOf env) p rest) (x : ℕ) (at : x ≡ p .root) where
+  is-root : F .variable ≡ variableAt env x
+  is-root = variable-is env nv T 0 p F ∙ ap (variableAt env) (sym at)
 
   root-live : environmentOf env x ≡ live (variableAt env x)
-  root-live = ap (environmentOf env) at ∙ R .named .is ∙ ap live is-root
+  root-live = named-live env nv T 0 p F x at
 
   module _ (f : ℕ) (follows : f ≡ p .follows) where
     chain-on : drop f (chainOf (linksAt env x)) ≡ chainOf rest
-    chain-on = ap₂ (λ (k y : ℕ). drop k (chainOf (linksAt env y))) follows at ∙ on-chain env nv T i p (R .named)
+    chain-on = ap₂ (λ (k y : ℕ). drop k (chainOf (linksAt env y))) follows at ∙ on-chain env nv T 0 p F
 
     fits : f ≤ longAt env x
-    fits = search-fits env nv T i p (R .named) x at f follows
+    fits = search-fits env nv T 0 p F x at f follows
 
-    -- ---- copy (LANGUAGE 3.19)
+    module _ (whole : valueWhole nv (environmentOf env) (p .root) (F .variable) ≡ true) where
+      root-whole : valueWhole nv (environmentOf env) x (variableAt env x) ≡ true
+      root-whole = ap₂ (λ (y : ℕ) (v : Variable). valueWhole nv (environmentOf env) y v) at (sym is-root) ∙ whole
 
-    module _ (copied : copies (chainOf rest) ≡ true) (no-number : isNumber (chainOf rest) ≡ false) where
-      pub copy-asks : WholeBorrow env nv x f
-      copy-asks = record {
+      -- Copy (LANGUAGE 3.19).
+      pub copy-asks : copies (chainOf rest) ≡ true → isNumber (chainOf rest) ≡ false → WholeBorrow env nv x f
+      copy-asks copied no-number = record {
         is = root-live;
         whole = root-whole;
         long = fits;
         borrow = subst (λ (l : List Link). leadingBoxes l < length l) (sym chain-on) (copied-borrow (chainOf rest) copied no-number);
       }
 
-      pub copy-lent : (s : Roots) → LentAt nv env i x f s → judgeCopy nv (environmentOf env) i p ≡ ok (environmentOf env, some (typeOf (chainOf rest) (endIn env (chainOf rest) s)))
-      copy-lent s L =
-          let same : paths.located (variableAt env x) (L .to) ≡ paths.located (R .named .variable) (R .to) = (let z = sym (L .is) ∙ ap₂ (λ (y k : ℕ). judgePlace nv (environmentOf env) i (place y k)) at follows ∙ located in cc) in
-          copy-is env nv T i p R copied
-          ∙ ap (λ (ps : List Place). ok (environmentOf env, some (typeOf (chainOf rest) (borrowEnd (chainOf rest) ps))))
-          (ap (λ (l : rules.Located). borrowsAt (environmentOf env) (l .to)) (sym same) ∙ L .borrowed ∙ ap (λ (l : List Link). placesIn env l s) chain-on)
+      -- Shared borrow (LANGUAGE 3.21).
+      pub shared-asks : (j : ℕ) → lastShared (take f (chainOf (linksAt env x))) ≡ some j → WholeBorrow env nv x j
+      unfolding leadingBoxes
+      shared-asks j passed =
+          let at-last = last-at f (chainOf (linksAt env x)) j passed in
+          record {
+            is = root-live;
+            whole = root-whole;
+            long = omega (arith, at-last .0, fits);
+            borrow = subst (λ (l : List Link). leadingBoxes l < length l) (sym (at-last .1)) (omega arith);
+          }
+
+-- ---- what they answer, of a place that may be read
+
+module _ (env : List ℕ) (nv : ℕ) (T : NeatTable env nv) (i : ℕ) (p : Place) {rest : ℕ} {ns : Unfinished} (R : Read nv ns (environmentOf env) i p rest) (x : ℕ) (at : x ≡ p .root) where
+  located : judgePlace nv (environmentOf env) i p ≡ ok (paths.located (R .named .variable) (R .to))
+  located = readable-place nv ns (environmentOf env) i p (paths.located (R .named .variable) (R .to)) (R .is)
+
+  module _ (f : ℕ) (follows : f ≡ p .follows) where
+    abbrev on : drop f (chainOf (linksAt env x)) ≡ chainOf rest
+    on = chain-on env nv T p (R .named) x at f follows
+
+    abbrev long : f ≤ longAt env x
+    long = fits env nv T p (R .named) x at f follows
+
+    -- ---- copy (LANGUAGE 3.19)
+
+    pub copy-lent : copies (chainOf rest) ≡ true → (s : Roots) → LentAt nv env i x f s → judgeCopy nv ns (environmentOf env) i p ≡ ok (environmentOf env, some (typeOf (chainOf rest) (endIn env (chainOf rest) s)))
+    copy-lent copied s L =
+        let same : paths.located (variableAt env x) (L .to) ≡ paths.located (R .named .variable) (R .to) = (let z = sym (L .is) ∙ ap₂ (λ (y k : ℕ). judgePlace nv (environmentOf env) i (place y k)) at follows ∙ located in cc) in
+        copy-is env nv T i p R copied
+        ∙ ap (λ (ps : List Place). ok (environmentOf env, some (typeOf (chainOf rest) (borrowEnd (chainOf rest) ps))))
+        (ap (λ (l : rules.Located). borrowsAt (environmentOf env) (l .to)) (sym same) ∙ L .borrowed ∙ ap (λ (l : List Link). placesIn env l s) on)
 
     -- ---- shared borrow (LANGUAGE 3.21)
 
     module _ (j : ℕ) (passed : lastShared (take f (chainOf (linksAt env x))) ≡ some j) where
       at-last : (j < f) × (drop j (chainOf (linksAt env x)) ≡ shared ∷ drop (suc j) (chainOf (linksAt env x)))
       at-last = last-at f (chainOf (linksAt env x)) j passed
-
-      pub shared-asks : WholeBorrow env nv x j
-      unfolding leadingBoxes
-      shared-asks = record {
-        is = root-live;
-        whole = root-whole;
-        long = omega (arith, at-last .0, fits);
-        borrow = subst (λ (l : List Link). leadingBoxes l < length l) (sym (at-last .1)) (omega arith);
-      }
 
       module _ (s : Roots) (L : LentAt nv env i x j s) where
         abbrev m : ℕ
@@ -185,13 +193,13 @@ module _ (env : List ℕ) (nv : ℕ) (T : NeatTable env nv) (i : ℕ) (p : Place
             let n = p .follows - suc j in
             let behind-link = length-drop (suc j) (chainOf (linksAt env x)) in
             let behind-place = length-drop f (chainOf (linksAt env x)) in
-            let after = ap (λ (l : List Link). length l) chain-on in
-            let fewer : n ≤ m = omega (arith, behind-link, fits, follows, at-last .0) in
-            let remain : m - n ≡ length (chainOf rest) = omega (arith, behind-link, behind-place, after, fits, follows, at-last .0) in
+            let after = ap (λ (l : List Link). length l) on in
+            let fewer : n ≤ m = omega (arith, behind-link, long, follows, at-last .0) in
+            let remain : m - n ≡ length (chainOf rest) = omega (arith, behind-link, behind-place, after, long, follows, at-last .0) in
             rw placed (ap ok (ap (λ (ps : List Place). past ps n) lent ∙ past-places (has s) (longAt env) m n fewer long-enough 128 ∙ ap (placesOf 128 (has s) (longAt env)) remain))
 
-        pub shared-lent : (v : verdicts.Told) → Answers v (atMost8 (λ e. typeOf (shared ∷ chainOf rest) (endIn e (shared ∷ chainOf rest) s))) → answered env i v ≡ judgeShared nv (environmentOf env) i p
+        pub shared-lent : (v : verdicts.Told) → Answers v (atMost8 (λ e. typeOf (shared ∷ chainOf rest) (endIn e (shared ∷ chainOf rest) s))) → answered env i v ≡ judgeShared nv ns (environmentOf env) i p
         unfolding judgeShared need _>>=_ borrowEnd leadingBoxes
         shared-lent v a =
-            let last : lastShared (take (p .follows) (R .named .variable .chain)) ≡ some j = ap₂ (λ (u : Variable) (k : ℕ). lastShared (take k (u .chain))) is-root (sym follows) ∙ passed in
+            let last : lastShared (take (p .follows) (R .named .variable .chain)) ≡ some j = ap₂ (λ (u : Variable) (k : ℕ). lastShared (take k (u .chain))) (is-root env nv T p (R .named) x at) (sym follows) ∙ passed in
             rw (R .is, last, recorded, R .named .after) (a env i)

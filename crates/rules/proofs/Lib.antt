@@ -26,6 +26,11 @@ pub mod FollowBound
 pub mod FollowClosed
 pub mod ClosureLoop
 pub mod FollowRoots
+-- The terms that have not finished, and who is in use.
+pub mod Finishing
+pub mod LastUse
+pub mod InUse
+pub mod SameLater
 -- Larger limits.
 pub mod LargerRules
 pub mod LargerJudge
@@ -44,6 +49,7 @@ pub mod LeavingLaws
 pub mod StepLaws
 pub mod SearchLaws
 pub mod GatherLaws
+pub mod BarLaws
 -- Words put into the table, and its notes.
 pub mod WordLaws
 pub mod NoteLaws

@@ -12,6 +12,7 @@ use Rattle.rules.specs.declared.roots.Roots.{Roots}
 use Rattle.rules.specs.Links.{Link, leadingBoxes}
 use Rattle.rules.specs.Environment.{Variable, live, update, movedAway, movedAwayAt}
 use Rattle.rules.specs.Follow.{valueWhole}
+use Rattle.rules.specs.Uses.{Unfinished}
 use Rattle.rules.specs.Bars.{writeBarred}
 use Rattle.rules.specs.Rules.{Judged, Out, inScope, judgeMove}
 use Rattle.rules.specs.Chains.{chainOf}
@@ -28,32 +29,32 @@ module _ (env : List ℕ) (nv : ℕ) (T : NeatTable env nv) (p : Place) {rest : 
   boxes-is x at links boxes same count =
       count ∙ ap (λ (l : ℕ). leadingBoxes (chainOf l)) (same ∙ ap (linksAt env) at) ∙ ap (λ (v : Variable). leadingBoxes (v .chain)) (sym (variable-is env nv T 0 p F))
 
-  pub move-passed : (i : ℕ) → leadingBoxes chain < p .follows → judgeMove nv (environmentOf env) i p ≡ err (38, i)
+  pub move-passed : (ns : Unfinished) (i : ℕ) → leadingBoxes chain < p .follows → judgeMove nv ns (environmentOf env) i p ≡ err (38, i)
   unfolding judgeMove inScope need _>>=_
-  move-passed i l = rw (F .is, le-leb (p .follows) (length chain) (F .long), lt-leb (p .follows) (leadingBoxes chain) l)
+  move-passed ns i l = rw (F .is, le-leb (p .follows) (length chain) (F .long), lt-leb (p .follows) (leadingBoxes chain) l)
 
   module _ (own : p .follows ≤ leadingBoxes chain) where
-    pub move-moved : (i : ℕ) → valueWhole nv (environmentOf env) (p .root) (F .variable) ≡ false → judgeMove nv (environmentOf env) i p ≡ err (33, i)
+    pub move-moved : (ns : Unfinished) (i : ℕ) → valueWhole nv (environmentOf env) (p .root) (F .variable) ≡ false → judgeMove nv ns (environmentOf env) i p ≡ err (33, i)
     unfolding judgeMove inScope need _>>=_
-    move-moved i h = rw (F .is, le-leb (p .follows) (length chain) (F .long), le-leb (p .follows) (leadingBoxes chain) own, h)
+    move-moved ns i h = rw (F .is, le-leb (p .follows) (length chain) (F .long), le-leb (p .follows) (leadingBoxes chain) own, h)
 
     module _ (whole : valueWhole nv (environmentOf env) (p .root) (F .variable) ≡ true) where
-      pub move-barred : (i : ℕ) → writeBarred nv (environmentOf env) (p .root) ≡ true → judgeMove nv (environmentOf env) i p ≡ err (35, i)
+      pub move-barred : (ns : Unfinished) (i : ℕ) → writeBarred nv ns (environmentOf env) (p .root) ≡ true → judgeMove nv ns (environmentOf env) i p ≡ err (35, i)
       unfolding judgeMove inScope need _>>=_
-      move-barred i h = rw (F .is, le-leb (p .follows) (length chain) (F .long), le-leb (p .follows) (leadingBoxes chain) own, whole, h)
+      move-barred ns i h = rw (F .is, le-leb (p .follows) (length chain) (F .long), le-leb (p .follows) (leadingBoxes chain) own, whole, h)
 
       abbrev moved : Variable → Judged Out
       moved v = ok (update (environmentOf env) (p .root) (live (movedAway v (p .follows))), some (typeOf (drop (p .follows) (v .chain)) (v .borrow)))
 
-      move-is : (i : ℕ) → writeBarred nv (environmentOf env) (p .root) ≡ false → judgeMove nv (environmentOf env) i p ≡ moved (F .variable)
+      move-is : (ns : Unfinished) (i : ℕ) → writeBarred nv ns (environmentOf env) (p .root) ≡ false → judgeMove nv ns (environmentOf env) i p ≡ moved (F .variable)
       unfolding judgeMove inScope need _>>=_
-      move-is i h = rw (F .is, le-leb (p .follows) (length chain) (F .long), le-leb (p .follows) (leadingBoxes chain) own, whole, h)
+      move-is ns i h = rw (F .is, le-leb (p .follows) (length chain) (F .long), le-leb (p .follows) (leadingBoxes chain) own, whole, h)
 
       -- The table after the move, and its value: the roots that the root, which the code has as x, recorded, with the links from the place on.
       pub move-there : (env′ : List ℕ) → SameLinks env env′ → (x : ℕ) → x ≡ p .root → (s : Roots) → s ≡ rootsAt env x → environmentOf env′ ≡ update (environmentOf env) x (movedAwayAt (environmentOf env x) (p .follows))
-          → (i : ℕ) → writeBarred nv (environmentOf env) (p .root) ≡ false → ok (environmentOf env′, some (typeOf (chainOf rest) (endIn env′ (chainOf rest) s))) ≡ judgeMove nv (environmentOf env) i p
-      move-there env′ S x at s r e i h =
+          → (ns : Unfinished) (i : ℕ) → writeBarred nv ns (environmentOf env) (p .root) ≡ false → ok (environmentOf env′, some (typeOf (chainOf rest) (endIn env′ (chainOf rest) s))) ≡ judgeMove nv ns (environmentOf env) i p
+      move-there env′ S x at s r e ns i h =
           let is = variable-is env nv T 0 p F in
           moved-out env env′ S x (p .root) (p .follows) rest s at (named-live env nv T 0 p F (p .root) refl) (subst (λ (v : Variable). p .follows ≤ leadingBoxes (v .chain)) is own) (on-chain env nv T 0 p F) r e
           ∙ ap moved (sym is)
-          ∙ sym (move-is i h)
+          ∙ sym (move-is ns i h)

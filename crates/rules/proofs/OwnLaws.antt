@@ -1,11 +1,11 @@
 -- A place that leads to an own link of its root: only boxes are passed, so that following gives the place itself. What is borrowed there, and
--- the answer of an assign to it.
+-- the answer of an assign to it but for 35.
 use Prim.Native.Nat.{ℕ, zero, suc, _-_, _≤_}
 use native.Mathlib.Omega.{arith}
 use mathlib.Core.Path.{_≡_, refl, sym, ap, ap₂, fun-ext, _∙_, subst}
 use mathlib.Core.Logic.{inl, inr}
 use mathlib.Core.Bool.{Bool, true, false}
-use mathlib.Core.Option.{none, some}
+use mathlib.Core.Option.{none}
 use mathlib.Core.List.{List, [], _∷_}
 use lib.ListN.{length, take}
 use lib.Dec.{leb}
@@ -21,8 +21,7 @@ use Rattle.rules.specs.Links.{Link, boxed, shared, exclusive, leadingBox
 use Rattle.rules.specs.Places.{member, unite, every, only}
 use Rattle.rules.specs.Environment.{Borrow, places, Variable, Slot, live, Environment, update, refilled, write, levelOf, borrowOf, borrowsAt, livesAt}
 use Rattle.rules.specs.Follow.{onward, meetAll, follow, ownLink, ownPath}
-use Rattle.rules.specs.Bars.{writeBarred}
-use Rattle.rules.specs.Rules.{inScope, reached, valued, judgePlace, judgeAssign}
+use Rattle.rules.specs.Rules.{inScope, reached, valued, judgePlace, judgeWrite}
 use Rattle.rules.specs.Neat.{Ordered}
 use Rattle.rules.specs.Roots.{linksOf, lengths, placesOf, left}
 use Rattle.rules.specs.Chains.{chainOf}
@@ -118,14 +117,14 @@ module _ (env : List ℕ) (nv : ℕ) (T : NeatTable env nv) (i : ℕ) (p : Place
         ∙ unite-none (places (endIn env ks (rootsAt env (p .root)))) (end-ordered ks (placesIn env ks (rootsAt env (p .root))) (from-ordered (has (rootsAt env (p .root))) (longAt env) (left ks) 0 128))
         ∙ ap places (own-end (rootsAt env (p .root)))
 
-    -- ---- assign (LANGUAGE 3.25): the tests, one after the other
+    -- ---- assign (LANGUAGE 3.25): the tests but for 35, one after the other
 
     passed : noShared (take (p .follows) (F .named .variable .chain)) ≡ true
     passed = boxes-unshared (p .follows) (F .named .variable .chain) (F .own)
 
     module _ (t : ValueType) where
-      pub own-other-links : (rest ≡ t .links → ⊥) → judgeAssign nv (environmentOf env) i p (asValue env (value.Of t)) ≡ err (39, i)
-      unfolding judgeAssign asValue valued need _>>=_
+      pub own-other-links : (rest ≡ t .links → ⊥) → judgeWrite nv (environmentOf env) i p (asValue env (value.Of t)) ≡ err (39, i)
+      unfolding judgeWrite asValue valued need _>>=_
       own-other-links h = rw (F .is, passed, F .named .after, same-links rest (t .links), ne-eqb rest (t .links) h) refl
 
       module _ (same : rest ≡ t .links) (s : Roots) (recorded : places (endIn env (chainOf rest) (t .roots)) ≡ placesIn env (chainOf rest) s) (x : ℕ) (at : x ≡ p .root) (level : ℕ)
@@ -142,8 +141,8 @@ module _ (env : List ℕ) (nv : ℕ) (T : NeatTable env nv) (i : ℕ) (p : Place
             ap₂ (λ (ps : List Place) (l : ℕ). every (λ q. leb (levelOf (environmentOf env (q .root))) l) ps) (ap places (sym is-b) ∙ recorded) (ap (λ (y : ℕ). levelOf (environmentOf env y)) (sym at) ∙ sym level-is)
             ∙ sym (asked (left (chainOf rest)))
 
-        pub own-too-short : long ≡ false → judgeAssign nv (environmentOf env) i p (asValue env (value.Of t)) ≡ err (40, i)
-        unfolding judgeAssign asValue valued need every _>>=_
+        pub own-too-short : long ≡ false → judgeWrite nv (environmentOf env) i p (asValue env (value.Of t)) ≡ err (40, i)
+        unfolding judgeWrite asValue valued need every _>>=_
         own-too-short h = rw (F .is, passed, F .named .after, same-links rest (t .links), eq-eqb rest (t .links) same, lives, h) refl
 
         module _ (enough : long ≡ true) (env′ : List ℕ) (E : environmentOf env′ ≡ update (environmentOf env) x (refilled (environmentOf env x) (endIn env (chainOf (linksAt env x)) s))) where
@@ -154,14 +153,6 @@ module _ (env : List ℕ) (nv : ℕ) (T : NeatTable env nv) (i : ℕ) (p : Place
               ∙ ap (λ (c : Borrow). update (environmentOf env) (p .root) (refilled (environmentOf env (p .root)) c)) (own-end s ∙ end-recorded env (chainOf rest) (t .roots) s recorded ∙ is-b)
               ∙ fun-ext (λ y. sym (write-one (environmentOf env) (p .root) (p .follows) b y))
 
-          module _ (w : Bool) (asked-barred : w ≡ writeBarred nv (environmentOf env′) x) where
-            barred : (c : Bool) → w ≡ c → writeBarred nv (environmentOf env′) (p .root) ≡ c
-            barred c h = ap (writeBarred nv (environmentOf env′)) (sym at) ∙ sym asked-barred ∙ h
-
-            pub own-barred : w ≡ true → judgeAssign nv (environmentOf env) i p (asValue env (value.Of t)) ≡ err (35, i)
-            unfolding judgeAssign asValue valued need every _>>=_
-            own-barred h = rw (F .is, passed, F .named .after, same-links rest (t .links), eq-eqb rest (t .links) same, lives, enough, ← written-is, barred true h) refl
-
-            pub own-assigned : w ≡ false → judgeAssign nv (environmentOf env) i p (asValue env (value.Of t)) ≡ ok (environmentOf env′, none)
-            unfolding judgeAssign asValue valued need every _>>=_
-            own-assigned h = rw (F .is, passed, F .named .after, same-links rest (t .links), eq-eqb rest (t .links) same, lives, enough, ← written-is, barred false h) refl
+          pub own-written : judgeWrite nv (environmentOf env) i p (asValue env (value.Of t)) ≡ ok (environmentOf env′, none)
+          unfolding judgeWrite asValue valued need every _>>=_
+          own-written = rw (F .is, passed, F .named .after, same-links rest (t .links), eq-eqb rest (t .links) same, lives, enough, ← written-is) refl

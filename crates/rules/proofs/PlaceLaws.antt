@@ -20,6 +20,7 @@ use Rattle.rules.specs.Links.{Link, shared, exclusive, maxLinks, leading
 use Rattle.rules.specs.Places.{every}
 use Rattle.rules.specs.Environment.{Borrow, sharedOf, exclusiveOf, borrowEnd, Variable, Slot, free, used, live, Environment, Ty, borrowsAt}
 use Rattle.rules.specs.Follow.{ownLink, valueWhole}
+use Rattle.rules.specs.Uses.{Unfinished}
 use Rattle.rules.specs.Bars.{readBarred, writeBarred}
 use Rattle.rules.specs.Rules as rules
 use Rattle.rules.specs.Rules.{Judged, numberTy, inScope, judgePlace, judgeReadable, judgeCopy, judgeMove, recordedPlaces, judgeShared, judgeExclusive, judgeNumber}
@@ -29,7 +30,7 @@ use Rattle.rules.specs.Masks.{has}
 use Rattle.rules.specs.Chains.{chainOf}
 use Rattle.rules.specs.Steps.{passesSlot, passes, Searched}
 use Rattle.rules.specs.Table.{entryWord, linksAt, longAt, variableAt, endIn, environmentOf}
-use Rattle.rules.specs.Verdicts.{NeatTable, PlaceFound, Named, NamedIs, Read, ReadableIs, NumberIs, typeOf, answered, Answers, atMost8}
+use Rattle.rules.specs.Verdicts.{NeatTable, PlaceFound, Named, NamedIs, Read, ReadableIs, WholeIs, NumberIs, typeOf, answered, Answers, atMost8}
 use Rattle.rules.proofs.RootLaws.{same-roots}
 use Rattle.rules.proofs.RootSets.{one-place}
 use Rattle.rules.proofs.FollowRoots as paths
@@ -46,28 +47,39 @@ module _ (nv : ℕ) (Γ : Environment) (i : ℕ) (p : Place) {r : Readable} wher
   pub named-refused : NamedIs nv Γ i p r → {n : ℕ} → r ≡ readable.Refused n → judgePlace nv Γ i p ≡ err (n, i)
   named-refused answer {n} e = let both : NamedIs nv Γ i p (readable.Refused n) = subst (λ (k : Readable). NamedIs nv Γ i p k) e answer in both .0
 
-  pub move-refused : NamedIs nv Γ i p r → {n : ℕ} → r ≡ readable.Refused n → judgeMove nv Γ i p ≡ err (n, i)
+  pub move-refused : NamedIs nv Γ i p r → {n : ℕ} → r ≡ readable.Refused n → (ns : Unfinished) → judgeMove nv ns Γ i p ≡ err (n, i)
   move-refused answer {n} e = let both : NamedIs nv Γ i p (readable.Refused n) = subst (λ (k : Readable). NamedIs nv Γ i p k) e answer in both .1
 
-  pub read-at : ReadableIs nv Γ i p r → {rest : ℕ} → r ≡ readable.Rest rest → Read nv Γ i p rest
-  read-at answer e = subst (λ (k : Readable). ReadableIs nv Γ i p k) e answer
+module _ (nv : ℕ) (ns : Unfinished) (Γ : Environment) (i : ℕ) (p : Place) {r : Readable} where
+  pub read-at : ReadableIs nv ns Γ i p r → {rest : ℕ} → r ≡ readable.Rest rest → Read nv ns Γ i p rest
+  read-at answer e = subst (λ (k : Readable). ReadableIs nv ns Γ i p k) e answer
 
-  pub read-refused : ReadableIs nv Γ i p r → {n : ℕ} → r ≡ readable.Refused n → judgeReadable nv Γ i p ≡ err (n, i)
-  read-refused answer e = subst (λ (k : Readable). ReadableIs nv Γ i p k) e answer
+  pub read-refused : ReadableIs nv ns Γ i p r → {n : ℕ} → r ≡ readable.Refused n → judgeReadable nv ns Γ i p ≡ err (n, i)
+  read-refused answer e = subst (λ (k : Readable). ReadableIs nv ns Γ i p k) e answer
 
   -- A refusal of the place is one of reading it.
-  pub readable-refused : NamedIs nv Γ i p r → {n : ℕ} → r ≡ readable.Refused n → ReadableIs nv Γ i p r
+  pub readable-refused : NamedIs nv Γ i p r → {n : ℕ} → r ≡ readable.Refused n → ReadableIs nv ns Γ i p r
   unfolding judgeReadable _>>=_
   readable-refused answer {n} e =
-      let h : judgeReadable nv Γ i p ≡ err (n, i) = rw (named-refused answer e) in
-      subst (λ (k : Readable). ReadableIs nv Γ i p k) (sym e) h
+      let h : judgeReadable nv ns Γ i p ≡ err (n, i) = rw (named-refused nv Γ i p answer e) in
+      subst (λ (k : Readable). ReadableIs nv ns Γ i p k) (sym e) h
 
   -- A refusal of reading it is one of a number there.
-  pub number-refused : ReadableIs nv Γ i p r → {n : ℕ} → r ≡ readable.Refused n → NumberIs (judgeNumber nv Γ i p) i r
+  pub number-refused : ReadableIs nv ns Γ i p r → {n : ℕ} → r ≡ readable.Refused n → NumberIs (judgeNumber nv ns Γ i p) i r
   unfolding judgeNumber _>>=_
   number-refused answer {n} e =
-      let h : judgeNumber nv Γ i p ≡ err (n, i) = rw (read-refused answer e) in
-      subst (NumberIs (judgeNumber nv Γ i p) i) (sym e) h
+      let h : judgeNumber nv ns Γ i p ≡ err (n, i) = rw (read-refused answer e) in
+      subst (NumberIs (judgeNumber nv ns Γ i p) i) (sym e) h
+
+module _ (nv : ℕ) (Γ : Environment) (p : Place) {r : Readable} where
+  pub whole-at : WholeIs nv Γ p r → {rest : ℕ} → r ≡ readable.Rest rest → (F : Named Γ p rest) × (valueWhole nv Γ (p .root) (F .variable) ≡ true)
+  whole-at answer e = subst (λ (k : Readable). WholeIs nv Γ p k) e answer
+
+  pub whole-there : {rest : ℕ} → r ≡ readable.Rest rest → (F : Named Γ p rest) → valueWhole nv Γ (p .root) (F .variable) ≡ true → WholeIs nv Γ p r
+  whole-there e F w = subst (λ (k : Readable). WholeIs nv Γ p k) (sym e) (F, w)
+
+  pub whole-refused : {n : ℕ} → r ≡ readable.Refused n → WholeIs nv Γ p r
+  whole-refused e = subst (λ (k : Readable). WholeIs nv Γ p k) (sym e) tt
 
 module _ (judged : Judged (Unit {0})) (i : ℕ) {r : Readable} where
   pub number-at : NumberIs judged i r → {rest : ℕ} → r ≡ readable.Rest rest → judged ≡ ok tt
@@ -80,11 +92,11 @@ module _ (judged : Judged (Unit {0})) (i : ℕ) {r : Readable} where
 
 pub name-unknown : (nv : ℕ) (Γ : Environment) (i : ℕ) (p : Place) (x : ℕ) → x ≡ p .root → inScope (Γ x) (31, i) ≡ err (31, i) → NamedIs nv Γ i p (readable.Refused 31)
 unfolding judgePlace judgeMove _>>=_
-name-unknown nv Γ i p x at h = let k : inScope (Γ (p .root)) (31, i) ≡ err (31, i) = subst (λ (y : ℕ). inScope (Γ y) (31, i) ≡ err (31, i)) at h in (rw k, rw k)
+name-unknown nv Γ i p x at h = let k : inScope (Γ (p .root)) (31, i) ≡ err (31, i) = subst (λ (y : ℕ). inScope (Γ y) (31, i) ≡ err (31, i)) at h in (rw k, λ ns. rw k)
 
 pub name-short : (nv : ℕ) (Γ : Environment) (i : ℕ) (p : Place) (v : Variable) → Γ (p .root) ≡ live v → length (v .chain) < p .follows → NamedIs nv Γ i p (readable.Refused 32)
 unfolding judgePlace judgeMove inScope need _>>=_
-name-short nv Γ i p v e l = (rw (e, lt-leb (p .follows) (length (v .chain)) l), rw (e, lt-leb (p .follows) (length (v .chain)) l))
+name-short nv Γ i p v e l = (rw (e, lt-leb (p .follows) (length (v .chain)) l), λ ns. rw (e, lt-leb (p .follows) (length (v .chain)) l))
 
 -- What the status says at x is so of the place's root.
 pub named-root : (env : List ℕ) (x y : ℕ) → x ≡ y → 2 ≤ entryWord env x 0 → environmentOf env y ≡ live (variableAt env y)
@@ -194,67 +206,65 @@ module _ (env : List ℕ) (nv : ℕ) (T : NeatTable env nv) (i : ℕ) (p : Place
 
       -- ---- readable (LANGUAGE 3.19)
 
-      pub readable-moved : w ≡ false → judgeReadable nv (environmentOf env) i p ≡ err (33, i)
-      unfolding judgeReadable
-      readable-moved h = moved h _
+      module _ (ns : Unfinished) where
+        pub readable-moved : w ≡ false → judgeReadable nv ns (environmentOf env) i p ≡ err (33, i)
+        unfolding judgeReadable
+        readable-moved h = moved h _
 
-      module _ (yes-whole : w ≡ true) (b : Bool) (barred : b ≡ readBarred nv (environmentOf env) x) where
-        barred-is : (d : Bool) → b ≡ d → readBarred nv (environmentOf env) (p .root) ≡ d
-        barred-is d h = ap (readBarred nv (environmentOf env)) (sym at) ∙ sym barred ∙ h
+        module _ (yes-whole : w ≡ true) (b : Bool) (barred : b ≡ readBarred nv ns (environmentOf env) (p .root)) where
+          -- The last test of a readable place, by whether reading is barred.
+          abbrev tested : Bool → Judged rules.Located
+          tested d = need (not d) (34, i) >>= λ _. ok (paths.located (F .variable) (path yes-whole .0))
 
-        -- The last test of a readable place, by whether reading is barred.
-        abbrev tested : Bool → Judged rules.Located
-        tested d = need (not d) (34, i) >>= λ _. ok (paths.located (F .variable) (path yes-whole .0))
+          pub readable-barred : b ≡ true → judgeReadable nv ns (environmentOf env) i p ≡ err (34, i)
+          unfolding judgeReadable need _>>=_
+          readable-barred h = rw (path yes-whole .1, whole-is x at w true whole yes-whole) (ap tested (sym barred ∙ h))
 
-        pub readable-barred : b ≡ true → judgeReadable nv (environmentOf env) i p ≡ err (34, i)
-        unfolding judgeReadable need _>>=_
-        readable-barred h = rw (path yes-whole .1, whole-is x at w true whole yes-whole) (ap tested (barred-is true h))
+          pub readable-there : b ≡ false → Read nv ns (environmentOf env) i p rest
+          unfolding judgeReadable need _>>=_
+          readable-there h = record {
+            named = F;
+            to = path yes-whole .0;
+            is = rw (path yes-whole .1, whole-is x at w true whole yes-whole) (ap tested (sym barred ∙ h));
+          }
 
-        pub readable-there : b ≡ false → Read nv (environmentOf env) i p rest
-        unfolding judgeReadable need _>>=_
-        readable-there h = record {
-          named = F;
-          to = path yes-whole .0;
-          is = rw (path yes-whole .1, whole-is x at w true whole yes-whole) (ap tested (barred-is false h));
-        }
+        -- ---- exclusive borrow (LANGUAGE 3.22)
 
-      -- ---- exclusive borrow (LANGUAGE 3.22)
+        pub exclusive-moved : w ≡ false → judgeExclusive nv ns (environmentOf env) i p ≡ err (33, i)
+        unfolding judgeExclusive
+        exclusive-moved h = moved h _
 
-      pub exclusive-moved : w ≡ false → judgeExclusive nv (environmentOf env) i p ≡ err (33, i)
-      unfolding judgeExclusive
-      exclusive-moved h = moved h _
+        module _ (yes-whole : w ≡ true) (f links : ℕ) (follows : f ≡ p .follows) (same : links ≡ linksAt env x) (u : Bool) (unshared : u ≡ noShared (take f (chainOf links))) where
+          unshared-is : (d : Bool) → u ≡ d → noShared (take (p .follows) (F .variable .chain)) ≡ d
+          unshared-is d h =
+              ap₂ (λ (k : ℕ) (ks : List Link). noShared (take k ks)) (sym follows) (ap (λ (v : Variable). v .chain) variable-is ∙ ap chainOf (ap (linksAt env) (sym at) ∙ sym same)) ∙ sym unshared ∙ h
 
-      module _ (yes-whole : w ≡ true) (f links : ℕ) (follows : f ≡ p .follows) (same : links ≡ linksAt env x) (u : Bool) (unshared : u ≡ noShared (take f (chainOf links))) where
-        unshared-is : (d : Bool) → u ≡ d → noShared (take (p .follows) (F .variable .chain)) ≡ d
-        unshared-is d h =
-            ap₂ (λ (k : ℕ) (ks : List Link). noShared (take k ks)) (sym follows) (ap (λ (v : Variable). v .chain) variable-is ∙ ap chainOf (ap (linksAt env) (sym at) ∙ sym same)) ∙ sym unshared ∙ h
-
-        pub exclusive-shared : u ≡ false → judgeExclusive nv (environmentOf env) i p ≡ err (36, i)
-        unfolding judgeExclusive need _>>=_
-        exclusive-shared h = rw (path yes-whole .1, whole-is x at w true whole yes-whole, unshared-is false h)
-
-        module _ (yes-unshared : u ≡ true) (b : Bool) (barred : b ≡ writeBarred nv (environmentOf env) x) where
-          write-is : (d : Bool) → b ≡ d → writeBarred nv (environmentOf env) (p .root) ≡ d
-          write-is d h = ap (writeBarred nv (environmentOf env)) (sym at) ∙ sym barred ∙ h
-
-          pub exclusive-barred : b ≡ true → judgeExclusive nv (environmentOf env) i p ≡ err (35, i)
+          pub exclusive-shared : u ≡ false → judgeExclusive nv ns (environmentOf env) i p ≡ err (36, i)
           unfolding judgeExclusive need _>>=_
-          exclusive-barred h = rw (path yes-whole .1, whole-is x at w true whole yes-whole, unshared-is true yes-unshared, write-is true h)
+          exclusive-shared h = rw (path yes-whole .1, whole-is x at w true whole yes-whole, unshared-is false h)
 
-          pub exclusive-there : b ≡ false → (r : Roots) → ((y : ℕ) → has r y ≡ eqb x y) → (v : verdicts.Told)
-              → Answers v (atMost8 (λ e. typeOf (exclusive ∷ chainOf rest) (endIn e (exclusive ∷ chainOf rest) r))) → answered env i v ≡ judgeExclusive nv (environmentOf env) i p
-          unfolding judgeExclusive need _>>=_ borrowEnd leadingBoxes
-          exclusive-there h r o v a =
-              let end : exclusiveOf (placesOf 128 (has r) (longAt env) (length (chainOf rest))) ≡ exclusiveOf (p ∷ []) = ap exclusiveOf (borrowed x at r o) in
-              rw (path yes-whole .1, whole-is x at w true whole yes-whole, unshared-is true yes-unshared, write-is false h, F .after)
-              (a env i ∙ ap (λ (k : Borrow). need (leb (suc (length (chainOf rest))) maxLinks) (42, i) >>= λ _. ok (environmentOf env, some (typeOf (exclusive ∷ chainOf rest) k))) end)
+          module _ (yes-unshared : u ≡ true) (b : Bool) (barred : b ≡ writeBarred nv ns (environmentOf env) (p .root)) where
+            write-is : (d : Bool) → b ≡ d → writeBarred nv ns (environmentOf env) (p .root) ≡ d
+            write-is d h = sym barred ∙ h
+
+            pub exclusive-barred : b ≡ true → judgeExclusive nv ns (environmentOf env) i p ≡ err (35, i)
+            unfolding judgeExclusive need _>>=_
+            exclusive-barred h = rw (path yes-whole .1, whole-is x at w true whole yes-whole, unshared-is true yes-unshared, write-is true h)
+
+            pub exclusive-there : b ≡ false → (r : Roots) → ((y : ℕ) → has r y ≡ eqb x y) → (v : verdicts.Told)
+                → Answers v (atMost8 (λ e. typeOf (exclusive ∷ chainOf rest) (endIn e (exclusive ∷ chainOf rest) r))) → answered env i v ≡ judgeExclusive nv ns (environmentOf env) i p
+            unfolding judgeExclusive need _>>=_ borrowEnd leadingBoxes
+            exclusive-there h r o v a =
+                let end : exclusiveOf (placesOf 128 (has r) (longAt env) (length (chainOf rest))) ≡ exclusiveOf (p ∷ []) = ap exclusiveOf (borrowed x at r o) in
+                rw (path yes-whole .1, whole-is x at w true whole yes-whole, unshared-is true yes-unshared, write-is false h, F .after)
+                (a env i ∙ ap (λ (k : Borrow). need (leb (suc (length (chainOf rest))) maxLinks) (42, i) >>= λ _. ok (environmentOf env, some (typeOf (exclusive ∷ chainOf rest) k))) end)
 
   -- ---- a readable place
 
-  module _ (R : Read nv (environmentOf env) i p rest) where
+  module _ {ns : Unfinished} (R : Read nv ns (environmentOf env) i p rest) where
     -- Shared borrow (LANGUAGE 3.21), of a place that passes no shared link.
     pub shared-there : (x : ℕ) → x ≡ p .root → lastShared (take (p .follows) (chainOf (linksAt env x))) ≡ none → (r : Roots) → ((y : ℕ) → has r y ≡ eqb x y) → (v : verdicts.Told)
-        → Answers v (atMost8 (λ e. typeOf (shared ∷ chainOf rest) (endIn e (shared ∷ chainOf rest) r))) → answered env i v ≡ judgeShared nv (environmentOf env) i p
+        → Answers v (atMost8 (λ e. typeOf (shared ∷ chainOf rest) (endIn e (shared ∷ chainOf rest) r))) → answered env i v ≡ judgeShared nv ns (environmentOf env) i p
     unfolding judgeShared recordedPlaces need _>>=_ borrowEnd leadingBoxes
     shared-there x at none-passed r o v a =
         let end : sharedOf (placesOf 128 (has r) (longAt env) (length (chainOf rest))) ≡ sharedOf (p ∷ []) = ap sharedOf (borrowed (R .named) x at r o) in
@@ -263,14 +273,14 @@ module _ (env : List ℕ) (nv : ℕ) (T : NeatTable env nv) (i : ℕ) (p : Place
         (a env i ∙ ap (λ (k : Borrow). need (leb (suc (length (chainOf rest))) maxLinks) (42, i) >>= λ _. ok (environmentOf env, some (typeOf (shared ∷ chainOf rest) k))) end)
 
     -- Copy (LANGUAGE 3.19).
-    pub copy-refused : copies (chainOf rest) ≡ false → judgeCopy nv (environmentOf env) i p ≡ err (37, i)
+    pub copy-refused : copies (chainOf rest) ≡ false → judgeCopy nv ns (environmentOf env) i p ≡ err (37, i)
     unfolding judgeCopy need _>>=_
     copy-refused h = rw (R .is, R .named .after, h)
 
     module _ (copied : copies (chainOf rest) ≡ true) where
-      pub copy-is : judgeCopy nv (environmentOf env) i p ≡ ok (environmentOf env, some (typeOf (chainOf rest) (borrowEnd (chainOf rest) (borrowsAt (environmentOf env) (R .to)))))
+      pub copy-is : judgeCopy nv ns (environmentOf env) i p ≡ ok (environmentOf env, some (typeOf (chainOf rest) (borrowEnd (chainOf rest) (borrowsAt (environmentOf env) (R .to)))))
       unfolding judgeCopy need _>>=_
       copy-is = rw (R .is, R .named .after, copied)
 
-      pub copy-number : isNumber (chainOf rest) ≡ true → judgeCopy nv (environmentOf env) i p ≡ ok (environmentOf env, some numberTy)
+      pub copy-number : isNumber (chainOf rest) ≡ true → judgeCopy nv ns (environmentOf env) i p ≡ ok (environmentOf env, some numberTy)
       copy-number h = copy-is ∙ ap (λ (t : Ty). ok (environmentOf env, some t)) (number-type (chainOf rest) (borrowsAt (environmentOf env) (R .to)) h)

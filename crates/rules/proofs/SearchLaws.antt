@@ -44,7 +44,7 @@ pub record Search (first : ℕ → Bool) (leads : ℕ → ℕ → Bool) (pass ow
   pub ended : (y : ℕ) → ends y ≡ pick (met y) (pick (todo y) false (own y)) false
 
 module _ (first : ℕ → Bool) (leads : ℕ → ℕ → Bool) (pass own : ℕ → Bool) where
-  search-begins : (met ends : ℕ → Bool) → ((y : ℕ) → met y ≡ first y) → ((y : ℕ) → ends y ≡ false) → Search first leads pass own met met ends
+  pub search-begins : (met ends : ℕ → Bool) → ((y : ℕ) → met y ≡ first y) → ((y : ℕ) → ends y ≡ false) → Search first leads pass own met met ends
   search-begins met ends e z = record {
     meeting = record {
       start = λ x h. e x ∙ h;

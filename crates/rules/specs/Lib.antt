@@ -1,9 +1,10 @@
--- The ownership rules (LANGUAGE 3): types, variables, following places, bars, one definition per rule, the judge; then what the code's table
+-- The ownership rules (LANGUAGE 3): types, variables, following places, last uses, bars, one definition per rule, the judge; then what the code's table
 -- and answers say in these terms.
 pub mod Links
 pub mod Places
 pub mod Environment
 pub mod Follow
+pub mod Uses
 pub mod Bars
 pub mod Choice
 pub mod Rules

@@ -1,4 +1,5 @@
--- One definition per ownership rule (LANGUAGE 3.16 to 3.28, 3.31), its tests in the rule's order (3.17). nv is the number of variables, i the term.
+-- One definition per ownership rule (LANGUAGE 3.16 to 3.28, 3.31), its tests in the rule's order (3.17). nv is the number of variables, i
+-- the term, ns the terms that have not finished (3.32).
 use Prim.Native.Nat.{ℕ, suc, _-_}
 use mathlib.Core.Bool.{not}
 use mathlib.Core.Option.{Option, none, some}
@@ -11,6 +12,7 @@ use Rattle.rules.specs.Links.{boxed, shared, exclusive, maxLinks, leadin
 use Rattle.rules.specs.Places.{every, only}
 use Rattle.rules.specs.Environment.{Borrow, noBorrow, sharedOf, exclusiveOf, borrowEnd, Variable, Slot, free, used, live, Environment, Ty, update, fresh, movedAway, write, levelOf, borrowsAt, livesAt, leave}
 use Rattle.rules.specs.Follow.{past, Met, follow, ownLink, ownPath, valueWhole}
+use Rattle.rules.specs.Uses.{Unfinished}
 use Rattle.rules.specs.Bars.{readBarred, writeBarred}
 use Rattle.rules.specs.Choice.{agreeing, either, joined}
 
@@ -60,29 +62,29 @@ module _ (nv : ℕ) where
 
   -- The place of a copy, a shared borrow, a below, a sum and a choice (LANGUAGE 3.19, 3.21, 3.27, 3.31): judged, its value whole (33), reading not barred
   -- (34).
-  unfoldable pub judgeReadable : Environment → ℕ → Place → Judged Located
-  judgeReadable Γ i p =
+  unfoldable pub judgeReadable : Unfinished → Environment → ℕ → Place → Judged Located
+  judgeReadable ns Γ i p =
       judgePlace Γ i p >>= λ l.
       need (valueWhole nv Γ (p .root) (l .root)) (33, i) >>= λ _.
-      need (not (readBarred nv Γ (p .root))) (34, i) >>= λ _.
+      need (not (readBarred nv ns Γ (p .root))) (34, i) >>= λ _.
       ok l
 
   -- Copy (LANGUAGE 3.19): the place is readable, then a number or a shared link (37). The copy borrows what the copied link borrows.
-  unfoldable pub judgeCopy : Environment → ℕ → Place → Judged Out
-  judgeCopy Γ i p =
-      judgeReadable Γ i p >>= λ l.
+  unfoldable pub judgeCopy : Unfinished → Environment → ℕ → Place → Judged Out
+  judgeCopy ns Γ i p =
+      judgeReadable ns Γ i p >>= λ l.
       let ks = drop (p .follows) (l .root .chain) in
       need (copies ks) (37, i) >>= λ _.
       ok (Γ, some (record { links = ks; borrow = borrowEnd ks (borrowsAt Γ (l .to)) }))
 
   -- Move (LANGUAGE 3.20): 31 and 32 of the place, no borrow link passed (38), the value whole (33), writing not barred (35); then the mark.
-  unfoldable pub judgeMove : Environment → ℕ → Place → Judged Out
-  judgeMove Γ i p =
+  unfoldable pub judgeMove : Unfinished → Environment → ℕ → Place → Judged Out
+  judgeMove ns Γ i p =
       inScope (Γ (p .root)) (31, i) >>= λ v.
       need (leb (p .follows) (length (v .chain))) (32, i) >>= λ _.
       need (leb (p .follows) (leadingBoxes (v .chain))) (38, i) >>= λ _.
       need (valueWhole nv Γ (p .root) v) (33, i) >>= λ _.
-      need (not (writeBarred nv Γ (p .root))) (35, i) >>= λ _.
+      need (not (writeBarred nv ns Γ (p .root))) (35, i) >>= λ _.
       ok (update Γ (p .root) (live (movedAway v (p .follows))), some (record { links = drop (p .follows) (v .chain); borrow = v .borrow }))
 
   -- What a shared borrow of the place records (LANGUAGE 3.21): the place itself, or, where it passes shared links, all places that the last of them
@@ -95,21 +97,21 @@ module _ (nv : ℕ) where
       ok (past (borrowsAt Γ (l .to)) (p .follows - suc j))
 
   -- Shared borrow (LANGUAGE 3.21): the place is readable, then a shared link more makes at most 8 (42); then what it records.
-  unfoldable pub judgeShared : Environment → ℕ → Place → Judged Out
-  judgeShared Γ i p =
-      judgeReadable Γ i p >>= λ l.
+  unfoldable pub judgeShared : Unfinished → Environment → ℕ → Place → Judged Out
+  judgeShared ns Γ i p =
+      judgeReadable ns Γ i p >>= λ l.
       let ks = shared ∷ drop (p .follows) (l .root .chain) in
       need (leb (length ks) maxLinks) (42, i) >>= λ _.
       recordedPlaces Γ i p (lastShared (take (p .follows) (l .root .chain))) >>= λ ps.
       ok (Γ, some (record { links = ks; borrow = sharedOf ps }))
 
   -- Exclusive borrow (LANGUAGE 3.22): the place, its value whole (33), no shared link passed (36), writing not barred (35), at most 8 links (42).
-  unfoldable pub judgeExclusive : Environment → ℕ → Place → Judged Out
-  judgeExclusive Γ i p =
+  unfoldable pub judgeExclusive : Unfinished → Environment → ℕ → Place → Judged Out
+  judgeExclusive ns Γ i p =
       judgePlace Γ i p >>= λ l.
       need (valueWhole nv Γ (p .root) (l .root)) (33, i) >>= λ _.
       need (noShared (take (p .follows) (l .root .chain))) (36, i) >>= λ _.
-      need (not (writeBarred nv Γ (p .root))) (35, i) >>= λ _.
+      need (not (writeBarred nv ns Γ (p .root))) (35, i) >>= λ _.
       let ks = exclusive ∷ drop (p .follows) (l .root .chain) in
       need (leb (length ks) maxLinks) (42, i) >>= λ _.
       ok (Γ, some (record { links = ks; borrow = exclusiveOf (p ∷ []) }))
@@ -129,30 +131,35 @@ module _ (nv : ℕ) where
       ok (update Γ x (live (fresh (t .links) (t .borrow) level)), none)
 
   -- Assign (LANGUAGE 3.25), after the right side: it has a value (41), the path of the place (31, 32, 33), no shared link passed (36), the same
-  -- links (39), every borrowed root lives long enough for every variable that may be written (40). In the new state writing the root is not
-  -- barred (35).
-  unfoldable pub judgeAssign : Environment → ℕ → Place → Option Ty → Judged Out
-  judgeAssign Γ i p o =
+  -- links (39), every borrowed root lives long enough for every variable that may be written (40). This gives the state with the new value in
+  -- place.
+  unfoldable pub judgeWrite : Environment → ℕ → Place → Option Ty → Judged Out
+  judgeWrite Γ i p o =
       valued o (41, i) >>= λ t.
       judgePlace Γ i p >>= λ l.
       need (noShared (take (p .follows) (l .root .chain))) (36, i) >>= λ _.
       need (sameLinks (drop (p .follows) (l .root .chain)) (t .links)) (39, i) >>= λ _.
       need (every (λ q. livesAt Γ (t .borrow) (levelOf (Γ (q .root)))) (l .to)) (40, i) >>= λ _.
-      let Γ′ = write Γ (l .to) (t .borrow) in
-      need (not (writeBarred nv Γ′ (p .root))) (35, i) >>= λ _.
-      ok (Γ′, none)
+      ok (write Γ (l .to) (t .borrow), none)
+
+  -- In that state writing the root is not barred (35).
+  unfoldable pub judgeAssign : Unfinished → Environment → ℕ → Place → Option Ty → Judged Out
+  judgeAssign ns Γ i p o =
+      judgeWrite Γ i p o >>= λ w.
+      need (not (writeBarred nv ns (w .0) (p .root))) (35, i) >>= λ _.
+      ok w
 
   -- A place of a below, a sum or a choice (LANGUAGE 3.27, 3.31): readable, then a number (39).
-  unfoldable pub judgeNumber : Environment → ℕ → Place → Judged (Unit {0})
-  judgeNumber Γ i p =
-      judgeReadable Γ i p >>= λ l.
+  unfoldable pub judgeNumber : Unfinished → Environment → ℕ → Place → Judged (Unit {0})
+  judgeNumber ns Γ i p =
+      judgeReadable ns Γ i p >>= λ l.
       need (isNumber (drop (p .follows) (l .root .chain))) (39, i)
 
   -- Below and sum (LANGUAGE 3.27): the first place, then the second.
-  unfoldable pub judgeBelow : Environment → ℕ → Place → Place → Judged Out
-  judgeBelow Γ i p q =
-      judgeNumber Γ i p >>= λ _.
-      judgeNumber Γ i q >>= λ _.
+  unfoldable pub judgeBelow : Unfinished → Environment → ℕ → Place → Place → Judged Out
+  judgeBelow ns Γ i p q =
+      judgeNumber ns Γ i p >>= λ _.
+      judgeNumber ns Γ i q >>= λ _.
       ok (Γ, some numberTy)
 
   -- The borrowed places of a value, if there are any (LANGUAGE 3.3).

@@ -1,11 +1,11 @@
 -- What the rules' functions answer, in the rules' terms: the refusal or the values of each case (LANGUAGE 3.17).
 use Prim.Native.Nat.{ℕ, _-_, _%_, _<_, _≤_}
 use mathlib.Core.Path.{_≡_}
-use mathlib.Core.Bool.{true}
+use mathlib.Core.Bool.{Bool, true, not}
 use mathlib.Core.Option.{Option, none, some}
 use mathlib.Core.List.{List, [], _∷_}
-use lib.ListN.{length, drop}
-use lib.Dec.{leb, eqb}
+use lib.ListN.{length, getD, drop}
+use lib.Dec.{leb, ltb, eqb}
 use Rattle.reader.specs.Result.{ok, err, pick, need, _>>=_}
 use Rattle.reader.specs.Script as script
 use Rattle.rules.specs.declared.roots.Roots.{Roots}
@@ -22,6 +22,7 @@ use Rattle.rules.specs.declared.verdicts.Verdict.{Verdict}
 use Rattle.rules.specs.declared.verdicts.Verdict.the-variants as verdict
 use Rattle.rules.specs.Links.{Link, leadingBoxes, maxLinks}
 use Rattle.rules.specs.Environment.{Borrow, places, Variable, used, live, Environment, Ty, update, isFree, borrowsAt}
+use Rattle.rules.specs.Uses.{Unfinished, namedLater}
 use Rattle.rules.specs.Rules as rules
 use Rattle.rules.specs.Rules.{Judged, Out, judgeBox}
 use Rattle.rules.specs.Judge.{isAnswer}
@@ -98,17 +99,22 @@ LocatedIs nv Γ i p (located.Refused n) = rules.judgePlace nv Γ i p ≡ err (n,
 -- still to be judged.
 abbrev pub NamedIs : (nv : ℕ) → Environment → ℕ → script.Place → Readable → Type 0
 NamedIs nv Γ i p (readable.Rest rest) = Named Γ p rest
-NamedIs nv Γ i p (readable.Refused n) = (rules.judgePlace nv Γ i p ≡ err (n, i)) × (rules.judgeMove nv Γ i p ≡ err (n, i))
+NamedIs nv Γ i p (readable.Refused n) = (rules.judgePlace nv Γ i p ≡ err (n, i)) × ((ns : Unfinished) → rules.judgeMove nv ns Γ i p ≡ err (n, i))
 
 -- A place that may be read (LANGUAGE 3.19), and the links after it; where it leads is not told.
-pub record Read (nv : ℕ) (Γ : Environment) (i : ℕ) (p : script.Place) (rest : ℕ) : Type 0 where
+pub record Read (nv : ℕ) (ns : Unfinished) (Γ : Environment) (i : ℕ) (p : script.Place) (rest : ℕ) : Type 0 where
   pub named : Named Γ p rest
   pub to : List script.Place
-  pub is : rules.judgeReadable nv Γ i p ≡ ok (record { root = named .variable; to = to })
+  pub is : rules.judgeReadable nv ns Γ i p ≡ ok (record { root = named .variable; to = to })
 
-abbrev pub ReadableIs : (nv : ℕ) → Environment → ℕ → script.Place → Readable → Type 0
-ReadableIs nv Γ i p (readable.Rest rest) = Read nv Γ i p rest
-ReadableIs nv Γ i p (readable.Refused n) = rules.judgeReadable nv Γ i p ≡ err (n, i)
+abbrev pub ReadableIs : (nv : ℕ) → Unfinished → Environment → ℕ → script.Place → Readable → Type 0
+ReadableIs nv ns Γ i p (readable.Rest rest) = Read nv ns Γ i p rest
+ReadableIs nv ns Γ i p (readable.Refused n) = rules.judgeReadable nv ns Γ i p ≡ err (n, i)
+
+-- What such an answer says whether or not it was told rightly of bars: the place is named, and its value whole.
+abbrev pub WholeIs : (nv : ℕ) → Environment → script.Place → Readable → Type 0
+WholeIs nv Γ p (readable.Rest rest) = (named : Named Γ p rest) × (valueWhole nv Γ (p .root) (named .variable) ≡ true)
+WholeIs nv Γ p (readable.Refused n) = Unit {0}
 
 -- After so many follows from x, whose value is whole, comes a borrow link, or boxes and then one.
 pub record WholeBorrow (env : List ℕ) (nv x follows : ℕ) : Type 0 where
@@ -143,6 +149,13 @@ unfoldable pub begun : Environment → Requirement → Judged Environment
 begun Γ requirement.Met = ok Γ
 begun Γ (requirement.Refused n at) = err (n, at)
 
+-- ---- who is named later
+
+-- The terms that have not finished name what is used from a row on, and these variables besides. `uses` has for each variable one more than the
+-- last row that names it.
+abbrev pub LaterIs : ℕ → List ℕ → ℕ → (ℕ → Bool) → Unfinished → Type 0
+LaterIs nv uses from named ns = (x : ℕ) → x < nv → namedLater ns x ≡ pick (ltb from (getD uses x 0)) true (named x)
+
 -- ---- values
 
 -- The answer is a number (43 at 0; LANGUAGE 3.29).
@@ -163,6 +176,10 @@ atMost8 t env i = need (leb (length (t env .links)) maxLinks) (42, i) >>= λ _. 
 -- The verdict of a box (LANGUAGE 3.23).
 abbrev pub Boxes : Value → Told → Type 0
 Boxes inner r = (nv : ℕ) → Answers r (λ env i. judgeBox nv (environmentOf env) i (asValue env inner))
+
+-- The end of an assign (LANGUAGE 3.25): writing is not barred (35).
+abbrev pub Writes : Bool → Told → Type 0
+Writes barred r = Answers r (λ env i. need (not barred) (35, i) >>= λ _. ok (environmentOf env, none))
 
 -- The value of a choice (LANGUAGE 3.31): the values of its blocks agree (39), and it has the places of both.
 abbrev pub Joins : Value → Value → Told → Type 0

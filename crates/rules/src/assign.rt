@@ -1,4 +1,5 @@
-// Assign (LANGUAGE 3.25): a write to the one variable that a place leads to, or to one of several.
+// Assign (LANGUAGE 3.25): a write to the one variable that a place leads to, or to one of several; then, with the new
+// value in place, whether writing was barred.
 ghost use mathlib.Core.Path.{_≡_};
 ghost use mathlib.Core.Bool.{true};
 ghost use Prim.Native.Nat.{ℕ, _<_};
@@ -7,12 +8,11 @@ ghost use Rattle.rules.specs.declared.rules.Located.the-variants as loca
 ghost use Rattle.rules.specs.declared.verdicts.Value.the-variants as value;
 ghost use Rattle.rules.specs.Places.{every};
 ghost use Rattle.rules.specs.Environment.{levelOf};
-ghost use Rattle.rules.specs.Rules.{judgeAssign};
+ghost use Rattle.rules.specs.Rules.{judgeWrite};
 ghost use Rattle.rules.specs.Roots.{lengths, placesOf};
 ghost use Rattle.rules.specs.Masks.{has};
 ghost use Rattle.rules.specs.Table.{TableFor, environmentOf, longAt, WidenedAll, Written, asPlace};
-ghost use Rattle.rules.specs.Verdicts.{NeatTable, LocatedIs, asValue, answered};
-use crate::bars::write_barred;
+ghost use Rattle.rules.specs.Verdicts.{NeatTable, LocatedIs, asValue, answered, Writes};
 use crate::chains::no_shared;
 use crate::environment::level_at;
 use crate::environment::lives_at;
@@ -85,10 +85,10 @@ fn write_to(env: &mut [u64], variables: usize, to: Roots, roots: Roots)
 }
 
 // Assign to an own link of the root of the place (LANGUAGE 3.25): no shared link is passed, the same links (39), every
-// borrowed root lives long enough for the root (40), which is whole again. Then writing it is not barred (35).
-fn assign_own(env: &mut [u64], variables: usize, place: Place, rest: u32, of: ValueType) -> Told
+// borrowed root lives long enough for the root (40), which is whole again.
+fn write_own(env: &mut [u64], variables: usize, place: Place, rest: u32, of: ValueType) -> Told
     requires { ⌜ NeatTable (now env) variables × ((i : ℕ) → LocatedIs variables (environmentOf (now env)) i (asPlace place) (located.Own rest)) ⌝ }
-    ensures { λ r. ⌜ ((i : ℕ) → answered (now (env .exit)) i r ≡ judgeAssign variables (environmentOf (now (env .entry))) i (asPlace place) (asValue (now (env .entry)) (value.Of of))) × TableFor (now (env .exit)) variables ⌝ }
+    ensures { λ r. ⌜ ((i : ℕ) → answered (now (env .exit)) i r ≡ judgeWrite variables (environmentOf (now (env .entry))) i (asPlace place) (asValue (now (env .entry)) (value.Of of))) × TableFor (now (env .exit)) variables ⌝ }
 {
     if rest != of.links {
         return refused(refusals::OTHER_LINKS);
@@ -100,16 +100,12 @@ fn assign_own(env: &mut [u64], variables: usize, place: Place, rest: u32, of: Va
         return refused(refusals::LIVES_TOO_SHORT);
     }
     refill(env, variables, root, roots);
-    if write_barred(env, variables, root) {
-        return refused(refusals::WRITING_BARRED);
-    }
     fine(Value::None)
 }
 
 // Assign beyond a borrow link (LANGUAGE 3.25): no shared link passed (36), the same links (39), every borrowed root
-// lives long enough for every variable that may be written (40). With the new value in place, writing the named root is
-// not barred (35).
-fn assign_beyond(
+// lives long enough for every variable that may be written (40).
+fn write_beyond(
     env: &mut [u64],
     variables: usize,
     place: Place,
@@ -119,7 +115,7 @@ fn assign_beyond(
     of: ValueType,
 ) -> Told
     requires { ⌜ NeatTable (now env) variables × ((i : ℕ) → LocatedIs variables (environmentOf (now env)) i (asPlace place) (located.At links rest to)) ⌝ }
-    ensures { λ r. ⌜ ((i : ℕ) → answered (now (env .exit)) i r ≡ judgeAssign variables (environmentOf (now (env .entry))) i (asPlace place) (asValue (now (env .entry)) (value.Of of))) × TableFor (now (env .exit)) variables ⌝ }
+    ensures { λ r. ⌜ ((i : ℕ) → answered (now (env .exit)) i r ≡ judgeWrite variables (environmentOf (now (env .entry))) i (asPlace place) (asValue (now (env .entry)) (value.Of of))) × TableFor (now (env .exit)) variables ⌝ }
 {
     if !no_shared(links, index_of(place.follows)) {
         return refused(refusals::SHARED_PASSED);
@@ -133,17 +129,14 @@ fn assign_beyond(
         return refused(refusals::LIVES_TOO_SHORT);
     }
     write_to(env, variables, to, roots);
-    if write_barred(env, variables, index_of(place.root)) {
-        return refused(refusals::WRITING_BARRED);
-    }
     fine(Value::None)
 }
 
 // Assign (LANGUAGE 3.25), after the right side: it has a value (41), the path of the place (31, 32, 33); then by where
-// the place leads.
-pub fn judge_assign(env: &mut [u64], variables: usize, place: Place, inner: Value) -> Told
+// the place leads. This leaves the new value in place, and 35 still to be judged.
+pub fn judge_write(env: &mut [u64], variables: usize, place: Place, inner: Value) -> Told
     requires { ⌜ NeatTable (now env) variables ⌝ }
-    ensures { λ r. ⌜ ((i : ℕ) → answered (now (env .exit)) i r ≡ judgeAssign variables (environmentOf (now (env .entry))) i (asPlace place) (asValue (now (env .entry)) inner)) × TableFor (now (env .exit)) variables ⌝ }
+    ensures { λ r. ⌜ ((i : ℕ) → answered (now (env .exit)) i r ≡ judgeWrite variables (environmentOf (now (env .entry))) i (asPlace place) (asValue (now (env .entry)) inner)) × TableFor (now (env .exit)) variables ⌝ }
 {
     let Value::Of(of) = inner else {
         return refused(refusals::NO_VALUE);
@@ -151,7 +144,17 @@ pub fn judge_assign(env: &mut [u64], variables: usize, place: Place, inner: Valu
     let located = judge_place(env, variables, place);
     match located {
         Located::Refused(number) => refused(number),
-        Located::Own(rest) => assign_own(env, variables, place, rest, of),
-        Located::At(links, rest, to) => assign_beyond(env, variables, place, links, rest, to, of),
+        Located::Own(rest) => write_own(env, variables, place, rest, of),
+        Located::At(links, rest, to) => write_beyond(env, variables, place, links, rest, to, of),
     }
+}
+
+// The end of an assign (LANGUAGE 3.25), with the new value in place: writing the root is not barred (35).
+pub fn judge_written(barred: bool) -> Told
+    ensures { λ r. ⌜ Writes barred r ⌝ }
+{
+    if barred {
+        return refused(refusals::WRITING_BARRED);
+    }
+    fine(Value::None)
 }

@@ -13,7 +13,12 @@ mod rules; // rules.rt: the rules
 mod assign; // assign.rt: the rule of assign
 mod choice; // choice.rt: the two blocks of a choice
 
-pub use crate::assign::judge_assign;
+pub use crate::assign::judge_write;
+pub use crate::assign::judge_written;
+pub use crate::bars::Later;
+pub use crate::bars::is_held;
+pub use crate::bars::may_bar_reading;
+pub use crate::bars::may_bar_writing;
 pub use crate::choice::KEPT;
 pub use crate::choice::exchange;
 pub use crate::choice::join;
@@ -21,6 +26,11 @@ pub use crate::choice::judge_either;
 pub use crate::choice::keep;
 pub use crate::choice::numbers_taken;
 pub use crate::environment::in_scope;
+pub use crate::roots::Roots;
+pub use crate::roots::is_empty;
+pub use crate::roots::no_roots;
+pub use crate::roots::only;
+pub use crate::roots::unite;
 pub use crate::rules::Readable;
 pub use crate::rules::Requirement;
 pub use crate::rules::begin_let;

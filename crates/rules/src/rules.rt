@@ -1,15 +1,16 @@
 // The ownership rules (LANGUAGE 3.16 to 3.29), one function each: its answer is the rule's definition, and the table
-// afterwards is that definition's environment. A rule about a term with an inner term is given the inner term's value.
+// afterwards is that definition's environment. A rule about a term with an inner term is given the inner term's value; one
+// that asks whether its root is barred is told so, since that depends on terms elsewhere in the script (3.34).
 ghost use mathlib.Core.Path.{_≡_};
 ghost use mathlib.Core.List.{List};
 ghost use Prim.Native.Nat.{ℕ, _<_};
 ghost use Rattle.rules.specs.Environment.{used};
+ghost use Rattle.rules.specs.Uses.{Unfinished};
+ghost use Rattle.rules.specs.Bars.{readBarred, writeBarred};
 ghost use Rattle.rules.specs.Rules.{judgeCopy, judgeMove, judgeShared, judgeExclusive, judgeLet, judgeNumber, judgeBelow, judgeBlockEnd};
 ghost use Rattle.rules.specs.Neat.{NeatValue};
 ghost use Rattle.rules.specs.Table.{TableFor, environmentOf, Around, asPlace};
-ghost use Rattle.rules.specs.Verdicts.{NeatTable, WholeBorrow, LentAt, LocatedIs, NamedIs, ReadableIs, NumberIs, RootsIn, asRequirement, begun, beginLet, asValue, answered, Boxes, judgeAnswer};
-use crate::bars::read_barred;
-use crate::bars::write_barred;
+ghost use Rattle.rules.specs.Verdicts.{NeatTable, WholeBorrow, LentAt, LocatedIs, NamedIs, ReadableIs, WholeIs, NumberIs, RootsIn, asRequirement, begun, beginLet, asValue, answered, Boxes, judgeAnswer};
 use crate::chains::BOX;
 use crate::chains::EXCLUSIVE;
 use crate::chains::Rest;
@@ -114,9 +115,9 @@ pub fn judge_place(env: &[u64], variables: usize, place: Place) -> Located
 
 // The place of a copy, a shared borrow, a below, a sum and a choice (LANGUAGE 3.19, 3.21, 3.27, 3.31): named, its value
 // whole (33), reading not barred (34).
-pub fn judge_readable(env: &[u64], variables: usize, place: Place) -> Readable
+pub fn judge_readable(env: &[u64], variables: usize, place: Place, barred: bool) -> Readable
     requires { ⌜ NeatTable (now env) variables ⌝ }
-    ensures { λ r. ⌜ ((i : ℕ) → ReadableIs variables (environmentOf (now (env .entry))) i (asPlace place) r) ⌝ }
+    ensures { λ r. ⌜ ((i : ℕ) (ns : Unfinished) → (barred ≡ readBarred variables ns (environmentOf (now (env .entry))) (asPlace place .root)) → ReadableIs variables ns (environmentOf (now (env .entry))) i (asPlace place) r) × WholeIs variables (environmentOf (now (env .entry))) (asPlace place) r ⌝ }
 {
     let named = judge_named(env, variables, place);
     let Readable::Rest(_) = named else {
@@ -126,7 +127,7 @@ pub fn judge_readable(env: &[u64], variables: usize, place: Place) -> Readable
     if !value_whole(env, variables, root) {
         return Readable::Refused(refusals::MOVED_AWAY);
     }
-    if read_barred(env, variables, root) {
+    if barred {
         return Readable::Refused(refusals::READING_BARRED);
     }
     named
@@ -148,11 +149,11 @@ fn lent_at(env: &[u64], variables: usize, root: usize, follows: usize) -> Roots
 
 // Copy (LANGUAGE 3.19): the place is readable, then a number or a shared link (37). The copy borrows what is borrowed
 // where the place may lead; a number borrows nothing, so that only a borrow is followed.
-pub fn judge_copy(env: &[u64], variables: usize, place: Place) -> Told
+pub fn judge_copy(env: &[u64], variables: usize, place: Place, barred: bool) -> Told
     requires { ⌜ NeatTable (now env) variables ⌝ }
-    ensures { λ r. ⌜ ((i : ℕ) → answered (now (env .entry)) i r ≡ judgeCopy variables (environmentOf (now (env .entry))) i (asPlace place)) ⌝ }
+    ensures { λ r. ⌜ ((i : ℕ) (ns : Unfinished) → (barred ≡ readBarred variables ns (environmentOf (now (env .entry))) (asPlace place .root)) → answered (now (env .entry)) i r ≡ judgeCopy variables ns (environmentOf (now (env .entry))) i (asPlace place)) ⌝ }
 {
-    let readable = judge_readable(env, variables, place);
+    let readable = judge_readable(env, variables, place, barred);
     match readable {
         Readable::Refused(number) => refused(number),
         Readable::Rest(rest) => {
@@ -175,9 +176,9 @@ pub fn judge_copy(env: &[u64], variables: usize, place: Place) -> Told
 
 // Move (LANGUAGE 3.20): 31 and 32 of the place, no borrow link passed (38), the value whole (33), writing not barred
 // (35). Then the links from the place on are moved away.
-pub fn judge_move(env: &mut [u64], variables: usize, place: Place) -> Told
+pub fn judge_move(env: &mut [u64], variables: usize, place: Place, barred: bool) -> Told
     requires { ⌜ NeatTable (now env) variables ⌝ }
-    ensures { λ r. ⌜ ((i : ℕ) → answered (now (env .exit)) i r ≡ judgeMove variables (environmentOf (now (env .entry))) i (asPlace place)) × TableFor (now (env .exit)) variables ⌝ }
+    ensures { λ r. ⌜ ((i : ℕ) (ns : Unfinished) → (barred ≡ writeBarred variables ns (environmentOf (now (env .entry))) (asPlace place .root)) → answered (now (env .exit)) i r ≡ judgeMove variables ns (environmentOf (now (env .entry))) i (asPlace place)) × TableFor (now (env .exit)) variables ⌝ }
 {
     let root = index_of(place.root);
     let named = judge_named(env, variables, place);
@@ -190,7 +191,7 @@ pub fn judge_move(env: &mut [u64], variables: usize, place: Place) -> Told
             if !value_whole(env, variables, root) {
                 return refused(refusals::MOVED_AWAY);
             }
-            if write_barred(env, variables, root) {
+            if barred {
                 return refused(refusals::WRITING_BARRED);
             }
             let roots = roots_at(env, root);
@@ -202,11 +203,11 @@ pub fn judge_move(env: &mut [u64], variables: usize, place: Place) -> Told
 
 // Shared borrow (LANGUAGE 3.21): the place is readable, then a shared link more makes at most 8 (42). With shared links
 // passed it borrows what the last of them does.
-pub fn judge_shared(env: &[u64], variables: usize, place: Place) -> Told
+pub fn judge_shared(env: &[u64], variables: usize, place: Place, barred: bool) -> Told
     requires { ⌜ NeatTable (now env) variables ⌝ }
-    ensures { λ r. ⌜ ((i : ℕ) → answered (now (env .entry)) i r ≡ judgeShared variables (environmentOf (now (env .entry))) i (asPlace place)) ⌝ }
+    ensures { λ r. ⌜ ((i : ℕ) (ns : Unfinished) → (barred ≡ readBarred variables ns (environmentOf (now (env .entry))) (asPlace place .root)) → answered (now (env .entry)) i r ≡ judgeShared variables ns (environmentOf (now (env .entry))) i (asPlace place)) ⌝ }
 {
-    let readable = judge_readable(env, variables, place);
+    let readable = judge_readable(env, variables, place, barred);
     match readable {
         Readable::Refused(number) => refused(number),
         Readable::Rest(rest) => {
@@ -224,9 +225,9 @@ pub fn judge_shared(env: &[u64], variables: usize, place: Place) -> Told
 
 // Exclusive borrow (LANGUAGE 3.22): the place, its value whole (33), no shared link passed (36), writing not barred
 // (35), at most 8 links (42).
-pub fn judge_exclusive(env: &[u64], variables: usize, place: Place) -> Told
+pub fn judge_exclusive(env: &[u64], variables: usize, place: Place, barred: bool) -> Told
     requires { ⌜ NeatTable (now env) variables ⌝ }
-    ensures { λ r. ⌜ ((i : ℕ) → answered (now (env .entry)) i r ≡ judgeExclusive variables (environmentOf (now (env .entry))) i (asPlace place)) ⌝ }
+    ensures { λ r. ⌜ ((i : ℕ) (ns : Unfinished) → (barred ≡ writeBarred variables ns (environmentOf (now (env .entry))) (asPlace place .root)) → answered (now (env .entry)) i r ≡ judgeExclusive variables ns (environmentOf (now (env .entry))) i (asPlace place)) ⌝ }
 {
     let root = index_of(place.root);
     let named = judge_named(env, variables, place);
@@ -239,7 +240,7 @@ pub fn judge_exclusive(env: &[u64], variables: usize, place: Place) -> Told
             if !no_shared(links_at(env, root), index_of(place.follows)) {
                 return refused(refusals::SHARED_PASSED);
             }
-            if write_barred(env, variables, root) {
+            if barred {
                 return refused(refusals::WRITING_BARRED);
             }
             longer_value(EXCLUSIVE, rest, only(root))
@@ -291,11 +292,11 @@ pub fn judge_let(env: &mut [u64], variables: usize, level: u64, x: usize, inner:
 }
 
 // A place of a below, a sum or a choice (LANGUAGE 3.27, 3.31): readable, then a number (39).
-pub fn judge_number(env: &[u64], variables: usize, place: Place) -> Readable
+pub fn judge_number(env: &[u64], variables: usize, place: Place, barred: bool) -> Readable
     requires { ⌜ NeatTable (now env) variables ⌝ }
-    ensures { λ r. ⌜ ((i : ℕ) → NumberIs (judgeNumber variables (environmentOf (now (env .entry))) i (asPlace place)) i r) ⌝ }
+    ensures { λ r. ⌜ ((i : ℕ) (ns : Unfinished) → (barred ≡ readBarred variables ns (environmentOf (now (env .entry))) (asPlace place .root)) → NumberIs (judgeNumber variables ns (environmentOf (now (env .entry))) i (asPlace place)) i r) ⌝ }
 {
-    let readable = judge_readable(env, variables, place);
+    let readable = judge_readable(env, variables, place, barred);
     match readable {
         Readable::Refused(_) => readable,
         Readable::Rest(rest) => {
@@ -308,15 +309,22 @@ pub fn judge_number(env: &[u64], variables: usize, place: Place) -> Readable
 }
 
 // Below and sum (LANGUAGE 3.27): the first place, then the second.
-pub fn judge_below(env: &[u64], variables: usize, first: Place, second: Place) -> Told
+pub fn judge_below(
+    env: &[u64],
+    variables: usize,
+    first: Place,
+    first_barred: bool,
+    second: Place,
+    second_barred: bool,
+) -> Told
     requires { ⌜ NeatTable (now env) variables ⌝ }
-    ensures { λ r. ⌜ ((i : ℕ) → answered (now (env .entry)) i r ≡ judgeBelow variables (environmentOf (now (env .entry))) i (asPlace first) (asPlace second)) ⌝ }
+    ensures { λ r. ⌜ ((i : ℕ) (ns : Unfinished) → («first_barred» ≡ readBarred variables ns (environmentOf (now (env .entry))) (asPlace first .root)) → («second_barred» ≡ readBarred variables ns (environmentOf (now (env .entry))) (asPlace second .root)) → answered (now (env .entry)) i r ≡ judgeBelow variables ns (environmentOf (now (env .entry))) i (asPlace first) (asPlace second)) ⌝ }
 {
-    let left = judge_number(env, variables, first);
+    let left = judge_number(env, variables, first, first_barred);
     if let Readable::Refused(number) = left {
         return refused(number);
     }
-    let right = judge_number(env, variables, second);
+    let right = judge_number(env, variables, second, second_barred);
     if let Readable::Refused(number) = right {
         return refused(number);
     }

@@ -1,10 +1,11 @@
--- Assign, as judged (LANGUAGE 3.25): the conditions hold, whether one variable may be written or several. 35 is asked in the new state.
+-- Assign, as judged (LANGUAGE 3.25): the conditions hold, whether one variable may be written or several. 35 is asked in the new state, and so
+-- is who is in use: whoever is not in use there forgets what it borrows.
 use Prim.Native.Nat.{ℕ, _≤_, _<_}
 use native.Mathlib.Omega.{arith}
-use native.Mathlib.Decide.{decLt}
+use native.Mathlib.Decide.{ℕ-discrete, decLt}
 use mathlib.Core.Path.{_≡_, refl, sym, ap, _∙_, subst}
 use mathlib.Core.Logic.{_≢_, _⊎_, inl, inr}
-use mathlib.Core.Bool.{true, false, not}
+use mathlib.Core.Bool.{true, false, true≢false, not}
 use mathlib.Core.Option.{Option, none, some}
 use mathlib.Core.List.{List}
 use lib.ListN.{take, drop}
@@ -14,45 +15,50 @@ use Rattle.reader.specs.Script.{Place}
 use Rattle.rules.specs.Links.{Link, leadingBoxes, noShared, sameLinks}
 use Rattle.rules.specs.Places.{every}
 use Rattle.rules.specs.Environment.{places, Variable, Slot, live, Environment, Ty, update, fresh, wider, write, levelOf, livesAt}
-use Rattle.rules.specs.Bars.{writeBarred}
-use Rattle.rules.specs.Rules.{Out, valued, Located, judgePlace, judgeAssign}
+use Rattle.rules.specs.Uses.{Unfinished, namedLater}
+use Rattle.rules.specs.Bars.{borrowsAny, heldBy, inUse, writeBarred}
+use Rattle.rules.specs.Rules.{Out, valued, Located, judgePlace, judgeWrite, judgeAssign}
 use Rattle.rules.specs.Neat.{place, Among}
 use Rattle.rules.proofs.Answers.{was-valued}
 use Rattle.rules.proofs.Slots.{used≢live}
 use Rattle.rules.proofs.LinkChains.{same-links}
 use Rattle.rules.proofs.SetLaws.{every-in}
+use Rattle.rules.proofs.InUse.{in-use-named, in-use-held}
 use Rattle.machine.specs.Values.{Value}
 use Rattle.machine.specs.Store.{State}
 use Rattle.machine.specs.Run.{runAssign}
 use Rattle.rules.proofs.Answers.{err≢ok}
 use Rattle.reader.proofs.Answers.{then, needed}
-use Rattle.safety.proofs.Memory.{Name, inFlight, inDrop, var, has, nameDec, var≢flight, drop≢flight}
+use Rattle.safety.proofs.Memory.{Name, inFlight, inDrop, var, has, var≢flight, var≢drop, drop≢flight}
 use Rattle.safety.proofs.NameMaps.{upd, upd-same, upd-other}
+use Rattle.safety.proofs.Ghost.{vacant}
 use Rattle.safety.proofs.Ghost as Gh
-use Rattle.safety.proofs.Typing.{borrowed, Fits, boxes, Holds, Typed}
+use Rattle.safety.proofs.Typing.{borrowed, Fits, boxes, Reach, here, hop, Holds, Typed}
 use Rattle.safety.proofs.Chains.{fits-up}
 use Rattle.safety.proofs.Paths.{end-live}
-use Rattle.safety.proofs.OnPath.{agreed}
-use Rattle.safety.proofs.Fading.{faded, fade-none, fading}
-use Rattle.safety.proofs.Covering.{borrow-among, Covered, vacant≢live, covered-back, covered-fresh}
-use Rattle.safety.proofs.Widening.{Wide, wide-same, wide-old, wide-new}
-use Rattle.safety.proofs.Inversion.{write-allowed}
+use Rattle.safety.proofs.OnPath.{agreed, ranked}
+use Rattle.safety.proofs.Fading.{faded, fade-none, without, without-off, without-on, without-typed, without-holds, without-none}
+use Rattle.safety.proofs.Known.{Known, by-name, by-flight, by-holder, known-less}
+use Rattle.safety.proofs.Covering.{borrow-among, Covered, covers, vacant≢live, covered-back, covered-fresh}
+use Rattle.safety.proofs.Widening.{Wide, wide-same, wide-old, wide-new, without-covers}
+use Rattle.safety.proofs.Inversion.{write-allowed, is-held}
 use Rattle.safety.proofs.Invariant.{nobody, Invariant, holder-var, level-of}
+use Rattle.safety.proofs.Settling.{Used, Unused, unused-dec, is-used}
 use Rattle.safety.proofs.Finding.{Found}
 use Rattle.safety.proofs.Following.{judged-found}
 use Rattle.safety.proofs.Progress.{Progress}
 use Rattle.safety.proofs.Wider.{widened, value-same}
 use Rattle.safety.proofs.InFlight.{content, flying, flying-whole, flying-borrow}
-use Rattle.safety.proofs.Assigning.{assigning}
+use Rattle.safety.proofs.Assigning.{assigned, assigning}
 use Rattle.safety.proofs.WriteJudged.{write-here, other-live, other-used, write-wider}
 
-module _ {nv : ℕ} {Γ : Environment} {t : Ty} {lv : ℕ} {s : State} {v : Value} (I : Invariant nv Γ (some t) lv s v) where
-  module _ (i : ℕ) (p : Place) (l : Located) (F : Found I p l i)
+module _ {nv : ℕ} {ns : Unfinished} {Γ : Environment} {t : Ty} {lv : ℕ} {s : State} {v : Value} (js : Unfinished) (I : Invariant nv ns Γ (some t) lv s v) where
+  module _ (i : ℕ) (p : Place) (l : Located) (F : Found I p l i) (nj : namedLater js (p .root) ≡ true) (H₀ : Used nv js ns (write Γ (l .to) (t .borrow)))
       (unshared : noShared (take (p .follows) (l .root .chain)) ≡ true) (links : drop (p .follows) (l .root .chain) ≡ t .links)
       (lvl : every (λ (q : Place). livesAt Γ (t .borrow) (levelOf (Γ (q .root)))) (l .to) ≡ true)
-      (bar : writeBarred nv (write Γ (l .to) (t .borrow)) (p .root) ≡ false) where
+      (bar : writeBarred nv js (write Γ (l .to) (t .borrow)) (p .root) ≡ false) where
     -- The variable finally written.
-    written : (V₀ : Variable) × (Γ (F .c) ≡ live V₀) × (W : Gh.Variable) × (I .Θ (var (F .c)) ≡ Gh.live W) × (Covered W V₀) × (F .d ≤ boxes W)
+    written : (V₀ : Variable) × (Γ (F .c) ≡ live V₀) × (W : Gh.Variable) × (I .Θ (var (F .c)) ≡ Gh.live W) × (Covered (Known ns (I .Θ) (var (F .c))) W V₀) × (F .d ≤ boxes W)
     written =
         let e = end-live (F .reach) in
         let u = covered-back (I .Θ (var (F .c))) (Γ (F .c)) (e .0) (I .vars (F .c)) (e .1) in
@@ -70,37 +76,170 @@ module _ {nv : ℕ} {Γ : Environment} {t : Ty} {lv : ℕ} {s : State} {v : Valu
         level-of I (t .borrow) (written .0 .level) k R
         (subst (λ (y : Slot). livesAt Γ (t .borrow) (levelOf y) ≡ true) (written .1) (every-in (λ (q : Place). livesAt Γ (t .borrow) (levelOf (Γ (q .root)))) (place (F .c) (F .d)) (l .to) lvl (F .among))) h f
 
-    -- No variable but the one written holds the named root.
-    other-unheld : (y : ℕ) (q : Gh.Variable) (k : Place) → Holds (I .Θ) (var y) q k → var y ≢ var (F .c) → k .root ≢ p .root
-    other-unheld y q k K n e =
+    -- ---- who is in use, with the new value in place
+
+    Γ′ : Environment
+    Γ′ = write Γ (l .to) (t .borrow)
+
+    -- What a variable other than the one written holds, it holds for the judge afterwards.
+    other-holds : (y : ℕ) (q : Gh.Variable) (k : Place) → Holds (I .Θ) (var y) q k → y ≢ F .c
+        → (o : Variable) × (y < nv) × (Γ′ y ≡ live o) × (leadingBoxes (o .chain) < o .movedFrom) × (Among k (places (o .borrow)))
+    unfolding Γ′
+    other-holds y q k K n =
         let h = holder-var I y q k K in
-        let o = other-live Γ (l .to) (t .borrow) (F .c) (F .d) (F .among) y (h .0) (λ z. n (ap var z)) (h .2) in
+        let o = other-live Γ (l .to) (t .borrow) (F .c) (F .d) (F .among) y (h .0) n (h .2) in
         let C = covered-back (I .Θ (var y)) (Γ y) q (I .vars y) (K .is) in
         let z : C .0 ≡ h .0 = (let a : live (C .0) ≡ live (h .0) = sym (C .1) ∙ h .2 in cc) in
         let ch : q .chain ≡ o .0 .chain = C .2 .chain ∙ ap (λ (u : Variable). u .chain) z ∙ o .2 .chain in
         let B = o .2 .borrow (q .borrow) (subst (λ (u : List Link). Fits u (q .borrow)) ch (I .typed .at (var y) q (K .is) .fits)) (h .4) in
         let m : leadingBoxes (h .0 .chain) ≡ leadingBoxes (o .0 .chain) = ap leadingBoxes (o .2 .chain) in
-        write-allowed nv (write Γ (l .to) (t .borrow)) (p .root) y (o .0) k bar (h .1) (o .1) (omega (arith, h .3, o .3)) (borrow-among B k (K .at)) e
+        (o .0, h .1, o .1, omega (arith, h .3, o .3), borrow-among B k (K .at))
+
+    -- So what it holds is in use if it is.
+    other-held : (y : ℕ) (q : Gh.Variable) (k : Place) → Holds (I .Θ) (var y) q k → y ≢ F .c → inUse nv js Γ′ y ≡ true → inUse nv js Γ′ (k .root) ≡ true
+    other-held y q k K n u =
+        let h = other-holds y q k K n in
+        let R = I .typed .at (var y) q (K .is) .refs (K .whole) k (K .at) in
+        in-use-held nv js Γ′ y (k .root) (h .1) (I .typed .bound (k .root) (R .W) (R .is)) (is-held Γ′ y (h .0) k (h .2) (h .3) (h .4)) u
+
+    -- The named root is in use, and so is everything on the path.
+    root-used : inUse nv js Γ′ (p .root) ≡ true
+    root-used = in-use-named nv js Γ′ (p .root) (I .typed .bound (p .root) (F .X) (F .isX)) nj
+
+    -- ---- whoever is not forgets what it borrows, and so does the value in flight if B
+
+    module _ (B : Type 0) (bDec : Dec B) where
+      Θ₀ : Name → Gh.Slot
+      Θ₀ = without (I .Θ) (Unused nv js Γ′ B) (unused-dec nv js Γ′ B bDec)
+
+      same : (z : Name) → (Unused nv js Γ′ B z → ⊥) → Θ₀ z ≡ I .Θ z
+      unfolding Θ₀
+      same z h = without-off (I .Θ) (Unused nv js Γ′ B) (unused-dec nv js Γ′ B bDec) z h
+
+      T₀ : Typed nv nobody Θ₀ (I .H) (I .ρ) (I .rank)
+      unfolding Θ₀
+      T₀ = without-typed (I .typed) (Unused nv js Γ′ B) (unused-dec nv js Γ′ B bDec)
+
+      back : (y : Name) (Q : Gh.Variable) (k : Place) → Holds Θ₀ y Q k → Holds (I .Θ) y Q k
+      unfolding Θ₀
+      back y Q k K = without-holds (I .typed) (Unused nv js Γ′ B) (unused-dec nv js Γ′ B bDec) y Q k K
+
+      -- Who still holds something is in use.
+      used-still : (y : ℕ) (Q : Gh.Variable) (k : Place) → Holds Θ₀ (var y) Q k → inUse nv js Γ′ y ≡ true
+      unfolding Θ₀
+      used-still y Q k K = is-used nv js Γ′ B y (λ h. without-none (I .typed) (Unused nv js Γ′ B) (unused-dec nv js Γ′ B bDec) (var y) Q k h K)
+
+      used-same : (x : ℕ) → inUse nv js Γ′ x ≡ true → Θ₀ (var x) ≡ I .Θ (var x)
+      used-same x u = same (var x) (λ h. true≢false (sym u ∙ h))
+
+      -- The path is as it was: ranks fall along it, so that no name before its end is the variable written.
+      path : {y : Name} {r : ℕ} (x : ℕ) → y ≡ var x → inUse nv js Γ′ x ≡ true → Reach (I .Θ) (var (F .c)) (F .d) y r
+          → (Reach Θ₀ (var (F .c)) (F .d) y r) × (inUse nv js Γ′ (F .c) ≡ true)
+      path x e u (here Q f a b) = let z : x ≡ F .c = cc in let w : inUse nv js Γ′ (F .c) ≡ true = subst (λ (k : ℕ). inUse nv js Γ′ k ≡ true) z u in (here Q (used-same (F .c) w ∙ f) a b, w)
+      path {y} {r} x e u (hop Q q f g a b D) =
+          let K : Holds (I .Θ) (var x) Q q = record { is = ap (I .Θ) (sym e) ∙ f; whole = a; at = g } in
+          let R = I .typed .at (var x) Q (K .is) .refs a q g in
+          let lo = R .lower in
+          let n : x ≢ F .c = λ z. let k = ranked (I .typed) D in let m : I .rank (var x) ≡ I .rank (var (F .c)) = ap (λ (k : ℕ). I .rank (var k)) z in omega arith in
+          let P = path (q .root) refl (other-held x Q q K n u) D in
+          (hop {r = r} Q q (ap Θ₀ e ∙ used-same x u ∙ K .is) g a b (P .0), P .1)
+
+      D₀ : (Reach Θ₀ (var (F .c)) (F .d) (var (p .root)) (p .follows)) × (inUse nv js Γ′ (F .c) ≡ true)
+      D₀ = path (p .root) refl root-used (F .reach)
+
+      idle₀ : Θ₀ inDrop ≡ vacant
+      idle₀ = same inDrop (λ h. h) ∙ I .idle
+
+      -- U is the value in flight as it is then known.
+      module _ (U : Gh.Variable) (eU : Θ₀ inFlight ≡ Gh.live U)
+          (kept : (k : Place) → borrowed (U .borrow) ≡ some k → borrowed (flying I .0 .borrow) ≡ some k)
+          (taken : (k : Place) → borrowed (U .borrow) ≡ some k → heldBy borrowsAny (Γ′ (F .c)) (k .root) ≡ true) where
+        W′ : Gh.Variable
+        W′ = Gh.fresh (written .2 .chain) (U .borrow) (written .2 .level)
+
+        Θ₁ : Name → Gh.Slot
+        Θ₁ = assigned Θ₀ (var (F .c)) W′
+
+        -- Whoever holds something afterwards: the variable written, what the value borrows; or another variable, as before.
+        Holder : Name → Place → Type 0
+        Holder y k = ((y ≡ var (F .c)) × (borrowed (U .borrow) ≡ some k)) ⊎ ((x : ℕ) × (y ≡ var x) × (x ≢ F .c) × (Q : Gh.Variable) × (Holds (I .Θ) (var x) Q k))
+
+        holder₁ : (y : Name) (Q : Gh.Variable) (k : Place) → Holds Θ₁ y Q k → Holder y k
+        unfolding W′ Θ₁ Holder
+        holder₁ inFlight Q k K = absurd (vacant≢live (sym (upd-same (upd Θ₀ (var (F .c)) (Gh.live W′)) inFlight vacant) ∙ K .is))
+        holder₁ inDrop Q k K = absurd (vacant≢live (sym (upd-other (upd Θ₀ (var (F .c)) (Gh.live W′)) inFlight vacant inDrop drop≢flight ∙ upd-other Θ₀ (var (F .c)) (Gh.live W′) inDrop (λ e. var≢drop (sym e)) ∙ idle₀) ∙ K .is))
+        holder₁ (var x) Q k K = go (ℕ-discrete x (F .c))
+          where
+            go : Dec (x ≡ F .c) → ((var x ≡ var (F .c)) × (borrowed (U .borrow) ≡ some k)) ⊎ ((z : ℕ) × (var x ≡ var z) × (z ≢ F .c) × (Q : Gh.Variable) × (Holds (I .Θ) (var z) Q k))
+            go (yes e) =
+                let f : Gh.live W′ ≡ Gh.live Q = sym (upd-other (upd Θ₀ (var (F .c)) (Gh.live W′)) inFlight vacant (var (F .c)) var≢flight ∙ upd-same Θ₀ (var (F .c)) (Gh.live W′)) ∙ ap (λ (y : ℕ). upd (upd Θ₀ (var (F .c)) (Gh.live W′)) inFlight vacant (var y)) (sym e) ∙ K .is in
+                let u : W′ ≡ Q = cc in
+                inl (ap var e, ap (λ (q : Gh.Variable). borrowed (q .borrow)) u ∙ K .at)
+            go (no n) = inr (x, refl, n, Q, back (var x) Q k (record { is = sym (upd-other (upd Θ₀ (var (F .c)) (Gh.live W′)) inFlight vacant (var x) var≢flight ∙ upd-other Θ₀ (var (F .c)) (Gh.live W′) (var x) (λ e. n (cc))) ∙ K .is; whole = K .whole; at = K .at }))
+
+        known₁ : {z : Name} → Known ns Θ₁ z → Known ns (I .Θ) z
+        unfolding Holder
+        known₁ = known-less (λ x e. e) (λ y Q k kn K. elim (holder₁ y Q k K) [
+          | inl h ↦ by-holder (flying I .0) k by-flight (record { is = flying I .1; whole = flying-whole I; at = kept k (h .1) })
+          | inr h ↦ by-holder (h .3) k (subst (λ (z : Name). Known ns (I .Θ) z) (h .1) kn) (h .4)
+        ])
+
+        -- A variable known afterwards is in use.
+        known-used : {z : Name} → Known ns Θ₁ z → (x : ℕ) → z ≡ var x → x < nv → inUse nv js Γ′ x ≡ true
+        unfolding Holder Γ′
+        known-used (by-name {x = y} e) x q lt = let z : y ≡ x = cc in H₀ x lt (rw (← z) e)
+        known-used by-flight x q lt = absurd (var≢flight (sym q))
+        known-used (by-holder {y = y} Q k kn K) x q lt = go (λ z f b. known-used kn z f b) (holder₁ y Q k K)
+          where
+            is : k .root ≡ x
+            is = cc
+
+            go : ((z : ℕ) → y ≡ var z → z < nv → inUse nv js Γ′ z ≡ true)
+                → ((y ≡ var (F .c)) × (borrowed (U .borrow) ≡ some k)) ⊎ ((x : ℕ) × (y ≡ var x) × (x ≢ F .c) × (Q : Gh.Variable) × (Holds (I .Θ) (var x) Q k))
+                → inUse nv js Γ′ x ≡ true
+            go ih (inl h) = subst (λ (z : ℕ). inUse nv js Γ′ z ≡ true) is (in-use-held nv js Γ′ (F .c) (k .root) (I .typed .bound (F .c) (written .2) (written .3)) (rw is lt) (taken k (h .1)) (D₀ .1))
+            go ih (inr h) = subst (λ (z : ℕ). inUse nv js Γ′ z ≡ true) is (other-held (h .0) (h .3) k (h .4) (h .2) (ih (h .0) (h .1) (I .typed .bound (h .0) (h .3) (h .4 .is))))
+
+        others : (y : ℕ) → y ≢ F .c → covers (Known ns Θ₁ (var y)) (Θ₀ (var y)) (Γ y)
+        unfolding Θ₀
+        others y n = without-covers (I .Θ) (Unused nv js Γ′ B) (unused-dec nv js Γ′ B bDec) (var y) (Γ y) (I .vars y)
+            (λ h q e k. true≢false (sym (known-used k y refl (I .typed .bound y q e)) ∙ h)) known₁
 
     -- The run leaves N in the variable written; the judge has M there, and adds the places of the value wherever else it may land.
-    concluded : (N : Variable) → Progress nv Γ (update Γ (F .c) (live N)) none lv (runAssign s i p v) → (M : Variable)
+    concluded : (N : Variable) → Progress nv ns Γ (update Γ (F .c) (live N)) none lv (runAssign s i p v) → (M : Variable)
         → write Γ (l .to) (t .borrow) (F .c) ≡ live M → Wide N M
-        → Progress nv Γ (write Γ (l .to) (t .borrow)) none lv (runAssign s i p v)
+        → Progress nv ns Γ (write Γ (l .to) (t .borrow)) none lv (runAssign s i p v)
     concluded N R M e w = widened R (write-wider Γ (l .to) (t .borrow) (F .c) (F .d) (F .among) N M e w) (value-same none lv)
         (λ x h. other-used Γ (l .to) (t .borrow) (F .c) (F .d) (F .among) x (λ z. used≢live (sym h ∙ ap Γ z ∙ written .1)) h)
 
+    -- Of the variables, only the one written holds the named root.
+    other-unheld : (B : Type 0) (bDec : Dec B) (y : ℕ) (q : Gh.Variable) (k : Place) → Holds (Θ₀ B bDec) (var y) q k → var y ≢ var (F .c) → k .root ≢ p .root
+    unfolding Γ′
+    other-unheld B bDec y q k K n e =
+        let h = other-holds y q k (back B bDec (var y) q k K) (λ z. n (ap var z)) in
+        write-allowed nv js Γ′ (p .root) y (h .0) k bar (h .1) (used-still B bDec y q k K) (h .2) (h .3) (h .4) e
+
     -- The variable written then holds what the value borrows: the only one that may be written, or one of several that is whole.
     in-place : (M : Variable) → write Γ (l .to) (t .borrow) (F .c) ≡ live M → Wide (fresh (written .0 .chain) (t .borrow) (written .0 .level)) M
-        → leadingBoxes (M .chain) < M .movedFrom → Progress nv Γ (write Γ (l .to) (t .borrow)) none lv (runAssign s i p v)
+        → leadingBoxes (M .chain) < M .movedFrom → Progress nv ns Γ (write Γ (l .to) (t .borrow)) none lv (runAssign s i p v)
+    unfolding Γ′ W′ Θ₁
     in-place M e w g =
         concluded (fresh (written .0 .chain) (t .borrow) (written .0 .level))
-        (assigning I i p l F (written .0) (written .1) (written .2) (written .3) (written .4) unshared links (I .Θ) (I .typed) (λ z n. refl) q (flying I .1) (flying I .2 .chain) (flying-whole I)
-        (λ k R h f. level-allowed k R (borrow-among (flying-borrow I) k h) f) unheld
-        (fresh (written .0 .chain) (t .borrow) (written .0 .level)) refl refl (covered-fresh (written .4 .chain) (written .4 .level) (flying-borrow I)) (content-flying .0) (content-flying .1))
+        (assigning I i p l F (written .0) (written .1) (written .2) (written .3) (written .4) unshared links (Θ₀ ⊥ nothing) (T₀ ⊥ nothing) (D₀ ⊥ nothing .0)
+        (used-same ⊥ nothing (p .root) root-used ∙ F .isX) (used-same ⊥ nothing (F .c) (D₀ ⊥ nothing .1) ∙ written .3) (idle₀ ⊥ nothing) q eU (flying I .2 .chain) (flying-whole I)
+        (λ k R h f. level-allowed k R (borrow-among (flying-borrow I) k h) (sym (used-same ⊥ nothing (k .root) (in-use-held nv js Γ′ (F .c) (k .root) (I .typed .bound (F .c) (written .2) (written .3)) (T₀ ⊥ nothing .bound (k .root) R f) (taken k h) (D₀ ⊥ nothing .1))) ∙ f)) unheld
+        (fresh (written .0 .chain) (t .borrow) (written .0 .level)) refl refl (covered-fresh (written .4 .chain) (written .4 .level) (flying-borrow I))
+        (others ⊥ nothing q eU (λ k h. h) taken) (content-flying .0) (content-flying .1))
         M e w
       where
+        nothing : Dec ⊥
+        nothing = no (λ h. h)
+
         q : Gh.Variable
         q = flying I .0
+
+        eU : Θ₀ ⊥ nothing inFlight ≡ Gh.live q
+        eU = same ⊥ nothing inFlight (λ h. h) ∙ flying I .1
 
         fits : Fits (M .chain) (q .borrow)
         fits =
@@ -109,83 +248,95 @@ module _ {nv : ℕ} {Γ : Environment} {t : Ty} {lv : ℕ} {s : State} {v : Valu
             subst (λ (k : List Link). Fits k (q .borrow)) (written .4 .chain ∙ w .chain)
             (fits-up (F .d) (W .chain) (q .borrow) (written .5) (subst (λ (k : List Link). Fits k (q .borrow)) (sym z) (I .typed .at inFlight q (flying I .1) .fits)))
 
-        unheld : (h : Name) (g : Gh.Variable) (k : Place) → Holds (I .Θ) h g k → h ≢ var (F .c) → k .root ≢ p .root
+        among : (k : Place) → borrowed (q .borrow) ≡ some k → Among k (places (M .borrow))
+        among k h = borrow-among (w .borrow (q .borrow) fits (flying-borrow I)) k h
+
+        taken : (k : Place) → borrowed (q .borrow) ≡ some k → heldBy borrowsAny (Γ′ (F .c)) (k .root) ≡ true
+        taken k h = is-held Γ′ (F .c) M k e g (among k h)
+
+        unheld : (h : Name) (m : Gh.Variable) (k : Place) → Holds (Θ₀ ⊥ nothing) h m k → h ≢ var (F .c) → k .root ≢ p .root
         unheld inFlight m k K n j =
-            let z : q ≡ m = (let a = flying I .1 in let b = K .is in cc) in
-            write-allowed nv (write Γ (l .to) (t .borrow)) (p .root) (F .c) M k bar (I .typed .bound (F .c) (written .2) (written .3)) e g (borrow-among (w .borrow (q .borrow) fits (flying-borrow I)) k (ap (λ (y : Gh.Variable). borrowed (y .borrow)) z ∙ K .at)) j
-        unheld inDrop g k K n j = vacant≢live (sym (I .idle) ∙ K .is)
-        unheld (var y) g k K n j = other-unheld y g k K n j
+            let z : q ≡ m = (let a = eU in let b = K .is in cc) in
+            write-allowed nv js Γ′ (p .root) (F .c) M k bar (I .typed .bound (F .c) (written .2) (written .3)) (D₀ ⊥ nothing .1) e g (among k (ap (λ (y : Gh.Variable). borrowed (y .borrow)) z ∙ K .at)) j
+        unheld inDrop m k K n j = vacant≢live (sym (idle₀ ⊥ nothing) ∙ K .is)
+        unheld (var y) m k K n j = other-unheld ⊥ nothing y m k K n j
 
     -- One of several that stays counted as moved away, and so holds nothing for the judge: the value forgets what it borrows.
     forgotten : write Γ (l .to) (t .borrow) (F .c) ≡ live (wider (written .0) (t .borrow)) → written .0 .movedFrom ≤ leadingBoxes (written .0 .chain)
-        → Progress nv Γ (write Γ (l .to) (t .borrow)) none lv (runAssign s i p v)
+        → Progress nv ns Γ (write Γ (l .to) (t .borrow)) none lv (runAssign s i p v)
+    unfolding W′ Θ₁ Θ₀
     forgotten e g =
         concluded (written .0)
-        (assigning I i p l F (written .0) (written .1) (written .2) (written .3) (written .4) unshared links Θ₀ T₀ (λ z n. upd-other (I .Θ) inFlight (Gh.live (faded q)) z n) (faded q) (upd-same (I .Θ) inFlight (Gh.live (faded q))) (flying I .2 .chain) (flying-whole I)
+        (assigning I i p l F (written .0) (written .1) (written .2) (written .3) (written .4) unshared links (Θ₀ (Unit {0}) it) (T₀ (Unit {0}) it) (D₀ (Unit {0}) it .0)
+        (used-same (Unit {0}) it (p .root) root-used ∙ F .isX) (used-same (Unit {0}) it (F .c) (D₀ (Unit {0}) it .1) ∙ written .3) (idle₀ (Unit {0}) it) (faded q) eU (flying I .2 .chain) (flying-whole I)
         (λ k R h f. absurd (fade-none (q .borrow) k h)) unheld (written .0) refl refl
         (record {
           chain = written .4 .chain;
           level = written .4 .level;
           less = (let z : boxes (written .2) ≡ leadingBoxes (written .0 .chain) = ap leadingBoxes (written .4 .chain) in omega arith);
           cap = omega arith;
-          inside = λ h. absurd (omega arith);
-          outside = λ h k f. absurd (fade-none (q .borrow) k f);
-        }) (content-flying .0) (content-flying .1))
+          inside = λ k h. absurd (omega arith);
+          holds = λ k f. absurd (fade-none (q .borrow) k f);
+        })
+        (others (Unit {0}) it (faded q) eU (λ k h. absurd (fade-none (q .borrow) k h)) (λ k h. absurd (fade-none (q .borrow) k h))) (content-flying .0) (content-flying .1))
         (wider (written .0) (t .borrow)) e (wide-old (written .0) (t .borrow))
       where
+        it : Dec (Unit {0})
+        it = yes tt
+
         q : Gh.Variable
         q = flying I .0
 
-        Θ₀ : Name → Gh.Slot
-        Θ₀ = upd (I .Θ) inFlight (Gh.live (faded q))
+        eU : Θ₀ (Unit {0}) it inFlight ≡ Gh.live (faded q)
+        eU = without-on (I .Θ) (Unused nv js Γ′ (Unit {0})) (unused-dec nv js Γ′ (Unit {0}) it) inFlight q tt (flying I .1)
 
-        T₀ : Typed nv nobody Θ₀ (I .H) (I .ρ) (I .rank)
-        T₀ = fading (I .typed) (λ z. z ≡ inFlight) (λ z. nameDec z inFlight) Θ₀ (λ z n. upd-other (I .Θ) inFlight (Gh.live (faded q)) z n)
-            (λ z g h f. let a : Gh.live (faded q) ≡ Gh.live g = sym (upd-same (I .Θ) inFlight (Gh.live (faded q))) ∙ ap Θ₀ (sym h) ∙ f in (q, ap (I .Θ) h ∙ flying I .1, (cc)))
-            (λ z g h f. let a : q ≡ g = (let b : I .Θ inFlight ≡ Gh.live g = ap (I .Θ) (sym h) ∙ f in let d = flying I .1 in cc) in ap Θ₀ h ∙ upd-same (I .Θ) inFlight (Gh.live (faded q)) ∙ ap (λ (y : Gh.Variable). Gh.live (faded y)) a)
-
-        unheld : (h : Name) (g : Gh.Variable) (k : Place) → Holds Θ₀ h g k → h ≢ var (F .c) → k .root ≢ p .root
-        unheld inFlight g k K n j =
-            let z : faded q ≡ g = (let a : Gh.live (faded q) ≡ Gh.live g = sym (upd-same (I .Θ) inFlight (Gh.live (faded q))) ∙ K .is in cc) in
+        unheld : (h : Name) (m : Gh.Variable) (k : Place) → Holds (Θ₀ (Unit {0}) it) h m k → h ≢ var (F .c) → k .root ≢ p .root
+        unheld inFlight m k K n j =
+            let z : faded q ≡ m = (let a = eU in let b = K .is in cc) in
             fade-none (q .borrow) k (ap (λ (y : Gh.Variable). borrowed (y .borrow)) z ∙ K .at)
-        unheld inDrop g k K n j = vacant≢live (sym (upd-other (I .Θ) inFlight (Gh.live (faded q)) inDrop drop≢flight ∙ I .idle) ∙ K .is)
-        unheld (var y) g k K n j = other-unheld y g k (record { is = sym (upd-other (I .Θ) inFlight (Gh.live (faded q)) (var y) var≢flight) ∙ K .is; whole = K .whole; at = K .at }) n j
+        unheld inDrop m k K n j = vacant≢live (sym (idle₀ (Unit {0}) it) ∙ K .is)
+        unheld (var y) m k K n j = other-unheld (Unit {0}) it y m k K n j
 
-    judged-assign : Progress nv Γ (write Γ (l .to) (t .borrow)) none lv (runAssign s i p v)
+    judged-assign : Progress nv ns Γ (write Γ (l .to) (t .borrow)) none lv (runAssign s i p v)
     judged-assign = go (write-here Γ (l .to) (t .borrow) (F .c) (F .d) (F .among) (written .0) (written .1)) (decLt (leadingBoxes (written .0 .chain)) (written .0 .movedFrom))
       where
         go : (write Γ (l .to) (t .borrow) (F .c) ≡ live (fresh (written .0 .chain) (t .borrow) (written .0 .level))) ⊎ (write Γ (l .to) (t .borrow) (F .c) ≡ live (wider (written .0) (t .borrow)))
-            → Dec (leadingBoxes (written .0 .chain) < written .0 .movedFrom) → Progress nv Γ (write Γ (l .to) (t .borrow)) none lv (runAssign s i p v)
+            → Dec (leadingBoxes (written .0 .chain) < written .0 .movedFrom) → Progress nv ns Γ (write Γ (l .to) (t .borrow)) none lv (runAssign s i p v)
         go (inl e) d = in-place (fresh (written .0 .chain) (t .borrow) (written .0 .level)) e (wide-same _) (omega arith)
         go (inr e) (yes g) = in-place (wider (written .0) (t .borrow)) e (wide-new (written .0) (t .borrow) (written .4 .cap)) g
         go (inr e) (no g) = forgotten e (omega arith)
 
-  conclude : (i : ℕ) (p : Place) (out : Out) (l : Located) (u : Ty) → judgePlace nv Γ i p ≡ ok l → u ≡ t
+  conclude : (i : ℕ) (p : Place) (out : Out) (l : Located) (u : Ty) → namedLater ns (p .root) ≡ true → namedLater js (p .root) ≡ true → Used nv js ns (out .0) → judgePlace nv Γ i p ≡ ok l → u ≡ t
       → noShared (take (p .follows) (l .root .chain)) ≡ true → drop (p .follows) (l .root .chain) ≡ u .links
       → every (λ (q : Place). livesAt Γ (u .borrow) (levelOf (Γ (q .root)))) (l .to) ≡ true
-      → writeBarred nv (write Γ (l .to) (u .borrow)) (p .root) ≡ false
+      → writeBarred nv js (write Γ (l .to) (u .borrow)) (p .root) ≡ false
       → _≡_ {A = Result Refusal Out} (ok (write Γ (l .to) (u .borrow), none)) (ok out)
-      → Progress nv Γ (out .0) (out .1) lv (runAssign s i p v)
-  conclude i p out l u e z unshared li lvl bar q =
-      let R = judged-assign i p l (judged-found I i i p l e) unshared (rw z at li) (rw z at lvl) (rw z at bar) in
+      → Progress nv ns Γ (out .0) (out .1) lv (runAssign s i p v)
+  conclude i p out l u nm nj H₀ e z unshared li lvl bar q =
+      let R = judged-assign i p l (judged-found I i i p l nm e) nj (subst (λ (E : Environment). Used nv js ns E) (sym (ap (λ (k : Out). k .0) (let y : (write Γ (l .to) (t .borrow), none) ≡ out = (let q′ = rw z at q in cc) in y))) H₀) unshared (rw z at li) (rw z at lvl) (rw z at bar) in
       let y : (write Γ (l .to) (t .borrow), none) ≡ out = (let q′ = rw z at q in cc) in
-      subst (λ (k : Out). Progress nv Γ (k .0) (k .1) lv (runAssign s i p v)) y R
+      subst (λ (k : Out). Progress nv ns Γ (k .0) (k .1) lv (runAssign s i p v)) y R
 
-  case-assign : (i : ℕ) (p : Place) (out : Out) → judgeAssign nv Γ i p (some t) ≡ ok out → Progress nv Γ (out .0) (out .1) lv (runAssign s i p v)
-  unfolding judgeAssign
-  case-assign i p out h =
-      let a = then (valued (some t) (41, i)) _ out h in
+  case-assign : (i : ℕ) (p : Place) (out : Out) → namedLater ns (p .root) ≡ true → namedLater js (p .root) ≡ true → Used nv js ns (out .0) → judgeAssign nv js Γ i p (some t) ≡ ok out
+      → Progress nv ns Γ (out .0) (out .1) lv (runAssign s i p v)
+  unfolding judgeAssign judgeWrite
+  case-assign i p out nm nj H₀ h =
+      let w = then (judgeWrite nv Γ i p (some t)) _ out h in
+      let f = then (need (not (writeBarred nv js (w .0 .0) (p .root))) (35, i)) _ out (w .2) in
+      let a = then (valued (some t) (41, i)) _ (w .0) (w .1) in
       let tz : a .0 ≡ t = let k = was-valued _ _ _ (a .1) in cc in
-      let b = then (judgePlace nv Γ i p) _ out (a .2) in
-      let c = then (need (noShared (take (p .follows) (b .0 .root .chain))) (36, i)) _ out (b .2) in
-      let d = then (need (sameLinks (drop (p .follows) (b .0 .root .chain)) (a .0 .links)) (39, i)) _ out (c .2) in
-      let e = then (need (every (λ (q : Place). livesAt Γ (a .0 .borrow) (levelOf (Γ (q .root)))) (b .0 .to)) (40, i)) _ out (d .2) in
-      let f = then (need (not (writeBarred nv (write Γ (b .0 .to) (a .0 .borrow)) (p .root))) (35, i)) _ out (e .2) in
-      conclude i p out (b .0) (a .0) (b .1) tz (needed _ _ _ (c .1)) (same-links _ _ (needed _ _ _ (d .1))) (needed _ _ _ (e .1)) (not-true _ (needed _ _ _ (f .1))) (f .2)
+      let b = then (judgePlace nv Γ i p) _ (w .0) (a .2) in
+      let c = then (need (noShared (take (p .follows) (b .0 .root .chain))) (36, i)) _ (w .0) (b .2) in
+      let d = then (need (sameLinks (drop (p .follows) (b .0 .root .chain)) (a .0 .links)) (39, i)) _ (w .0) (c .2) in
+      let e = then (need (every (λ (q : Place). livesAt Γ (a .0 .borrow) (levelOf (Γ (q .root)))) (b .0 .to)) (40, i)) _ (w .0) (d .2) in
+      let z : (write Γ (b .0 .to) (a .0 .borrow), none) ≡ w .0 = let k = e .2 in cc in
+      conclude i p out (b .0) (a .0) nm nj H₀ (b .1) tz (needed _ _ _ (c .1)) (same-links _ _ (needed _ _ _ (d .1))) (needed _ _ _ (e .1))
+      (subst (λ (k : Out). writeBarred nv js (k .0) (p .root) ≡ false) (sym z) (not-true _ (needed _ _ _ (f .1)))) (e .2 ∙ f .2)
 
-module _ {nv : ℕ} {Γ : Environment} {lv : ℕ} {s : State} {v : Value} where
-  pub after-assign : (o : Option Ty) → Invariant nv Γ o lv s v → (i : ℕ) (p : Place) (out : Out) → judgeAssign nv Γ i p o ≡ ok out
-      → Progress nv Γ (out .0) (out .1) lv (runAssign s i p v)
-  unfolding judgeAssign valued _>>=_
-  after-assign none I i p out h = absurd (err≢ok h)
-  after-assign (some t) I i p out h = case-assign I i p out h
+module _ {nv : ℕ} {ns : Unfinished} {Γ : Environment} {lv : ℕ} {s : State} {v : Value} where
+  pub after-assign : (js : Unfinished) (o : Option Ty) → Invariant nv ns Γ o lv s v → (i : ℕ) (p : Place) (out : Out) → namedLater ns (p .root) ≡ true
+      → namedLater js (p .root) ≡ true → Used nv js ns (out .0)
+      → judgeAssign nv js Γ i p o ≡ ok out → Progress nv ns Γ (out .0) (out .1) lv (runAssign s i p v)
+  unfolding judgeAssign judgeWrite valued _>>=_
+  after-assign js none I i p out nm nj H₀ h = absurd (err≢ok h)
+  after-assign js (some t) I i p out nm nj H₀ h = case-assign js I i p out nm nj H₀ h

@@ -11,6 +11,7 @@ use Rattle.reader.specs.Result.{ok, _>>=_}
 use Rattle.reader.specs.Script.{Place}
 use Rattle.rules.specs.Links.{Link, leadingBoxes, noShared}
 use Rattle.rules.specs.Environment.{Variable, used, live, Environment, Ty, update}
+use Rattle.rules.specs.Uses.{Unfinished}
 use Rattle.rules.specs.Rules.{Located}
 use Rattle.rules.proofs.Slots.{used≢live}
 use Rattle.rules.proofs.LinkChains.{boxes-drop}
@@ -28,32 +29,40 @@ use Rattle.safety.proofs.Naming.{open-name, close-name}
 use Rattle.safety.proofs.Dropping.{Gone, dropped}
 use Rattle.safety.proofs.Ghost.{vacant}
 use Rattle.safety.proofs.Ghost as Gh
-use Rattle.safety.proofs.Typing.{borrowed, boxes, Reach, Holds, Typed, avoid}
+use Rattle.safety.proofs.Typing.{borrowed, boxes, Reach, Holds, Typed}
 use Rattle.safety.proofs.Paths.{end-live, has-row}
 use Rattle.safety.proofs.OnPath.{agreed}
 use Rattle.safety.proofs.Writing.{written}
-use Rattle.safety.proofs.Covering.{Covered, vacant≢live, vac-covers}
+use Rattle.safety.proofs.Known.{Known}
+use Rattle.safety.proofs.Covering.{Covered, covers, vacant≢live, vac-covers, covers-less}
 use Rattle.safety.proofs.Invariant.{nobody, Invariant, drop-noRow}
 use Rattle.safety.proofs.Finding.{Found}
 use Rattle.safety.proofs.Progress.{Progress}
 use Rattle.safety.proofs.OneChanged.{levels-update, deep-update, scope-update, stay-update, lives-update, vars-update}
+
+-- The proof's environment with the value in flight written to w.
+abbrev pub assigned : (Name → Gh.Slot) → Name → Gh.Variable → Name → Gh.Slot
+assigned Θ w W = upd (upd Θ w (Gh.live W)) inFlight vacant
 
 run-assign : (s : State) (i : ℕ) (p : Place) (v u : Value) (loc : Location) (A : Store) → locate s i p ≡ ok loc → s .store loc ≡ openWith u
     → dropValue i s u ≡ ok (withStore s A) → A loc ≡ openWith u → runAssign s i p v ≡ ok (withStore s (put A loc (openWith v)), empty)
 unfolding runAssign isOpen _>>=_
 run-assign s i p v u loc A e h d k = rw (e, h, d, k) refl
 
-module _ {nv : ℕ} {Γ : Environment} {t : Ty} {lv : ℕ} {s : State} {v : Value} (I : Invariant nv Γ (some t) lv s v) where
-  module _ (i : ℕ) (p : Place) (l : Located) (F : Found I p l i) (V₀ : Variable) (eV : Γ (F .c) ≡ live V₀) (W : Gh.Variable) (eW : I .Θ (var (F .c)) ≡ Gh.live W) (cW : Covered W V₀)
+module _ {nv : ℕ} {ns : Unfinished} {Γ : Environment} {t : Ty} {lv : ℕ} {s : State} {v : Value} (I : Invariant nv ns Γ (some t) lv s v) where
+  module _ (i : ℕ) (p : Place) (l : Located) (F : Found I p l i) (V₀ : Variable) (eV : Γ (F .c) ≡ live V₀) (W : Gh.Variable) (eW : I .Θ (var (F .c)) ≡ Gh.live W) (cW : Covered (Known ns (I .Θ) (var (F .c))) W V₀)
       (unshared : noShared (take (p .follows) (l .root .chain)) ≡ true) (links : drop (p .follows) (l .root .chain) ≡ t .links)
-      -- The proof's environment, in which the value in flight may have been forgotten.
-      (Θ₀ : Name → Gh.Slot) (T₀ : Typed nv nobody Θ₀ (I .H) (I .ρ) (I .rank)) (sameΘ : (z : Name) → z ≢ inFlight → Θ₀ z ≡ I .Θ z)
+      -- The proof's environment, in which names may have forgotten what they borrow that are not on the path.
+      (Θ₀ : Name → Gh.Slot) (T₀ : Typed nv nobody Θ₀ (I .H) (I .ρ) (I .rank)) (D : Reach Θ₀ (var (F .c)) (F .d) (var (p .root)) (p .follows))
+      (eX₀ : Θ₀ (var (p .root)) ≡ Gh.live (F .X)) (eW₀ : Θ₀ (var (F .c)) ≡ Gh.live W) (idle₀ : Θ₀ inDrop ≡ vacant)
       (U : Gh.Variable) (eU : Θ₀ inFlight ≡ Gh.live U) (cU : U .chain ≡ t .links) (wU : boxes U < U .movedFrom)
-      (lvl : (k : Place) (R : Gh.Variable) → borrowed (U .borrow) ≡ some k → I .Θ (var (k .root)) ≡ Gh.live R → R .level ≤ V₀ .level)
+      (lvl : (k : Place) (R : Gh.Variable) → borrowed (U .borrow) ≡ some k → Θ₀ (var (k .root)) ≡ Gh.live R → R .level ≤ V₀ .level)
       (unheld : (h : Name) (q : Gh.Variable) (k : Place) → Holds Θ₀ h q k → h ≢ var (F .c) → k .root ≢ p .root)
-      (N : Variable) (cN : N .chain ≡ V₀ .chain) (lN : N .level ≡ V₀ .level) (cov : Covered (Gh.fresh (W .chain) (U .borrow) (W .level)) N)
+      (N : Variable) (cN : N .chain ≡ V₀ .chain) (lN : N .level ≡ V₀ .level)
+      (cov : Covered (Known ns (assigned Θ₀ (var (F .c)) (Gh.fresh (W .chain) (U .borrow) (W .level))) (var (F .c))) (Gh.fresh (W .chain) (U .borrow) (W .level)) N)
+      (others : (y : ℕ) → y ≢ F .c → covers (Known ns (assigned Θ₀ (var (F .c)) (Gh.fresh (W .chain) (U .borrow) (W .level))) (var y)) (Θ₀ (var y)) (Γ y))
       (u₀ : Value) (Ht : I .H inFlight ≡ has (leadingBoxes (t .links)) u₀) where
-    pub assigning : Progress nv Γ (update Γ (F .c) (live N)) none lv (runAssign s i p v)
+    pub assigning : Progress nv ns Γ (update Γ (F .c) (live N)) none lv (runAssign s i p v)
     assigning =
         record {
           s = withStore s (put (G .A′) loc (openWith v));
@@ -67,9 +76,9 @@ module _ {nv : ℕ} {Γ : Environment} {t : Ty} {lv : ℕ} {s : State} {v : Valu
             mem = m₅;
             typed = T .1;
             nothing = λ e. refl;
-            vars = vars-update I w₀ V₀ N eV lN cN Θ₁ W′ Θ₁w cov (λ y n. Θ₁z (var y) (λ e. n (cc)) var≢flight ∙ sameΘ (var y) var≢flight);
+            vars = vars-update I w₀ V₀ N eV lN cN Θ₁ W′ Θ₁w cov (λ y n. covers-less (Θ₁ (var y)) (Θ₀ (var y)) (Γ y) (λ k. k) (Θ₁z (var y) (λ e. n (cc)) var≢flight) (others y n));
             flight = vac-covers (Θ₁ inFlight) used (upd-same (upd Θ₀ w (Gh.live W′)) inFlight vacant) (λ v e. used≢live e);
-            idle = Θ₁z inDrop (λ e. wo (sym e)) drop≢flight ∙ sameΘ inDrop drop≢flight ∙ I .idle;
+            idle = Θ₁z inDrop (λ e. wo (sym e)) drop≢flight ∙ idle₀;
             deep = deep-update I w₀ V₀ N eV lN cN;
             scope = scope-update I w₀ V₀ N eV lN cN;
           };
@@ -95,9 +104,6 @@ module _ {nv : ℕ} {Γ : Environment} {t : Ty} {lv : ℕ} {s : State} {v : Valu
 
         W′ : Gh.Variable
         W′ = Gh.fresh (W .chain) (U .borrow) (W .level)
-
-        D : Reach Θ₀ w d (var (p .root)) (p .follows)
-        D = avoid (I .Θ) Θ₀ (λ z. z ≡ inFlight) sameΘ (λ x Q p K h e. var≢flight e) (F .reach) var≢flight .0
 
         EL : (d ≤ boxes W) × (d ≤ W .movedFrom)
         EL = let e = end-live (F .reach) in let z : e .0 ≡ W = let k = e .1 in let j = eW in cc in (rw z at (e .2), rw z at (e .3))
@@ -217,7 +223,7 @@ module _ {nv : ℕ} {Γ : Environment} {t : Ty} {lv : ℕ} {s : State} {v : Valu
 
         -- And so on the typing layer.
         Θ₁ : Name → Gh.Slot
-        Θ₁ = upd (upd Θ₀ w (Gh.live W′)) inFlight vacant
+        Θ₁ = assigned Θ₀ w W′
 
         Θ₁w : Θ₁ w ≡ Gh.live W′
         Θ₁w = upd-other (upd Θ₀ w (Gh.live W′)) inFlight vacant w wt ∙ upd-same Θ₀ w (Gh.live W′)
@@ -234,8 +240,8 @@ module _ {nv : ℕ} {Γ : Environment} {t : Ty} {lv : ℕ} {s : State} {v : Valu
             ∙ boxes-drop d (W .chain) (EL .0)
 
         T : (rank : Name → ℕ) × Typed nv nobody Θ₁ H₅ ρ₅ rank
-        T = written T₀ (p .root) (p .follows) w d (F .X) W U D (sameΘ (var (p .root)) var≢flight ∙ F .isX) (sameΘ w wt ∙ eW) eU wU (rw (F .covX .chain) unshared) links′ (EL .0)
-            (λ k R e f. subst (λ (y : ℕ). R .level ≤ y) (sym (cW .level)) (lvl k R e (sym (sameΘ (var (k .root)) var≢flight) ∙ f))) unheld
+        T = written T₀ (p .root) (p .follows) w d (F .X) W U D eX₀ eW₀ eU wU (rw (F .covX .chain) unshared) links′ (EL .0)
+            (λ k R e f. subst (λ (y : ℕ). R .level ≤ y) (sym (cW .level)) (lvl k R e f)) unheld
             Θ₁ Θ₁w (λ q e. vacant≢live (sym (upd-same (upd Θ₀ w (Gh.live W′)) inFlight vacant) ∙ e)) Θ₁z
             H₅ (λ v′ h. let q : has (leadingBoxes (t .links)) u₀ ≡ has (boxes U) v′ = sym (Ht) ∙ h in let z : u₀ ≡ v′ = cc in
             upd-other H₄ inFlight noRow w wt ∙ upd-same (upd (G .H′) inFlight (has 0 empty)) w _ ∙ ap₂ has (omega (arith, sizes)) z)

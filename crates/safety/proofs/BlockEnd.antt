@@ -10,6 +10,7 @@ use mathlib.Core.List.{List}
 use Rattle.reader.specs.Result.{ok, _>>=_}
 use Rattle.reader.specs.Script.{Place}
 use Rattle.rules.specs.Environment.{Variable, Slot, free, used, live, Environment, Ty, livesAt, leaveSlot, leave}
+use Rattle.rules.specs.Uses.{Unfinished}
 use Rattle.rules.specs.Rules.{borrowIn}
 use Rattle.rules.proofs.Slots.{free≢live, used≢live, leave-live}
 use Rattle.machine.specs.Values.{Value, empty}
@@ -17,20 +18,21 @@ use Rattle.machine.specs.Store.{State, withStore}
 use Rattle.machine.specs.Drop.{closeAll}
 use Rattle.machine.specs.Run.{runBlockEnd, entered}
 use Rattle.rules.proofs.Choose.{choose, choose-yes, choose-no}
-use Rattle.safety.proofs.Memory.{Name, inFlight, inDrop, var, Spot, Content, noRow, var≢flight, drop≢flight}
+use Rattle.safety.proofs.Memory.{Name, inFlight, inDrop, var, Spot, Content, noRow, nameDec, var≢flight, drop≢flight}
 use Rattle.safety.proofs.NameMaps.{upd, upd-same, upd-other}
 use Rattle.safety.proofs.Ghost.{vacant}
 use Rattle.safety.proofs.Ghost as Gh
-use Rattle.safety.proofs.Typing.{Ref, Holds, Typed}
+use Rattle.safety.proofs.Typing.{borrowed, Ref, Holds, Typed}
 use Rattle.safety.proofs.Frames.{sweep, reworked, left}
-use Rattle.safety.proofs.Covering.{borrow-among, covers, vacant≢live, covered-back, covered-none, vac-covers, live-covers, covered-fresh}
-use Rattle.safety.proofs.Invariant.{Member, flightSlot, flightRow, nobody, Invariant, covers-same, drop-noRow, level-of}
+use Rattle.safety.proofs.Known.{Known, by-flight, by-holder, known-off}
+use Rattle.safety.proofs.Covering.{borrow-among, covers, vacant≢live, covered-back, covered-none, vac-covers, live-covers, covers-less, covered-fresh}
+use Rattle.safety.proofs.Invariant.{Member, flightSlot, flightRow, nobody, Invariant, drop-noRow, level-of}
 use Rattle.safety.proofs.InFlight.{flying, flying-whole, flying-borrow}
 use Rattle.safety.proofs.Closing.{Closed, closing}
 use Rattle.safety.proofs.Leaving.{late, late-dec, leave-same, leave-late, lateName, late-name, late-level, late-var}
 
 -- A block is entered.
-pub entering : {nv : ℕ} {Γ : Environment} {lv : ℕ} {s : State} → Invariant nv Γ none lv s empty → Invariant nv Γ none (suc lv) (entered s) empty
+pub entering : {nv : ℕ} {ns : Unfinished} {Γ : Environment} {lv : ℕ} {s : State} → Invariant nv ns Γ none lv s empty → Invariant nv ns Γ none (suc lv) (entered s) empty
 entering I = record {
   Θ = I .Θ;
   H = I .H;
@@ -52,23 +54,28 @@ unfolding runBlockEnd _>>=_
 run-end i outer s s′ v e = rw e refl
 
 -- The value in flight belongs to the block around.
-record Lowered (nv lv : ℕ) (o : Option Ty) (Θ : Name → Gh.Slot) (H : Name → Content) (ρ : Name → ℕ → Spot) (rank : Name → ℕ) : Type 0 where
+record Lowered (nv lv : ℕ) (ns : Unfinished) (o : Option Ty) (Θ : Name → Gh.Slot) (H : Name → Content) (ρ : Name → ℕ → Spot) (rank : Name → ℕ) : Type 0 where
   pub Θ₁ : Name → Gh.Slot
   pub typed : Typed nv nobody Θ₁ H ρ rank
   pub rest : (z : Name) → z ≢ inFlight → Θ₁ z ≡ Θ z
-  pub flight : covers (Θ₁ inFlight) (flightSlot o lv)
+  pub flight : covers (Unit {0}) (Θ₁ inFlight) (flightSlot o lv)
+  pub known : {z : Name} → Known ns Θ₁ z → Known ns Θ z
   pub at-lv : (q : Gh.Variable) → Θ₁ inFlight ≡ Gh.live q → q .level ≡ lv
 
-lower : {nv : ℕ} {Γ : Environment} {lv : ℕ} {s : State} {v : Value} (o : Option Ty) (I : Invariant nv Γ o (suc lv) s v)
-    → livesAt Γ (borrowIn nv o) lv ≡ true → Lowered nv lv o (I .Θ) (I .H) (I .ρ) (I .rank)
-lower none I l = record { Θ₁ = I .Θ; typed = I .typed; rest = λ z n. refl; flight = I .flight; at-lv = λ q e. absurd (vacant≢live (sym (covered-none (I .Θ inFlight) used (I .flight) (λ v k. used≢live k)) ∙ e)) }
-lower {nv} {Γ} {lv} (some t) I l = record {
+lower : {nv : ℕ} {ns : Unfinished} {Γ : Environment} {lv : ℕ} {s : State} {v : Value} (o : Option Ty) (I : Invariant nv ns Γ o (suc lv) s v)
+    → livesAt Γ (borrowIn nv o) lv ≡ true → Lowered nv lv ns o (I .Θ) (I .H) (I .ρ) (I .rank)
+lower none I l = record { Θ₁ = I .Θ; typed = I .typed; rest = λ z n. refl; flight = I .flight; known = λ k. k; at-lv = λ q e. absurd (vacant≢live (sym (covered-none (I .Θ inFlight) used (I .flight) (λ v k. used≢live k)) ∙ e)) }
+lower {nv} {ns} {Γ} {lv} (some t) I l = record {
   Θ₁ = Θ₁;
   typed = reworked (I .typed) q N (flying I .1) (flying-whole I) (omega arith) refl (I .typed .at inFlight q (flying I .1) .fits) refl
       (λ p R e f. level-of I (t .borrow) lv p R l (borrow-among (flying-borrow I) p e) f)
       Θ₁ (upd-same (I .Θ) inFlight _) (λ z n. upd-other (I .Θ) inFlight _ z n) (I .H) (λ v h. h) (λ z n. refl) (I .ρ) (λ z j n. refl);
   rest = λ z n. upd-other (I .Θ) inFlight _ z n;
   flight = live-covers (Θ₁ inFlight) (flightSlot (some t) lv) _ _ (upd-same (I .Θ) inFlight _) refl (covered-fresh (flying I .2 .chain) refl (flying-borrow I));
+  known = known-off (λ z. z ≡ inFlight) (λ z. nameDec z inFlight) (λ z n. upd-other (I .Θ) inFlight _ z n)
+      (λ z Q p h K. let e : Gh.live N ≡ Gh.live Q = sym (upd-same (I .Θ) inFlight _) ∙ ap Θ₁ (sym h) ∙ K .is in
+      let u : N ≡ Q = cc in
+      by-holder q p by-flight (record { is = flying I .1; whole = flying-whole I; at = ap (λ (y : Gh.Variable). borrowed (y .borrow)) u ∙ K .at }));
   at-lv = λ k e. let z : N ≡ k = (let a = upd-same (I .Θ) inFlight (Gh.live N) in cc) in ap (λ (y : Gh.Variable). y .level) (sym z);
 }
   where
@@ -81,9 +88,9 @@ lower {nv} {Γ} {lv} (some t) I l = record {
     Θ₁ : Name → Gh.Slot
     Θ₁ = upd (I .Θ) inFlight (Gh.live N)
 
-module _ {nv : ℕ} {Γ : Environment} {lv : ℕ} {s : State} {v : Value} (o : Option Ty) (I : Invariant nv Γ o (suc lv) s v) (lvl : livesAt Γ (borrowIn nv o) lv ≡ true)
+module _ {nv : ℕ} {ns : Unfinished} {Γ : Environment} {lv : ℕ} {s : State} {v : Value} (o : Option Ty) (I : Invariant nv ns Γ o (suc lv) s v) (lvl : livesAt Γ (borrowIn nv o) lv ≡ true)
     (outer : List ℕ) (i : ℕ) (sc : (x : ℕ) (q : Variable) → leave lv Γ x ≡ live q → (lv ≤ q .level → Member x outer) × (Member x outer → lv ≤ q .level)) where
-  lowered : Lowered nv lv o (I .Θ) (I .H) (I .ρ) (I .rank)
+  lowered : Lowered nv lv ns o (I .Θ) (I .H) (I .ρ) (I .rank)
   lowered = lower o I lvl
 
   Θ₂ : Name → Gh.Slot
@@ -132,12 +139,15 @@ module _ {nv : ℕ} {Γ : Environment} {lv : ℕ} {s : State} {v : Value} (o : O
   left-typed : Typed nv (λ z. nobody z ⊎ lateName Γ lv z) Θ₂ (I .H) (I .ρ) (I .rank)
   left-typed = left (lowered .typed) (lateName Γ lv) (late-name Γ lv) Θ₂ same dead shut
 
-  vars′ : (x : ℕ) → covers (Θ₂ (var x)) (leaveSlot lv (Γ x))
+  known : {z : Name} → Known ns Θ₂ z → Known ns (I .Θ) z
+  known k = lowered .known (known-off (lateName Γ lv) (late-name Γ lv) same (λ z Q p h K. absurd (dead z h Q (K .is))) k)
+
+  vars′ : (x : ℕ) → covers (Known ns Θ₂ (var x)) (Θ₂ (var x)) (leaveSlot lv (Γ x))
   vars′ x = go (late-dec lv (Γ x))
     where
-      go : Dec (late lv (Γ x)) → covers (Θ₂ (var x)) (leaveSlot lv (Γ x))
+      go : Dec (late lv (Γ x)) → covers (Known ns Θ₂ (var x)) (Θ₂ (var x)) (leaveSlot lv (Γ x))
       go (yes h) = vac-covers (Θ₂ (var x)) (leaveSlot lv (Γ x)) (vacated (var x) h) (λ v e. used≢live (sym (leave-late lv (Γ x) h) ∙ e))
-      go (no h) = subst (λ (sl : Slot). covers (Θ₂ (var x)) sl) (sym (leave-same lv (Γ x) h)) (covers-same (Θ₂ (var x)) (I .Θ (var x)) (Γ x) (same (var x) h ∙ lowered .rest (var x) var≢flight) (I .vars x))
+      go (no h) = subst (λ (sl : Slot). covers (Known ns Θ₂ (var x)) (Θ₂ (var x)) sl) (sym (leave-same lv (Γ x) h)) (covers-less (Θ₂ (var x)) (I .Θ (var x)) (Γ x) known (same (var x) h ∙ lowered .rest (var x) var≢flight) (I .vars x))
 
   opened-dead : (x : ℕ) → Member x (s .opened) → (q : Gh.Variable) → Θ₂ (var x) ≢ Gh.live q
   opened-dead x h q e =
@@ -158,7 +168,7 @@ module _ {nv : ℕ} {Γ : Environment} {lv : ℕ} {s : State} {v : Value} (o : O
   typed′ = sweep (ends .typed) (lateName Γ lv) (late-name Γ lv) Θ₂ (λ z n. refl) dead dead nobody (ends .H′) (ends .ρ′)
       (λ z n. refl) (λ z j n. refl) (λ z n g k. elim k [ inl a ↦ a | inr b ↦ n b ]) late-out
 
-  pub block-ends : (s′ : State) × (runBlockEnd i outer (s, v) ≡ ok (s′, v)) × (Invariant nv (leave lv Γ) o lv s′ v)
+  pub block-ends : (s′ : State) × (runBlockEnd i outer (s, v) ≡ ok (s′, v)) × (Invariant nv ns (leave lv Γ) o lv s′ v)
   unfolding leave
   block-ends = (
     record { store = ends .A; taken = s .taken; opened = outer },
@@ -172,7 +182,7 @@ module _ {nv : ℕ} {Γ : Environment} {lv : ℕ} {s : State} {v : Value} (o : O
       typed = typed′;
       nothing = I .nothing;
       vars = vars′;
-      flight = covers-same (Θ₂ inFlight) (lowered .Θ₁ inFlight) (flightSlot o lv) (same inFlight (λ h. h)) (lowered .flight);
+      flight = covers-less (Θ₂ inFlight) (lowered .Θ₁ inFlight) (flightSlot o lv) (λ u. u) (same inFlight (λ h. h)) (lowered .flight);
       idle = drop-vacant;
       deep = λ x q e. leave-live lv (Γ x) q e .1;
       scope = sc;

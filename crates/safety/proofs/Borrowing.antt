@@ -12,6 +12,7 @@ use Rattle.reader.specs.Result.{ok, _>>=_, need}
 use Rattle.reader.specs.Script.{Place}
 use Rattle.rules.specs.Links.{Link, shared, exclusive, leadingBoxes, noShared, lastShared}
 use Rattle.rules.specs.Environment.{Borrow, sharedOf, exclusiveOf, Variable, live, Environment, Ty, borrowsAt}
+use Rattle.rules.specs.Uses.{Unfinished, namedLater}
 use Rattle.rules.specs.Follow.{past, valueWhole}
 use Rattle.rules.specs.Bars.{readBarred, writeBarred}
 use Rattle.rules.specs.Neat.{place}
@@ -28,18 +29,20 @@ use Rattle.safety.proofs.Ghost as Gh
 use Rattle.safety.proofs.Typing.{borrowed, isExclusive, Fits, boxes, Reach, Ref, Holds, avoid-back}
 use Rattle.rules.proofs.LinkChains.{drop-add, last-at}
 use Rattle.safety.proofs.Paths.{unique}
+use Rattle.safety.proofs.Known.{Known, by-name}
 use Rattle.safety.proofs.Certificates.{Whole, root-whole}
 use Rattle.rules.proofs.SetLaws.{past-in}
 use Rattle.safety.proofs.Covering.{BorrowIn, in-shared, in-exclusive, borrow-among, borrow-exclusive, covered-whole}
 use Rattle.safety.proofs.Inversion.{write-allowed, read-allowed, readable-ok}
-use Rattle.safety.proofs.Invariant.{Invariant, deep-ghost, holder}
+use Rattle.safety.proofs.Invariant.{Invariant, deep-ghost}
+use Rattle.safety.proofs.Settling.{Settled, in-use-holder}
 use Rattle.safety.proofs.Finding.{Found}
 use Rattle.safety.proofs.Following.{judged-found, is-whole}
 use Rattle.safety.proofs.Lending.{beyond, Lender, lender}
 use Rattle.safety.proofs.Progress.{Progress, unchanged}
 use Rattle.safety.proofs.NewValue.{new-value}
 
-module _ {nv : ℕ} {Γ : Environment} {lv : ℕ} {s : State} (I : Invariant nv Γ none lv s empty) where
+module _ {nv : ℕ} {ns : Unfinished} {Γ : Environment} {lv : ℕ} {s : State} (I : Invariant nv ns Γ none lv s empty) where
   run-borrow : (i : ℕ) (p : Place) (loc : Location) → locate s i p ≡ ok loc → runBorrow s i p ≡ ok (s, reference loc)
   unfolding runBorrow _>>=_
   run-borrow i p loc e = rw e refl
@@ -53,14 +56,15 @@ module _ {nv : ℕ} {Γ : Environment} {lv : ℕ} {s : State} (I : Invariant nv 
   borrowing : (i : ℕ) (p : Place) (l : Located) (k : Link) (b : Gh.Borrow) (j : Borrow) (F : Found I p l i) (q : Place) (W : Gh.Variable)
       → I .Θ (var (q .root)) ≡ Gh.live W → boxes W < W .movedFrom → (n : ℕ) → I .rank (var (q .root)) < n
       → drop (p .follows) (F .X .chain) ≡ drop (q .follows) (W .chain) → q .follows ≤ length (W .chain)
-      → Reach (I .Θ) (var (F .c)) (F .d) (var (q .root)) (q .follows) → borrowed b ≡ some q
+      → Reach (I .Θ) (var (F .c)) (F .d) (var (q .root)) (q .follows) → Known ns (I .Θ) (var (q .root)) → borrowed b ≡ some q
       → leadingBoxes (k ∷ drop (p .follows) (l .root .chain)) ≡ 0 → Fits (k ∷ drop (p .follows) (l .root .chain)) b → BorrowIn b j
       → (isExclusive b ≡ true → noShared (take (q .follows) (W .chain)) ≡ true)
       → ((y : Name) (B : Gh.Variable) (k : Place) → Holds (I .Θ) y B k → q .root ≡ k .root → (isExclusive b ≡ true → ⊥) × (isExclusive (B .borrow) ≡ true → ⊥))
-      → Progress nv Γ Γ (some (record { links = k ∷ drop (p .follows) (l .root .chain); borrow = j })) lv (runBorrow s i p)
-  borrowing i p l k b j F q W isW wh n lo ag far D eb bx ft′ bi unshared ne =
+      → Progress nv ns Γ Γ (some (record { links = k ∷ drop (p .follows) (l .root .chain); borrow = j })) lv (runBorrow s i p)
+  borrowing i p l k b j F q W isW wh n lo ag far D kn eb bx ft′ bi unshared ne =
       unchanged I (some t) (reference (F .loc)) (runBorrow s i p) (run-borrow i p (F .loc) (F .run))
       (new-value I t b (reference (F .loc)) (p-ref (F .loc)) bx n bi
+      (λ p′ e. let z : q ≡ p′ = let e2 : some q ≡ some p′ = sym eb ∙ e in cc in rw (← z) kn)
       (record { fits = ft′; lost = λ h. absurd (omega arith); number = λ h e. absurd (none≢some (sym (ap borrowed e) ∙ eb)); outdated = λ h e. absurd (none≢some (sym (ap borrowed e) ∙ eb)); refs = λ h p′ e. refs p′ e })
       (λ y B p′ k e K h. let z : q ≡ p′ = let e2 : some q ≡ some p′ = sym eb ∙ e in cc in ne y B k K (rw z h)))
     where
@@ -98,24 +102,24 @@ module _ {nv : ℕ} {Γ : Environment} {lv : ℕ} {s : State} (I : Invariant nv 
       refs p′ e = one p′ (let e2 : some q ≡ some p′ = sym eb ∙ e in cc)
 
   -- The same recorded against p itself.
-  borrowing-itself : (i : ℕ) (p : Place) (l : Located) (k : Link) (b : Gh.Borrow) (j : Borrow) → Found I p l i
+  borrowing-itself : (i : ℕ) (p : Place) (l : Located) (k : Link) (b : Gh.Borrow) (j : Borrow) → Found I p l i → namedLater ns (p .root) ≡ true
       → leadingBoxes (l .root .chain) < l .root .movedFrom → borrowed b ≡ some p
       → leadingBoxes (k ∷ drop (p .follows) (l .root .chain)) ≡ 0 → Fits (k ∷ drop (p .follows) (l .root .chain)) b → BorrowIn b j
       → (isExclusive b ≡ true → noShared (take (p .follows) (l .root .chain)) ≡ true)
       → ((y : Name) (B : Gh.Variable) (q : Place) → Holds (I .Θ) y B q → p .root ≡ q .root → (isExclusive b ≡ true → ⊥) × (isExclusive (B .borrow) ≡ true → ⊥))
-      → Progress nv Γ Γ (some (record { links = k ∷ drop (p .follows) (l .root .chain); borrow = j })) lv (runBorrow s i p)
-  borrowing-itself i p l k b j F wh eb bx ft′ bi unshared ne =
-      borrowing i p l k b j F p (F .X) (F .isX) (covered-whole (F .covX) wh) (suc (I .rank (var (p .root)))) (omega arith) refl (rw (F .covX .chain) (F .long)) (F .reach) eb bx ft′ bi
+      → Progress nv ns Γ Γ (some (record { links = k ∷ drop (p .follows) (l .root .chain); borrow = j })) lv (runBorrow s i p)
+  borrowing-itself i p l k b j F nm wh eb bx ft′ bi unshared ne =
+      borrowing i p l k b j F p (F .X) (F .isX) (covered-whole (F .covX) wh) (suc (I .rank (var (p .root)))) (omega arith) refl (rw (F .covX .chain) (F .long)) (F .reach) (by-name nm) eb bx ft′ bi
       (λ h. rw (F .covX .chain) (unshared h)) ne
 
   -- A shared borrow recorded against what the last shared link borrows, to which j follows lead.
   borrowing-behind : (i : ℕ) (p : Place) (l l₀ : Located) (j : ℕ) → Found I p l i → (F₀ : Found I (place (p .root) j) l₀ i) → Lender I (place (p .root) j) l₀ i F₀
       → j < p .follows
-      → Progress nv Γ Γ (some (record { links = shared ∷ drop (p .follows) (l .root .chain); borrow = sharedOf (past (borrowsAt Γ (l₀ .to)) (p .follows - suc j)) })) lv (runBorrow s i p)
+      → Progress nv ns Γ Γ (some (record { links = shared ∷ drop (p .follows) (l .root .chain); borrow = sharedOf (past (borrowsAt Γ (l₀ .to)) (p .follows - suc j)) })) lv (runBorrow s i p)
   unfolding leadingBoxes
   borrowing-behind i p l l₀ j F F₀ L jr =
       borrowing i p l shared (Gh.sharedOf k) (sharedOf (past (borrowsAt Γ (l₀ .to)) n)) F k (K .W) (K .is) (K .whole) (I .rank (var (F₀ .c))) (K .lower) links far
-      (beyond W q (L .is) (ap borrowed (L .lends)) (subst (λ (e : ℕ). Reach (I .Θ) (var (F₀ .c)) e (var (p .root)) j) (L .at) (F₀ .reach)) (F .reach) jr)
+      (beyond W q (L .is) (ap borrowed (L .lends)) (subst (λ (e : ℕ). Reach (I .Θ) (var (F₀ .c)) e (var (p .root)) j) (L .at) (F₀ .reach)) (F .reach) jr) (L .known)
       refl refl tt (in-shared k (past (borrowsAt Γ (l₀ .to)) n) (past-in q (borrowsAt Γ (l₀ .to)) n (L .recorded))) (λ e. absurd (false≢true e))
       (λ y B h O e. (λ x. absurd (false≢true x), L .alone y B h O e))
     where
@@ -156,59 +160,61 @@ module _ {nv : ℕ} {Γ : Environment} {lv : ℕ} {s : State} (I : Invariant nv 
           let c : p .follows ≤ length (F .X .chain) = rw (F .covX .chain) (F .long) in
           omega (arith, jr, K .long)
 
-  -- What the judge records where no shared link is passed, and where one is.
-  recorded-itself : (i : ℕ) (p : Place) (l : Located) (ps : List Place) → Found I p l i → leadingBoxes (l .root .chain) < l .root .movedFrom
-      → readBarred nv Γ (p .root) ≡ false → recordedPlaces nv Γ i p none ≡ ok ps
-      → Progress nv Γ Γ (some (record { links = shared ∷ drop (p .follows) (l .root .chain); borrow = sharedOf ps })) lv (runBorrow s i p)
-  unfolding recordedPlaces leadingBoxes
-  recorded-itself i p l ps F wh rb k =
-      let z : p ∷ [] ≡ ps = cc in
-      subst (λ (y : List Place). Progress nv Γ Γ (some (record { links = shared ∷ drop (p .follows) (l .root .chain); borrow = sharedOf y })) lv (runBorrow s i p)) z
-      (borrowing-itself i p l shared (Gh.sharedOf p) (sharedOf (p ∷ [])) F wh refl refl tt (in-shared p (p ∷ []) (inl refl)) (λ e. absurd (false≢true e))
-      (λ y B q K e. (λ k. absurd (false≢true k), λ k. let u = holder I y B q K in read-allowed nv Γ (p .root) (u .0) (u .1) q rb (u .3) (u .4) (u .5) (borrow-among (u .6) q (K .at)) (borrow-exclusive (u .6) k) (sym e))))
+  -- Whoever holds something is in use for the judge.
+  module _ (js : Unfinished) (S : Settled js I) where
+    -- What the judge records where no shared link is passed, and where one is.
+    recorded-itself : (i : ℕ) (p : Place) (l : Located) (ps : List Place) → Found I p l i → namedLater ns (p .root) ≡ true → leadingBoxes (l .root .chain) < l .root .movedFrom
+        → readBarred nv js Γ (p .root) ≡ false → recordedPlaces nv Γ i p none ≡ ok ps
+        → Progress nv ns Γ Γ (some (record { links = shared ∷ drop (p .follows) (l .root .chain); borrow = sharedOf ps })) lv (runBorrow s i p)
+    unfolding recordedPlaces leadingBoxes
+    recorded-itself i p l ps F nm wh rb k =
+        let z : p ∷ [] ≡ ps = cc in
+        subst (λ (y : List Place). Progress nv ns Γ Γ (some (record { links = shared ∷ drop (p .follows) (l .root .chain); borrow = sharedOf y })) lv (runBorrow s i p)) z
+        (borrowing-itself i p l shared (Gh.sharedOf p) (sharedOf (p ∷ [])) F nm wh refl refl tt (in-shared p (p ∷ []) (inl refl)) (λ e. absurd (false≢true e))
+        (λ y B q K e. (λ k. absurd (false≢true k), λ k. let u = in-use-holder js I S y B q K in read-allowed nv js Γ (p .root) (u .0) (u .1) q rb (u .3) (u .4) (u .5) (u .6) (borrow-among (u .7) q (K .at)) (borrow-exclusive (u .7) k) (sym e))))
 
-  recorded-behind : (i : ℕ) (p : Place) (l : Located) (ps : List Place) → Found I p l i → Whole Γ (p .root) (l .root) → (j : ℕ)
-      → lastShared (take (p .follows) (l .root .chain)) ≡ some j → recordedPlaces nv Γ i p (some j) ≡ ok ps
-      → Progress nv Γ Γ (some (record { links = shared ∷ drop (p .follows) (l .root .chain); borrow = sharedOf ps })) lv (runBorrow s i p)
-  unfolding recordedPlaces
-  recorded-behind i p l ps F wh j e k =
-      let a = then (judgePlace nv Γ i (place (p .root) j)) _ ps k in
-      let F₀ = judged-found I i i (place (p .root) j) (a .0) (a .1) in
-      let y : l .root ≡ a .0 .root = (let b : live (l .root) ≡ live (a .0 .root) = sym (F .is) ∙ F₀ .is in cc) in
-      let at = last-at (p .follows) (l .root .chain) j e in
-      let L = lender I (place (p .root) j) (a .0) i F₀ _ (subst (λ (v : Variable). Whole Γ (p .root) v) y wh) (subst (λ (v : Variable). drop j (v .chain) ≡ shared ∷ drop (suc j) (l .root .chain)) y (at .1)) in
-      let z : past (borrowsAt Γ (a .0 .to)) (p .follows - suc j) ≡ ps = (let b = a .2 in cc) in
-      subst (λ (y : List Place). Progress nv Γ Γ (some (record { links = shared ∷ drop (p .follows) (l .root .chain); borrow = sharedOf y })) lv (runBorrow s i p)) z
-      (borrowing-behind i p l (a .0) j F F₀ L (at .0))
+    recorded-behind : (i : ℕ) (p : Place) (l : Located) (ps : List Place) → Found I p l i → namedLater ns (p .root) ≡ true → Whole Γ (p .root) (l .root) → (j : ℕ)
+        → lastShared (take (p .follows) (l .root .chain)) ≡ some j → recordedPlaces nv Γ i p (some j) ≡ ok ps
+        → Progress nv ns Γ Γ (some (record { links = shared ∷ drop (p .follows) (l .root .chain); borrow = sharedOf ps })) lv (runBorrow s i p)
+    unfolding recordedPlaces
+    recorded-behind i p l ps F nm wh j e k =
+        let a = then (judgePlace nv Γ i (place (p .root) j)) _ ps k in
+        let F₀ = judged-found I i i (place (p .root) j) (a .0) nm (a .1) in
+        let y : l .root ≡ a .0 .root = (let b : live (l .root) ≡ live (a .0 .root) = sym (F .is) ∙ F₀ .is in cc) in
+        let at = last-at (p .follows) (l .root .chain) j e in
+        let L = lender I (place (p .root) j) (a .0) i F₀ _ nm (subst (λ (v : Variable). Whole Γ (p .root) v) y wh) (subst (λ (v : Variable). drop j (v .chain) ≡ shared ∷ drop (suc j) (l .root .chain)) y (at .1)) in
+        let z : past (borrowsAt Γ (a .0 .to)) (p .follows - suc j) ≡ ps = (let b = a .2 in cc) in
+        subst (λ (y : List Place). Progress nv ns Γ Γ (some (record { links = shared ∷ drop (p .follows) (l .root .chain); borrow = sharedOf y })) lv (runBorrow s i p)) z
+        (borrowing-behind i p l (a .0) j F F₀ L (at .0))
 
-  pub case-shared : (i : ℕ) (p : Place) (out : Out) → judgeShared nv Γ i p ≡ ok out → Progress nv Γ (out .0) (out .1) lv (runBorrow s i p)
-  unfolding judgeShared
-  case-shared i p out h =
-      let a = then (judgeReadable nv Γ i p) _ out h in
-      let b = readable-ok nv Γ i p (a .0) (a .1) in
-      let c = then (need _ (42, i)) _ out (a .2) in
-      let d = then (recordedPlaces nv Γ i p (lastShared (take (p .follows) (a .0 .root .chain)))) _ out (c .2) in
-      let F = judged-found I i i p (a .0) (b .0) in
-      let R = go (a .0) (d .0) F (is-whole nv Γ (p .root) (a .0 .root) (b .1)) (b .2) (lastShared (take (p .follows) (a .0 .root .chain))) refl (d .1) in
-      let z : (Γ, some (record { links = shared ∷ drop (p .follows) (a .0 .root .chain); borrow = sharedOf (d .0) })) ≡ out = let k = d .2 in cc in
-      subst (λ (q : Out). Progress nv Γ (q .0) (q .1) lv (runBorrow s i p)) z R
-    where
-      go : (l : Located) (ps : List Place) → Found I p l i → Whole Γ (p .root) (l .root) → readBarred nv Γ (p .root) ≡ false → (m : Option ℕ)
-          → lastShared (take (p .follows) (l .root .chain)) ≡ m → recordedPlaces nv Γ i p m ≡ ok ps
-          → Progress nv Γ Γ (some (record { links = shared ∷ drop (p .follows) (l .root .chain); borrow = sharedOf ps })) lv (runBorrow s i p)
-      go l ps F wh rb none e k = recorded-itself i p l ps F (root-whole Γ (p .root) (l .root) (F .is) wh) rb k
-      go l ps F wh rb (some j) e k = recorded-behind i p l ps F wh j e k
+    pub case-shared : (i : ℕ) (p : Place) (out : Out) → namedLater ns (p .root) ≡ true → judgeShared nv js Γ i p ≡ ok out → Progress nv ns Γ (out .0) (out .1) lv (runBorrow s i p)
+    unfolding judgeShared
+    case-shared i p out nm h =
+        let a = then (judgeReadable nv js Γ i p) _ out h in
+        let b = readable-ok nv js Γ i p (a .0) (a .1) in
+        let c = then (need _ (42, i)) _ out (a .2) in
+        let d = then (recordedPlaces nv Γ i p (lastShared (take (p .follows) (a .0 .root .chain)))) _ out (c .2) in
+        let F = judged-found I i i p (a .0) nm (b .0) in
+        let R = go (a .0) (d .0) F (is-whole nv Γ (p .root) (a .0 .root) (b .1)) (b .2) (lastShared (take (p .follows) (a .0 .root .chain))) refl (d .1) in
+        let z : (Γ, some (record { links = shared ∷ drop (p .follows) (a .0 .root .chain); borrow = sharedOf (d .0) })) ≡ out = let k = d .2 in cc in
+        subst (λ (q : Out). Progress nv ns Γ (q .0) (q .1) lv (runBorrow s i p)) z R
+      where
+        go : (l : Located) (ps : List Place) → Found I p l i → Whole Γ (p .root) (l .root) → readBarred nv js Γ (p .root) ≡ false → (m : Option ℕ)
+            → lastShared (take (p .follows) (l .root .chain)) ≡ m → recordedPlaces nv Γ i p m ≡ ok ps
+            → Progress nv ns Γ Γ (some (record { links = shared ∷ drop (p .follows) (l .root .chain); borrow = sharedOf ps })) lv (runBorrow s i p)
+        go l ps F wh rb none e k = recorded-itself i p l ps F nm (root-whole Γ (p .root) (l .root) (F .is) wh) rb k
+        go l ps F wh rb (some j) e k = recorded-behind i p l ps F nm wh j e k
 
-  pub case-exclusive : (i : ℕ) (p : Place) (out : Out) → judgeExclusive nv Γ i p ≡ ok out → Progress nv Γ (out .0) (out .1) lv (runBorrow s i p)
-  unfolding judgeExclusive leadingBoxes
-  case-exclusive i p out h =
-      let a = then (judgePlace nv Γ i p) _ out h in
-      let w = then (need (valueWhole nv Γ (p .root) (a .0 .root)) (33, i)) _ out (a .2) in
-      let u = then (need (noShared (take (p .follows) (a .0 .root .chain))) (36, i)) _ out (w .2) in
-      let b = then (need (not (writeBarred nv Γ (p .root))) (35, i)) _ out (u .2) in
-      let c = then (need _ (42, i)) _ out (b .2) in
-      let F = judged-found I i i p (a .0) (a .1) in
-      let R = borrowing-itself i p (a .0) exclusive (Gh.exclusiveOf p) (exclusiveOf (p ∷ [])) F (root-whole Γ (p .root) (a .0 .root) (F .is) (is-whole nv Γ (p .root) (a .0 .root) (needed _ _ _ (w .1)))) refl refl tt (in-exclusive p (p ∷ []) (inl refl)) (λ e. needed _ _ _ (u .1))
-      (λ y B q K e. absurd (let u = holder I y B q K in write-allowed nv Γ (p .root) (u .0) (u .1) q (not-true _ (needed _ _ _ (b .1))) (u .3) (u .4) (u .5) (borrow-among (u .6) q (K .at)) (sym e))) in
-      let z : (Γ, some (record { links = exclusive ∷ drop (p .follows) (a .0 .root .chain); borrow = exclusiveOf (p ∷ []) })) ≡ out = let k = c .2 in cc in
-      subst (λ (q : Out). Progress nv Γ (q .0) (q .1) lv (runBorrow s i p)) z R
+    pub case-exclusive : (i : ℕ) (p : Place) (out : Out) → namedLater ns (p .root) ≡ true → judgeExclusive nv js Γ i p ≡ ok out → Progress nv ns Γ (out .0) (out .1) lv (runBorrow s i p)
+    unfolding judgeExclusive leadingBoxes
+    case-exclusive i p out nm h =
+        let a = then (judgePlace nv Γ i p) _ out h in
+        let w = then (need (valueWhole nv Γ (p .root) (a .0 .root)) (33, i)) _ out (a .2) in
+        let u = then (need (noShared (take (p .follows) (a .0 .root .chain))) (36, i)) _ out (w .2) in
+        let b = then (need (not (writeBarred nv js Γ (p .root))) (35, i)) _ out (u .2) in
+        let c = then (need _ (42, i)) _ out (b .2) in
+        let F = judged-found I i i p (a .0) nm (a .1) in
+        let R = borrowing-itself i p (a .0) exclusive (Gh.exclusiveOf p) (exclusiveOf (p ∷ [])) F nm (root-whole Γ (p .root) (a .0 .root) (F .is) (is-whole nv Γ (p .root) (a .0 .root) (needed _ _ _ (w .1)))) refl refl tt (in-exclusive p (p ∷ []) (inl refl)) (λ e. needed _ _ _ (u .1))
+        (λ y B q K e. absurd (let u = in-use-holder js I S y B q K in write-allowed nv js Γ (p .root) (u .0) (u .1) q (not-true _ (needed _ _ _ (b .1))) (u .3) (u .4) (u .5) (u .6) (borrow-among (u .7) q (K .at)) (sym e))) in
+        let z : (Γ, some (record { links = exclusive ∷ drop (p .follows) (a .0 .root .chain); borrow = exclusiveOf (p ∷ []) })) ≡ out = let k = c .2 in cc in
+        subst (λ (q : Out). Progress nv ns Γ (q .0) (q .1) lv (runBorrow s i p)) z R

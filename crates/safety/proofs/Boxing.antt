@@ -7,6 +7,7 @@ use mathlib.Core.List.{List, _∷_}
 use Rattle.reader.specs.Result.{ok, _>>=_, need}
 use Rattle.rules.specs.Links.{Link, boxed, leadingBoxes}
 use Rattle.rules.specs.Environment.{live, Environment, Ty, fresh}
+use Rattle.rules.specs.Uses.{Unfinished}
 use Rattle.rules.specs.Rules.{Out, valued, judgeBox}
 use Rattle.machine.specs.Values.{cell, Value, owner, closed, openWith}
 use Rattle.machine.specs.Store.{Store, put, State}
@@ -14,20 +15,21 @@ use Rattle.machine.specs.Run.{runBox}
 use Rattle.rules.proofs.Answers.{err≢ok}
 use Rattle.reader.proofs.Answers.{then}
 use Rattle.machine.proofs.StoreLaws.{put-same}
-use Rattle.safety.proofs.Memory.{Name, inFlight, inDrop, var, Content, has, var≢flight, drop≢flight}
+use Rattle.safety.proofs.Memory.{Name, inFlight, inDrop, var, Content, has, nameDec, var≢flight, drop≢flight}
 use Rattle.safety.proofs.NameMaps.{upd, upd-same, upd-other}
 use Rattle.safety.proofs.Lifted.{lift, lift-other, lift-flight}
 use Rattle.safety.proofs.Push.{pushed, pushed-other, push}
 use Rattle.safety.proofs.Ghost as Gh
-use Rattle.safety.proofs.Typing.{boxes}
+use Rattle.safety.proofs.Typing.{borrowed, boxes}
 use Rattle.safety.proofs.Frames.{reworked}
-use Rattle.safety.proofs.Covering.{live-covers, covered-fresh}
-use Rattle.safety.proofs.Invariant.{Invariant, covers-same, deep-ghost}
+use Rattle.safety.proofs.Known.{Known, by-flight, by-holder, known-off}
+use Rattle.safety.proofs.Covering.{live-covers, covers-less, covered-fresh}
+use Rattle.safety.proofs.Invariant.{Invariant, deep-ghost}
 use Rattle.safety.proofs.Progress.{Progress}
 use Rattle.safety.proofs.InFlight.{Full, content, flying, flying-whole, flying-borrow}
 
-module _ {nv : ℕ} {Γ : Environment} {t : Ty} {lv : ℕ} {s : State} {v : Value} (I : Invariant nv Γ (some t) lv s v) where
-  pub boxing : Progress nv Γ Γ (some (record { links = boxed ∷ t .links; borrow = t .borrow })) lv (runBox s v)
+module _ {nv : ℕ} {ns : Unfinished} {Γ : Environment} {t : Ty} {lv : ℕ} {s : State} {v : Value} (I : Invariant nv ns Γ (some t) lv s v) where
+  pub boxing : Progress nv ns Γ Γ (some (record { links = boxed ∷ t .links; borrow = t .borrow })) lv (runBox s v)
   unfolding runBox leadingBoxes
   boxing = record {
     s = record { store = put S (cell k) (openWith v); taken = suc k; opened = s .opened };
@@ -45,7 +47,7 @@ module _ {nv : ℕ} {Γ : Environment} {t : Ty} {lv : ℕ} {s : State} {v : Valu
           Θ′ (upd-same (I .Θ) inFlight _) (λ z n. upd-other (I .Θ) inFlight _ z n) H₁
           (λ v′ h. let w : has (boxes q) (C .0) ≡ has (boxes q) v′ = sym (C .1) ∙ h in let z : C .0 ≡ v′ = cc in upd-same (I .H) inFlight _ ∙ ap (λ (y : Value). has (suc (boxes q)) y) z)
           (λ z n. upd-other (I .H) inFlight _ z n) (pushed (I .ρ) inFlight k) (λ z j n. pushed-other (I .ρ) inFlight k z j n);
-      vars = λ x. covers-same (Θ′ (var x)) (I .Θ (var x)) (Γ x) (upd-other (I .Θ) inFlight _ (var x) var≢flight) (I .vars x);
+      vars = λ x. covers-less (Θ′ (var x)) (I .Θ (var x)) (Γ x) known (upd-other (I .Θ) inFlight _ (var x) var≢flight) (I .vars x);
       flight = live-covers (Θ′ inFlight) (live (fresh (boxed ∷ t .links) (t .borrow) lv)) _ _ (upd-same (I .Θ) inFlight _) refl (covered-fresh (ap (λ (y : List Link). boxed ∷ y) (flying I .2 .chain)) refl (flying-borrow I));
       idle = upd-other (I .Θ) inFlight _ inDrop drop≢flight ∙ I .idle;
       nothing = λ e. absurd (let z : _≡_ {A = ℕ} 0 1 = cc in omega arith);
@@ -78,12 +80,18 @@ module _ {nv : ℕ} {Γ : Environment} {t : Ty} {lv : ℕ} {s : State} {v : Valu
       H₁ : Name → Content
       H₁ = upd (I .H) inFlight (has (suc (boxes q)) (C .0))
 
-module _ {nv : ℕ} {Γ : Environment} {lv : ℕ} {s : State} {v : Value} where
-  pub after-box : (o : Option Ty) → Invariant nv Γ o lv s v → (i : ℕ) (out : Out) → judgeBox nv Γ i o ≡ ok out
-      → Progress nv Γ (out .0) (out .1) lv (runBox s v)
+      known : {z : Name} → Known ns Θ′ z → Known ns (I .Θ) z
+      known = known-off (λ z. z ≡ inFlight) (λ z. nameDec z inFlight) (λ z n. upd-other (I .Θ) inFlight _ z n)
+          (λ z Q p h K. let e : Gh.live N ≡ Gh.live Q = sym (upd-same (I .Θ) inFlight _) ∙ ap Θ′ (sym h) ∙ K .is in
+          let u : N ≡ Q = cc in
+          by-holder q p by-flight (record { is = flying I .1; whole = flying-whole I; at = ap (λ (y : Gh.Variable). borrowed (y .borrow)) u ∙ K .at }))
+
+module _ {nv : ℕ} {ns : Unfinished} {Γ : Environment} {lv : ℕ} {s : State} {v : Value} where
+  pub after-box : (o : Option Ty) → Invariant nv ns Γ o lv s v → (i : ℕ) (out : Out) → judgeBox nv Γ i o ≡ ok out
+      → Progress nv ns Γ (out .0) (out .1) lv (runBox s v)
   unfolding judgeBox valued _>>=_
   after-box none I i out h = absurd (err≢ok h)
   after-box (some t) I i out h =
       let b = then (need _ (42, i)) _ out h in
       let z : (Γ, some (record { links = boxed ∷ t .links; borrow = t .borrow })) ≡ out = let k = b .2 in cc in
-      subst (λ (q : Out). Progress nv Γ (q .0) (q .1) lv (runBox s v)) z (boxing I)
+      subst (λ (q : Out). Progress nv ns Γ (q .0) (q .1) lv (runBox s v)) z (boxing I)

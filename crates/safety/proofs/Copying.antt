@@ -10,6 +10,7 @@ use Rattle.reader.specs.Result.{Result, ok, Refusal, _>>=_, need}
 use Rattle.reader.specs.Script.{Place}
 use Rattle.rules.specs.Links.{Link, boxed, shared, exclusive, leadingBoxes, copies}
 use Rattle.rules.specs.Environment.{sharedOf, borrowEnd, Environment, Ty, borrowsAt}
+use Rattle.rules.specs.Uses.{Unfinished, namedLater}
 use Rattle.rules.specs.Rules.{Out, numberTy, Located, judgeReadable, judgeCopy}
 use Rattle.machine.specs.Values.{Location, empty, reference, openWith}
 use Rattle.machine.specs.Store.{State}
@@ -33,21 +34,22 @@ use Rattle.safety.proofs.NewValue.{new-value}
 use Rattle.safety.proofs.Numbers.{case-number, run-num}
 use Rattle.safety.proofs.Borrowing.{from}
 
-module _ {nv : ℕ} {Γ : Environment} {lv : ℕ} {s : State} (I : Invariant nv Γ none lv s empty) where
+module _ {nv : ℕ} {ns : Unfinished} {Γ : Environment} {lv : ℕ} {s : State} (I : Invariant nv ns Γ none lv s empty) where
   run-reference : (i : ℕ) (p : Place) (loc l′ : Location) → locate s i p ≡ ok loc → s .store loc ≡ openWith (reference l′)
       → runCopy s i p ≡ ok (s, reference l′)
   unfolding runCopy filled _>>=_
   run-reference i p loc l′ e h = rw (e, h) refl
 
   -- A copy of a shared borrow holds what the original holds. The judge records what is borrowed by whatever the place may lead to.
-  copy-shared : (i : ℕ) (p : Place) (l : Located) (ks : List Link) → Found I p l i → Whole Γ (p .root) (l .root)
+  copy-shared : (i : ℕ) (p : Place) (l : Located) (ks : List Link) → Found I p l i → namedLater ns (p .root) ≡ true → Whole Γ (p .root) (l .root)
       → drop (p .follows) (l .root .chain) ≡ shared ∷ ks
-      → Progress nv Γ Γ (some (record { links = shared ∷ ks; borrow = sharedOf (borrowsAt Γ (l .to)) })) lv (runCopy s i p)
+      → Progress nv ns Γ Γ (some (record { links = shared ∷ ks; borrow = sharedOf (borrowsAt Γ (l .to)) })) lv (runCopy s i p)
   unfolding leadingBoxes
-  copy-shared i p l ks F wh e =
+  copy-shared i p l ks F nm wh e =
       unchanged I (some t) (reference (K .l)) (runCopy s i p)
       (run-reference i p (F .loc) (K .l) (F .run) (reads I (F .loc) (I .ρ w (boxes W)) (openWith (reference (K .l))) (F .row ∙ ap (λ (k : ℕ). I .ρ w k) (L .at)) (I .mem .leaf w (boxes W) (reference (K .l)) (K .shape))))
       (new-value I t (Gh.sharedOf q) (reference (K .l)) (p-ref (K .l)) refl (I .rank w) (in-shared q (borrowsAt Γ (l .to)) (L .recorded))
+      (λ p′ f. let z : q ≡ p′ = let f2 : some q ≡ some p′ = f in cc in rw (← z) (L .known))
       (record {
         fits = tt;
         lost = λ h. absurd (omega arith);
@@ -58,7 +60,7 @@ module _ {nv : ℕ} {Γ : Environment} {lv : ℕ} {s : State} (I : Invariant nv 
       (λ y A p′ q′ f O r. let z : q ≡ p′ = cc in (λ k. absurd (false≢true k), L .alone y A q′ O (ap (λ (k : Place). k .root) z ∙ r))))
     where
       L : Lender I p l i F
-      L = lender I p l i F ks wh e
+      L = lender I p l i F ks nm wh e
 
       W : Gh.Variable
       W = L .W
@@ -108,24 +110,24 @@ module _ {nv : ℕ} {Γ : Environment} {lv : ℕ} {s : State} (I : Invariant nv 
         row = λ w′ d′ D. K .row w′ d′ (from I (Gh.live U) D var≢flight);
       }
 
-  pub case-copy : (i : ℕ) (p : Place) (out : Out) → judgeCopy nv Γ i p ≡ ok out → Progress nv Γ (out .0) (out .1) lv (runCopy s i p)
+  pub case-copy : (js : Unfinished) (i : ℕ) (p : Place) (out : Out) → namedLater ns (p .root) ≡ true → judgeCopy nv js Γ i p ≡ ok out → Progress nv ns Γ (out .0) (out .1) lv (runCopy s i p)
   unfolding judgeCopy copies borrowEnd
-  case-copy i p out h =
-      let a = then (judgeReadable nv Γ i p) _ out h in
-      let b = readable-ok nv Γ i p (a .0) (a .1) in
+  case-copy js i p out nm h =
+      let a = then (judgeReadable nv js Γ i p) _ out h in
+      let b = readable-ok nv js Γ i p (a .0) (a .1) in
       let c = then (need (copies (drop (p .follows) (a .0 .root .chain))) (37, i)) _ out (a .2) in
-      let F = judged-found I i i p (a .0) (b .0) in
+      let F = judged-found I i i p (a .0) nm (b .0) in
       go (a .0) F (is-whole nv Γ (p .root) (a .0 .root) (b .1)) (drop (p .follows) (a .0 .root .chain)) refl (needed _ _ _ (c .1)) (c .2)
     where
       go : (l : Located) → Found I p l i → Whole Γ (p .root) (l .root) → (ks : List Link) → drop (p .follows) (l .root .chain) ≡ ks → copies ks ≡ true
           → _≡_ {A = Result Refusal Out} (ok (Γ, some (record { links = ks; borrow = borrowEnd ks (borrowsAt Γ (l .to)) }))) (ok out)
-          → Progress nv Γ (out .0) (out .1) lv (runCopy s i p)
+          → Progress nv ns Γ (out .0) (out .1) lv (runCopy s i p)
       go l F wh [] e k q =
           let N = number-there I p l i F wh e in
           let z : (Γ, some numberTy) ≡ out = cc in
-          subst (λ (y : Out). Progress nv Γ (y .0) (y .1) lv (runCopy s i p)) z (case-number I (N .0) (runCopy s i p) (run-num I i p (F .loc) (N .0) (F .run) (N .2 (F .loc) (F .run)) .1))
+          subst (λ (y : Out). Progress nv ns Γ (y .0) (y .1) lv (runCopy s i p)) z (case-number I (N .0) (runCopy s i p) (run-num I i p (F .loc) (N .0) (F .run) (N .2 (F .loc) (F .run)) .1))
       go l F wh (boxed ∷ ks) e k q = absurd (false≢true k)
       go l F wh (shared ∷ ks) e k q =
           let z : (Γ, some (record { links = shared ∷ ks; borrow = sharedOf (borrowsAt Γ (l .to)) })) ≡ out = cc in
-          subst (λ (y : Out). Progress nv Γ (y .0) (y .1) lv (runCopy s i p)) z (copy-shared i p l ks F wh e)
+          subst (λ (y : Out). Progress nv ns Γ (y .0) (y .1) lv (runCopy s i p)) z (copy-shared i p l ks F nm wh e)
       go l F wh (exclusive ∷ ks) e k q = absurd (false≢true k)

@@ -1,7 +1,6 @@
 -- The judge's environment covers the proof's: what holds of the first holds of the second.
 use Prim.Native.Nat.{ℕ, suc, _≤_, _<_}
 use native.Mathlib.Omega.{arith}
-use native.Mathlib.Decide.{decLt}
 use mathlib.Core.Path.{_≡_, refl, sym, ap, subst}
 use mathlib.Core.Logic.{_≢_}
 use mathlib.Core.Bool.{Bool, true, false, false≢true}
@@ -50,87 +49,84 @@ borrow-known in-none e = let z : _≡_ {A = ℕ} 0 1 = cc in omega arith
 borrow-known (in-shared q ps h) e = let z : _≡_ {A = ℕ} 0 1 = cc in omega arith
 borrow-known (in-exclusive q ps h) e = let z : _≡_ {A = ℕ} 0 1 = cc in omega arith
 
--- The judge knows the chain and the level, may count more as moved away, and knows what is held.
-pub record Covered (q : Gh.Variable) (v : Variable) : Type 0 where
+-- The judge knows the chain and the level, may count more as moved away, and knows what is held. Of a name that is known (K), and of
+-- which the judge counts nothing as moved away, the proof knows the borrow.
+pub record Covered (K : Type 0) (q : Gh.Variable) (v : Variable) : Type 0 where
   pub chain : q .chain ≡ v .chain
   pub level : q .level ≡ v .level
   pub less : v .movedFrom ≤ q .movedFrom
   pub cap : v .movedFrom ≤ suc (leadingBoxes (v .chain))
-  pub inside : leadingBoxes (v .chain) < v .movedFrom → BorrowIn (q .borrow) (v .borrow)
-  -- What the judge counts as moved away holds nothing.
-  pub outside : v .movedFrom ≤ leadingBoxes (v .chain) → (p : Place) → borrowed (q .borrow) ≡ some p → boxes q < q .movedFrom → ⊥
+  pub inside : K → leadingBoxes (v .chain) < v .movedFrom → BorrowIn (q .borrow) (v .borrow)
+  pub holds : (p : Place) → borrowed (q .borrow) ≡ some p → boxes q < q .movedFrom
+      → (leadingBoxes (v .chain) < v .movedFrom) × (BorrowIn (q .borrow) (v .borrow))
 
 -- A name in scope is in scope for both.
-abbrev pub covers : Gh.Slot → Slot → Type 0
-covers vacant free = Unit {0}
-covers vacant used = Unit {0}
-covers vacant (live v) = ⊥
-covers (Gh.live q) free = ⊥
-covers (Gh.live q) used = ⊥
-covers (Gh.live q) (live v) = Covered q v
+pub data covers (K : Type 0) : Gh.Slot → Slot → Type 0 where
+  covers-free : covers K vacant free
+  covers-used : covers K vacant used
+  covers-live : {q : Gh.Variable} {v : Variable} → Covered K q v → covers K (Gh.live q) (live v)
 
 pub vacant≢live : {q : Gh.Variable} → vacant ≡ Gh.live q → ⊥
 vacant≢live e = let z : _≡_ {A = ℕ} 0 1 = cc in omega arith
 
 -- ---- a slot that covers, and the one that it covers
 
-pub covered-live : (g : Gh.Slot) (sl : Slot) (v : Variable) → covers g sl → sl ≡ live v → (q : Gh.Variable) × (g ≡ Gh.live q) × (Covered q v)
-covered-live vacant free v c e = absurd (free≢live e)
-covered-live vacant used v c e = absurd (used≢live e)
-covered-live vacant (live u) v c e = absurd c
-covered-live (Gh.live q) free v c e = absurd c
-covered-live (Gh.live q) used v c e = absurd c
-covered-live (Gh.live q) (live u) v c e = let z : u ≡ v = cc in (q, refl, subst (λ (k : Variable). Covered q k) z c)
+pub covered-live : {K : Type 0} (g : Gh.Slot) (sl : Slot) (v : Variable) → covers K g sl → sl ≡ live v → (q : Gh.Variable) × (g ≡ Gh.live q) × (Covered K q v)
+covered-live g sl v covers-free e = absurd (free≢live e)
+covered-live g sl v covers-used e = absurd (used≢live e)
+covered-live {K} g sl v (covers-live {q = q} {v = u} c) e = let z : u ≡ v = cc in (q, refl, subst (λ (k : Variable). Covered K q k) z c)
 
-pub covered-back : (g : Gh.Slot) (sl : Slot) (q : Gh.Variable) → covers g sl → g ≡ Gh.live q → (v : Variable) × (sl ≡ live v) × (Covered q v)
-covered-back vacant sl q c e = absurd (vacant≢live e)
-covered-back (Gh.live k) free q c e = absurd c
-covered-back (Gh.live k) used q c e = absurd c
-covered-back (Gh.live k) (live v) q c e = let z : k ≡ q = cc in (v, refl, subst (λ (y : Gh.Variable). Covered y v) z c)
+pub covered-back : {K : Type 0} (g : Gh.Slot) (sl : Slot) (q : Gh.Variable) → covers K g sl → g ≡ Gh.live q → (v : Variable) × (sl ≡ live v) × (Covered K q v)
+covered-back g sl q covers-free e = absurd (vacant≢live e)
+covered-back g sl q covers-used e = absurd (vacant≢live e)
+covered-back {K} g sl q (covers-live {q = k} {v = v} c) e = let z : k ≡ q = cc in (v, refl, subst (λ (y : Gh.Variable). Covered K y v) z c)
 
-pub covered-none : (g : Gh.Slot) (sl : Slot) → covers g sl → ((v : Variable) → sl ≢ live v) → g ≡ vacant
-covered-none vacant sl c h = refl
-covered-none (Gh.live q) free c h = absurd c
-covered-none (Gh.live q) used c h = absurd c
-covered-none (Gh.live q) (live v) c h = absurd (h v refl)
+pub covered-none : {K : Type 0} (g : Gh.Slot) (sl : Slot) → covers K g sl → ((v : Variable) → sl ≢ live v) → g ≡ vacant
+covered-none g sl covers-free h = refl
+covered-none g sl covers-used h = refl
+covered-none g sl (covers-live {v = v} c) h = absurd (h v refl)
 
-pub vac-covers : (g : Gh.Slot) (sl : Slot) → g ≡ vacant → ((v : Variable) → sl ≢ live v) → covers g sl
-vac-covers vacant free e h = tt
-vac-covers vacant used e h = tt
-vac-covers vacant (live v) e h = absurd (h v refl)
-vac-covers (Gh.live q) sl e h = absurd (vacant≢live (sym e))
+pub vac-covers : {K : Type 0} (g : Gh.Slot) (sl : Slot) → g ≡ vacant → ((v : Variable) → sl ≢ live v) → covers K g sl
+vac-covers {K} g free e h = rw e covers-free
+vac-covers {K} g used e h = rw e covers-used
+vac-covers {K} g (live v) e h = absurd (h v refl)
 
-pub live-covers : (g : Gh.Slot) (sl : Slot) (q : Gh.Variable) (v : Variable) → g ≡ Gh.live q → sl ≡ live v → Covered q v → covers g sl
-live-covers g sl q v e f c = rw (e, f) c
+pub live-covers : {K : Type 0} (g : Gh.Slot) (sl : Slot) (q : Gh.Variable) (v : Variable) → g ≡ Gh.live q → sl ≡ live v → Covered K q v → covers K g sl
+live-covers g sl q v e f c = rw (e, f) (covers-live c)
 
-pub covered-whole : {q : Gh.Variable} {v : Variable} → Covered q v → leadingBoxes (v .chain) < v .movedFrom → boxes q < q .movedFrom
-covered-whole {q} {v} c h = let n : boxes q ≡ leadingBoxes (v .chain) = ap leadingBoxes (c .chain) in let l = c .less in omega arith
+-- Less need be known.
+pub covered-less : {K K′ : Type 0} {q : Gh.Variable} {v : Variable} → (K′ → K) → Covered K q v → Covered K′ q v
+covered-less f c = record { chain = c .chain; level = c .level; less = c .less; cap = c .cap; inside = λ k. c .inside (f k); holds = c .holds }
 
-pub covered-holds : {q : Gh.Variable} {v : Variable} → Covered q v → (p : Place) → borrowed (q .borrow) ≡ some p → boxes q < q .movedFrom
-    → (leadingBoxes (v .chain) < v .movedFrom) × (BorrowIn (q .borrow) (v .borrow))
-covered-holds {q} {v} c p e h = go (decLt (leadingBoxes (v .chain)) (v .movedFrom))
+pub covers-less : {K K′ : Type 0} (g′ g : Gh.Slot) (sl : Slot) → (K′ → K) → g′ ≡ g → covers K g sl → covers K′ g′ sl
+covers-less {K} {K′} g′ g sl f e c = subst (λ (k : Gh.Slot). covers K′ k sl) (sym e) (go c)
   where
-    go : Dec (leadingBoxes (v .chain) < v .movedFrom) → (leadingBoxes (v .chain) < v .movedFrom) × (BorrowIn (q .borrow) (v .borrow))
-    go (yes k) = (k, c .inside k)
-    go (no k) = absurd (c .outside (omega arith) p e h)
+    go : {g : Gh.Slot} {sl : Slot} → covers K g sl → covers K′ g sl
+    go covers-free = covers-free
+    go covers-used = covers-used
+    go (covers-live c) = covers-live (covered-less f c)
 
-pub covered-fresh : {ks ks′ : List Link} {b : Gh.Borrow} {j : Borrow} {l l′ : ℕ} → ks ≡ ks′ → l ≡ l′ → BorrowIn b j
-    → Covered (Gh.fresh ks b l) (fresh ks′ j l′)
-covered-fresh {ks} {ks′} e k h = record {
+pub covered-whole : {K : Type 0} {q : Gh.Variable} {v : Variable} → Covered K q v → leadingBoxes (v .chain) < v .movedFrom → boxes q < q .movedFrom
+covered-whole {K} {q} {v} c h = let n : boxes q ≡ leadingBoxes (v .chain) = ap leadingBoxes (c .chain) in let l = c .less in omega arith
+
+pub covered-fresh : {K : Type 0} {ks ks′ : List Link} {b : Gh.Borrow} {j : Borrow} {l l′ : ℕ} → ks ≡ ks′ → l ≡ l′ → BorrowIn b j
+    → Covered K (Gh.fresh ks b l) (fresh ks′ j l′)
+covered-fresh {K} {ks} {ks′} e k h = record {
   chain = e;
   level = k;
   less = (let z : leadingBoxes ks ≡ leadingBoxes ks′ = ap leadingBoxes e in omega arith);
   cap = omega arith;
-  inside = λ g. h;
-  outside = λ g p f. absurd (omega arith);
+  inside = λ u g. h;
+  holds = λ p f g. (omega arith, h);
 }
 
-pub covered-moved : {q : Gh.Variable} {v : Variable} (r : ℕ) → Covered q v → r ≤ leadingBoxes (v .chain) → Covered (Gh.movedAway q r) (movedAway v r)
-covered-moved {q} {v} r c h = record {
+pub covered-moved : {K K′ : Type 0} {q : Gh.Variable} {v : Variable} (r : ℕ) → Covered K q v → r ≤ leadingBoxes (v .chain)
+    → Covered K′ (Gh.movedAway q r) (movedAway v r)
+covered-moved {K} {K′} {q} {v} r c h = record {
   chain = c .chain;
   level = c .level;
   less = omega arith;
   cap = omega arith;
-  inside = λ g. absurd (omega arith);
-  outside = λ g p e k. (let n : boxes q ≡ leadingBoxes (v .chain) = ap leadingBoxes (c .chain) in omega arith);
+  inside = λ u g. absurd (omega arith);
+  holds = λ p e k. absurd (let n : boxes q ≡ leadingBoxes (v .chain) = ap leadingBoxes (c .chain) in omega arith);
 }

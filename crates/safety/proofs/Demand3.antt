@@ -5,12 +5,13 @@ use native.Mathlib.Nat.{zero-add}
 use mathlib.Core.Path.{_≡_, refl, sym, ap, _∙_, subst}
 use mathlib.Core.Bool.{true, false≢true}
 use mathlib.Core.Option.{Option, none, some}
-use mathlib.Core.List.{[]}
+use mathlib.Core.List.{[], append-nil}
 use Rattle.reader.specs.Result.{ok, _>>=_}
 use Rattle.reader.specs.Limits.{Limits}
 use Rattle.reader.specs.Script.{Term, block, Terms}
 use Rattle.reader.specs.Within.{Within}
 use Rattle.rules.specs.Environment.{Environment, Ty}
+use Rattle.rules.specs.Uses.{finishing}
 use Rattle.reader.specs.Reader.{branch}
 use Rattle.reader.proofs.Building.{a-block}
 use Rattle.rules.specs.Judge.{judge, isAnswer, nothingTaken, judgeScript}
@@ -56,7 +57,7 @@ answered nv (some t) h = (t, refl, number-nil (t .links) h)
 
 module _ (l : Limits) (i : ℕ) (ts : Terms) (within : Within l (block i ts)) (readings : ℕ → ℕ) (earlier : Store) where
   -- What the invariant at the end says.
-  finish : (Γ : Environment) (o : Option Ty) (t : Ty) → o ≡ some t → t .links ≡ [] → (s : State) (v : Value) → Invariant (l .variables) Γ o 0 s v
+  finish : (Γ : Environment) (o : Option Ty) (t : Ty) → o ≡ some t → t .links ≡ [] → (s : State) (v : Value) → Invariant (l .variables) [] Γ o 0 s v
       → run readings (block i ts) (begun earlier) ≡ ok (s, v) → s .opened ≡ [] → Safe l (block i ts) readings earlier
   finish Γ o t e nil s v I ran op = record {
     final = s;
@@ -71,8 +72,8 @@ module _ (l : Limits) (i : ℕ) (ts : Terms) (within : Within l (block i ts)) (r
     back = sym (count-given (l .boxes) (s .store) (s .taken) few (cell-given J op nil) (J .mem .untaken));
   }
     where
-      J : Invariant (l .variables) Γ (some t) 0 s v
-      J = subst (λ (k : Option Ty). Invariant (l .variables) Γ k 0 s v) e I
+      J : Invariant (l .variables) [] Γ (some t) 0 s v
+      J = subst (λ (k : Option Ty). Invariant (l .variables) [] Γ k 0 s v) e I
 
       n : ℕ
       n = answer-num J op nil .0
@@ -90,8 +91,8 @@ module _ (l : Limits) (i : ℕ) (ts : Terms) (within : Within l (block i ts)) (r
   safe : judgeScript (l .variables) (block i ts) ≡ ok tt → Safe l (block i ts) readings earlier
   unfolding judgeScript Sound
   safe h =
-      let a = then (judge (l .variables) (block i ts) 0 (nothingTaken (l .variables))) _ tt h in
-      let R = sound (l .variables) readings (block i ts) 0 (nothingTaken (l .variables)) (begun earlier) (a .0) (formed-lets l 0 (block i ts) (within .formed)) (a .1) (start (l .variables) earlier) in
+      let a = then (judge (l .variables) (block i ts) 0 (finishing (block i ts)) (nothingTaken (l .variables))) _ tt h in
+      let R = sound (l .variables) readings (block i ts) 0 (finishing (block i ts)) [] (nothingTaken (l .variables)) (begun earlier) (a .0) (formed-lets l 0 (block i ts) (within .formed)) (sym (append-nil (finishing (block i ts)))) (a .1) (start (l .variables) (finishing (block i ts)) earlier) in
       let n = answered (l .variables) (a .0 .1) (needed _ _ _ (a .2)) in
       finish (a .0 .0) (a .0 .1) (n .0) (n .1) (n .2) (R .s) (R .v) (R .inv) (R .ran) (opens readings i ts (begun earlier) (R .s) (R .v) (R .ran))
 

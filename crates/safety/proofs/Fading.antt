@@ -126,7 +126,7 @@ module _ {nv : ℕ} {G : Name → Type 0} {Γ : Name → Slot} {H : Name → Con
       go (yes h) = absurd (none-in x Q p h K)
       go (no h) = record { is = sym (same x h) ∙ K .is; whole = K .whole; at = K .at }
 
-  pub fading : Typed nv G Γ′ H ρ rank
+  fading : Typed nv G Γ′ H ρ rank
   fading = record {
     at = at′;
     bound = bound′;
@@ -182,3 +182,23 @@ module _ (Γ : Name → Slot) (X : Name → Type 0) (xDec : (z : Name) → Dec (
       go (yes k) vacant f q = absurd (let z : _≡_ {A = ℕ} 0 1 = cc in omega arith)
       go (yes k) (live Q) f q = (Q, f, (cc))
       go (no k) g f q = absurd (k h)
+
+  pub without-vacant : (z : Name) → Γ z ≡ vacant → without z ≡ vacant
+  unfolding without fadedIf
+  without-vacant z e = rw e (go (xDec z))
+    where
+      go : (d : Dec (X z)) → fadedIf d vacant ≡ vacant
+      go (yes k) = refl
+      go (no k) = refl
+
+-- It is typed as before. Nothing more is held in it, and by nobody who forgot.
+module _ {nv : ℕ} {G : Name → Type 0} {Γ : Name → Slot} {H : Name → Content} {ρ : Name → ℕ → Spot} {rank : Name → ℕ} (T : Typed nv G Γ H ρ rank)
+    (X : Name → Type 0) (xDec : (z : Name) → Dec (X z)) where
+  pub without-typed : Typed nv G (without Γ X xDec) H ρ rank
+  without-typed = fading T X xDec (without Γ X xDec) (without-off Γ X xDec) (without-in Γ X xDec) (without-on Γ X xDec)
+
+  pub without-holds : (z : Name) (Q : Variable) (p : Place) → Holds (without Γ X xDec) z Q p → Holds Γ z Q p
+  without-holds = holds-back T X xDec (without Γ X xDec) (without-off Γ X xDec) (without-in Γ X xDec) (without-on Γ X xDec)
+
+  pub without-none : (z : Name) (Q : Variable) (p : Place) → X z → Holds (without Γ X xDec) z Q p → ⊥
+  without-none = none-in T X xDec (without Γ X xDec) (without-off Γ X xDec) (without-in Γ X xDec) (without-on Γ X xDec)

@@ -11,6 +11,7 @@ use Rattle.reader.specs.Result.{ok}
 use Rattle.reader.specs.Script.{Place}
 use Rattle.rules.specs.Links.{Link, leadingBoxes}
 use Rattle.rules.specs.Environment.{Variable, live, Environment, Ty}
+use Rattle.rules.specs.Uses.{Unfinished}
 use Rattle.rules.specs.Follow.{isBorrow}
 use Rattle.rules.specs.Rules.{Located}
 use Rattle.rules.specs.Neat.{place, Among}
@@ -25,19 +26,20 @@ use Rattle.safety.proofs.Typing.{Fits, boxes, Reach, here, hop}
 use Rattle.safety.proofs.Chains.{fits-down, fits-nil}
 use Rattle.safety.proofs.Paths.{located}
 use Rattle.safety.proofs.OnPath.{agreed}
+use Rattle.safety.proofs.Known.{Known, by-holder}
 use Rattle.safety.proofs.Certificates.{Path, Own, Passed, Whole, root-whole}
-use Rattle.safety.proofs.Covering.{borrow-among, borrow-some, Covered, covered-live, covered-back, covered-whole, covered-holds}
+use Rattle.safety.proofs.Covering.{borrow-among, borrow-some, Covered, covered-live, covered-back, covered-whole}
 use Rattle.safety.proofs.Invariant.{flightRow, Invariant}
 
-module _ {nv : ℕ} {Γ : Environment} {o : Option Ty} {lv : ℕ} {s : State} {v : Value} (I : Invariant nv Γ o lv s v) where
+module _ {nv : ℕ} {ns : Unfinished} {Γ : Environment} {o : Option Ty} {lv : ℕ} {s : State} {v : Value} (I : Invariant nv ns Γ o lv s v) where
   -- The proof's way through what the judge has met.
   abbrev pub Goes : {p : Place} → Path Γ p → ℕ → ℕ → Type 0
   Goes P x r =
       (c : ℕ) × (d : ℕ) × (Reach (I .Θ) (var c) d (var x) r) × (Among (place c d) (P .ps)) × (v : Variable) × (Γ c ≡ live v) × (d ≤ leadingBoxes (v .chain))
 
-  goes-at : {p : Place} (P : Path Γ p) → ((q : Place) → Among q (P .ps) → Own Γ q) → (x r : ℕ) → Among (place x r) (P .ps)
-      → ((y m : ℕ) → I .rank (var y) < I .rank (var x) → Among (place y m) (P .ps) → Goes P y m) → Goes P x r
-  goes-at P ow x r i ih = let O = ow (place x r) i in go (O .v) (O .is) (O .at)
+  goes-at : {p : Place} (P : Path Γ p) → ((q : Place) → Among q (P .ps) → Own Γ q) → (x r : ℕ) → Known ns (I .Θ) (var x) → Among (place x r) (P .ps)
+      → ((y m : ℕ) → I .rank (var y) < I .rank (var x) → Known ns (I .Θ) (var y) → Among (place y m) (P .ps) → Goes P y m) → Goes P x r
+  goes-at P ow x r kn i ih = let O = ow (place x r) i in go (O .v) (O .is) (O .at)
     where
       go : (v : Variable) → Γ x ≡ live v
           → ((r ≤ leadingBoxes (v .chain)) × (r ≤ v .movedFrom)) ⊎ ((leadingBoxes (v .chain) < r) × (leadingBoxes (v .chain) < v .movedFrom) × (isBorrow (v .borrow) ≡ true))
@@ -51,19 +53,19 @@ module _ {nv : ℕ} {Γ : Environment} {o : Option Ty} {lv : ℕ} {s : State} {v
       go v e (inr k) =
           let C = covered-live (I .Θ (var x)) (Γ x) v (I .vars x) e in
           let n : boxes (C .0) ≡ leadingBoxes (v .chain) = ap leadingBoxes (C .2 .chain) in
-          let B = C .2 .inside (k .1) in
+          let B = C .2 .inside kn (k .1) in
           let t = borrow-some B (k .2) in
           let m = borrow-among B (t .0) (t .1) in
           let j = P .on (place x r) v (t .0) i e (k .0) m in
           let w = covered-whole (C .2) (k .1) in
           let R = I .typed .at (var x) (C .0) (C .1) .refs w (t .0) (t .1) in
-          let L = ih (t .0 .root) (t .0 .follows + (r - suc (leadingBoxes (v .chain)))) (R .lower) j in
+          let L = ih (t .0 .root) (t .0 .follows + (r - suc (leadingBoxes (v .chain)))) (R .lower) (by-holder (C .0) (t .0) kn (record { is = C .1; whole = w; at = t .1 })) j in
           (L .0, L .1, hop {r = r} (C .0) (t .0) (C .1) (t .1) w (omega (arith, k .0)) (subst (λ (c : ℕ). Reach (I .Θ) (var (L .0)) (L .1) (var (t .0 .root)) (t .0 .follows + (r - suc c))) (sym n) (L .2)), L .3, L .4, L .5, L .6)
 
-  pub goes : {p : Place} (P : Path Γ p) → ((q : Place) → Among q (P .ps) → Own Γ q) → (n x r : ℕ) → I .rank (var x) < n → Among (place x r) (P .ps)
-      → Goes P x r
-  goes P ow zero x r h i = absurd (omega arith)
-  goes P ow (suc n) x r h i = goes-at P ow x r i (λ y m k j. goes P ow n y m (omega arith) j)
+  pub goes : {p : Place} (P : Path Γ p) → ((q : Place) → Among q (P .ps) → Own Γ q) → (n x r : ℕ) → I .rank (var x) < n → Known ns (I .Θ) (var x)
+      → Among (place x r) (P .ps) → Goes P x r
+  goes P ow zero x r h kn i = absurd (omega arith)
+  goes P ow (suc n) x r h kn i = goes-at P ow x r kn i (λ y m k kn′ j. goes P ow n y m (omega arith) kn′ j)
 
   -- A longer way meets the end of a shorter one.
   pub along : {w y : Name} {d r : ℕ} {p : Place} (P : Path Γ p) → Reach (I .Θ) w d y r → (k n : ℕ) → y ≡ var k → r ≤ n → Among (place k n) (P .ps)
@@ -71,7 +73,7 @@ module _ {nv : ℕ} {Γ : Environment} {o : Option Ty} {lv : ℕ} {s : State} {v
   along P (here Q e a b) k n q l i = (k, n, q, i)
   along {r} P (hop Q p e f a b D) k n q l i =
       let C = covered-back (I .Θ (var k)) (Γ k) Q (I .vars k) (ap (I .Θ) (sym q) ∙ e) in
-      let H = covered-holds (C .2) p f a in
+      let H = C .2 .holds p f a in
       let z : boxes Q ≡ leadingBoxes (C .0 .chain) = ap leadingBoxes (C .2 .chain) in
       along P D (p .root) (p .follows + (n - suc (leadingBoxes (C .0 .chain)))) refl (omega arith)
       (P .on (place k n) (C .0) p i (C .1) (omega arith) (borrow-among (H .1) p f))
@@ -82,7 +84,7 @@ module _ {nv : ℕ} {Γ : Environment} {o : Option Ty} {lv : ℕ} {s : State} {v
     pub long : p .follows ≤ length (l .root .chain)
     pub X : Gh.Variable
     pub isX : I .Θ (var (p .root)) ≡ Gh.live X
-    pub covX : Covered X (l .root)
+    pub covX : Covered (Known ns (I .Θ) (var (p .root))) X (l .root)
     pub c : ℕ
     pub d : ℕ
     pub reach : Reach (I .Θ) (var c) d (var (p .root)) (p .follows)
@@ -91,11 +93,11 @@ module _ {nv : ℕ} {Γ : Environment} {o : Option Ty} {lv : ℕ} {s : State} {v
     pub row : spotOf loc ≡ I .ρ (var c) d
     pub run : locate s i p ≡ ok loc
 
-  pub found : (i : ℕ) (p : Place) (l : Located) → Passed Γ p l → Found p l i
+  pub found : (i : ℕ) (p : Place) (l : Located) → Known ns (I .Θ) (var (p .root)) → Passed Γ p l → Found p l i
   unfolding locate
-  found i p l a =
+  found i p l kn a =
       let C = covered-live (I .Θ (var (p .root))) (Γ (p .root)) (l .root) (I .vars (p .root)) (a .is) in
-      let G = goes (a .path) (a .own) (suc (I .rank (var (p .root)))) (p .root) (p .follows) (omega arith) (a .path .start) in
+      let G = goes (a .path) (a .own) (suc (I .rank (var (p .root)))) (p .root) (p .follows) (omega arith) kn (a .path .start) in
       let R = located s (flightRow o v) closed i (I .mem) (I .typed) (p .root) (p .follows) (var (G .0)) (G .1) (G .2) in
       record {
         is = a .is;
@@ -112,7 +114,7 @@ module _ {nv : ℕ} {Γ : Environment} {o : Option Ty} {lv : ℕ} {s : State} {v
         run = R .2;
       }
 
-module _ {nv : ℕ} {Γ : Environment} {lv : ℕ} {s : State} (I : Invariant nv Γ none lv s empty) where
+module _ {nv : ℕ} {ns : Unfinished} {Γ : Environment} {lv : ℕ} {s : State} (I : Invariant nv ns Γ none lv s empty) where
   -- Where a whole root leads is whole.
   pub whole-along : {w x : Name} {d r : ℕ} (D : Reach (I .Θ) w d x r) (q : Gh.Variable) → I .Θ x ≡ Gh.live q → boxes q < q .movedFrom
       → (W : Gh.Variable) × (I .Θ w ≡ Gh.live W) × (d ≤ boxes W) × (boxes W < W .movedFrom)

@@ -13,6 +13,7 @@ use Rattle.reader.specs.Script.{Place}
 use Rattle.rules.specs.Links.{leadingBoxes}
 use Rattle.rules.specs.Places.{every, only}
 use Rattle.rules.specs.Environment.{Variable, Slot, free, used, live, Environment, Ty, holding}
+use Rattle.rules.specs.Uses.{Unfinished, namedLater}
 use Rattle.rules.specs.Follow.{Met, follow, ownLink, isBorrow, ownPath, wholeSlot, wholeThere, valueWhole}
 use Rattle.rules.specs.Rules.{inScope, reached, Located, judgePlace}
 use Rattle.rules.specs.Neat.{place, Among}
@@ -23,6 +24,7 @@ use Rattle.rules.proofs.FollowClosed.{all-shut}
 use Rattle.machine.specs.Values.{Value}
 use Rattle.machine.specs.Store.{State}
 use Rattle.reader.proofs.Answers.{then, needed}
+use Rattle.safety.proofs.Known.{by-name}
 use Rattle.safety.proofs.Certificates.{Path, Own, Passed, Whole}
 use Rattle.safety.proofs.Invariant.{Invariant}
 use Rattle.safety.proofs.Finding.{Found, found}
@@ -101,6 +103,6 @@ is-whole nv Γ x v h = go (follow (suc nv) Γ (place x (length (v .chain))) []) 
         let P = path-of Γ (suc nv) (place x (length (v .chain))) ps e in
         record { path = P .0; all = λ q i. whole-slot (Γ (q .root)) (every-in (λ q. wholeSlot (Γ (q .root))) q ps k (subst (λ (y : List Place). Among q y) (P .1) i)) }
 
-module _ {nv : ℕ} {Γ : Environment} {o : Option Ty} {lv : ℕ} {s : State} {v : Value} (I : Invariant nv Γ o lv s v) where
-  pub judged-found : (i j : ℕ) (p : Place) (l : Located) → judgePlace nv Γ j p ≡ ok l → Found I p l i
-  judged-found i j p l h = found I i p l (placed nv Γ j p l h)
+module _ {nv : ℕ} {ns : Unfinished} {Γ : Environment} {o : Option Ty} {lv : ℕ} {s : State} {v : Value} (I : Invariant nv ns Γ o lv s v) where
+  pub judged-found : (i j : ℕ) (p : Place) (l : Located) → namedLater ns (p .root) ≡ true → judgePlace nv Γ j p ≡ ok l → Found I p l i
+  judged-found i j p l nm h = found I i p l (by-name nm) (placed nv Γ j p l h)

@@ -5,6 +5,7 @@ use mathlib.Core.Logic.{_≢_, _⊎_, inl, inr}
 use mathlib.Core.Option.{Option, none, some}
 use Rattle.reader.specs.Result.{ok}
 use Rattle.rules.specs.Environment.{used, Environment, Ty}
+use Rattle.rules.specs.Uses.{Unfinished}
 use Rattle.rules.proofs.Slots.{used≢live}
 use Rattle.machine.specs.Values.{Value, empty, closed}
 use Rattle.machine.specs.Store.{State, withStore}
@@ -16,19 +17,20 @@ use Rattle.safety.proofs.Ghost.{vacant}
 use Rattle.safety.proofs.Ghost as Gh
 use Rattle.safety.proofs.Typing.{boxes, Typed}
 use Rattle.safety.proofs.Frames.{sweep, left}
-use Rattle.safety.proofs.Covering.{vacant≢live, vac-covers}
-use Rattle.safety.proofs.Invariant.{nobody, Invariant, covers-same, drop-noRow}
+use Rattle.safety.proofs.Known.{Known, known-off}
+use Rattle.safety.proofs.Covering.{vacant≢live, vac-covers, covers-less}
+use Rattle.safety.proofs.Invariant.{nobody, Invariant, drop-noRow}
 use Rattle.safety.proofs.InFlight.{Full, content, flying, flying-whole}
 use Rattle.safety.proofs.Emptying.{Emptied, drop-flight-value}
 
-pub forget : {nv : ℕ} {Γ : Environment} {lv : ℕ} {s : State} {v : Value} (o : Option Ty) (i : ℕ) → Invariant nv Γ o lv s v
-    → (s′ : State) × (dropValue i s v ≡ ok s′) × (Invariant nv Γ none lv s′ empty)
-forget {nv} {Γ} {lv} {s} {v} none i I = (
+pub forget : {nv : ℕ} {ns : Unfinished} {Γ : Environment} {lv : ℕ} {s : State} {v : Value} (o : Option Ty) (i : ℕ) → Invariant nv ns Γ o lv s v
+    → (s′ : State) × (dropValue i s v ≡ ok s′) × (Invariant nv ns Γ none lv s′ empty)
+forget {nv} {ns} {Γ} {lv} {s} {v} none i I = (
   s,
   ap (λ (u : Value). dropValue i s u) (I .nothing refl) ∙ drop-empty i s,
   record { Θ = I .Θ; H = I .H; ρ = I .ρ; rank = I .rank; mem = I .mem; typed = I .typed; vars = I .vars; flight = I .flight; idle = I .idle; nothing = λ e. refl; deep = I .deep; scope = I .scope },
 )
-forget {nv} {Γ} {lv} {s} {v} (some t) i I = (
+forget {nv} {ns} {Γ} {lv} {s} {v} (some t) i I = (
   withStore s (E .A),
   E .ran,
   record {
@@ -38,7 +40,7 @@ forget {nv} {Γ} {lv} {s} {v} (some t) i I = (
     rank = I .rank;
     mem = E .mem;
     typed = T₂;
-    vars = λ x. covers-same (Θ′ (var x)) (I .Θ (var x)) (Γ x) (same (var x) var≢flight) (I .vars x);
+    vars = λ x. covers-less (Θ′ (var x)) (I .Θ (var x)) (Γ x) known (same (var x) var≢flight) (I .vars x);
     flight = vac-covers (Θ′ inFlight) used (upd-same (I .Θ) inFlight vacant) (λ v e. used≢live e);
     idle = same inDrop drop≢flight ∙ I .idle;
     nothing = λ e. refl;
@@ -61,6 +63,9 @@ forget {nv} {Γ} {lv} {s} {v} (some t) i I = (
 
     same : (z : Name) → (z ≡ inFlight → ⊥) → Θ′ z ≡ I .Θ z
     same z n = upd-other (I .Θ) inFlight vacant z n
+
+    known : {z : Name} → Known ns Θ′ z → Known ns (I .Θ) z
+    known = known-off (λ z. z ≡ inFlight) (λ z. nameDec z inFlight) same (λ z Q p h K. absurd (vacant≢live (sym (upd-same (I .Θ) inFlight vacant) ∙ ap Θ′ (sym h) ∙ K .is)))
 
     G₁ : Name → Type 0
     G₁ z = ⊥ ⊎ (z ≡ inFlight)

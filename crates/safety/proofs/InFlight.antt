@@ -4,6 +4,7 @@ use native.Mathlib.Omega.{arith}
 use mathlib.Core.Path.{_≡_, refl, ap}
 use mathlib.Core.Option.{Option, some}
 use Rattle.rules.specs.Environment.{live, Environment, Ty, fresh}
+use Rattle.rules.specs.Uses.{Unfinished}
 use Rattle.machine.specs.Values.{Location, Value, num, reference}
 use Rattle.machine.specs.Store.{State}
 use Rattle.safety.proofs.Memory.{Name, inFlight, has}
@@ -18,7 +19,7 @@ pub data Full : Value → Type 0 where
   f-num : (n : ℕ) → Full (num n)
   f-ref : (l : Location) → Full (reference l)
 
-module _ {nv : ℕ} {Γ : Environment} {o : Option Ty} {lv : ℕ} {s : State} {v : Value} (I : Invariant nv Γ o lv s v) where
+module _ {nv : ℕ} {ns : Unfinished} {Γ : Environment} {o : Option Ty} {lv : ℕ} {s : State} {v : Value} (I : Invariant nv ns Γ o lv s v) where
   -- What a whole name has.
   pub content : (x : Name) (q : Gh.Variable) → I .Θ x ≡ Gh.live q → boxes q < q .movedFrom → (u : Value) × (I .H x ≡ has (boxes q) u) × (Full u)
   content x q e g = go (q .borrow) refl
@@ -29,13 +30,13 @@ module _ {nv : ℕ} {Γ : Environment} {o : Option Ty} {lv : ℕ} {s : State} {v
       go (Gh.sharedOf p) f = let K = I .typed .at x q e .refs g p (ap borrowed f) in (reference (K .l), K .shape, f-ref (K .l))
       go (Gh.exclusiveOf p) f = let K = I .typed .at x q e .refs g p (ap borrowed f) in (reference (K .l), K .shape, f-ref (K .l))
 
-module _ {nv : ℕ} {Γ : Environment} {t : Ty} {lv : ℕ} {s : State} {v : Value} (I : Invariant nv Γ (some t) lv s v) where
+module _ {nv : ℕ} {ns : Unfinished} {Γ : Environment} {t : Ty} {lv : ℕ} {s : State} {v : Value} (I : Invariant nv ns Γ (some t) lv s v) where
   -- The value in flight.
-  pub flying : (q : Gh.Variable) × (I .Θ inFlight ≡ Gh.live q) × (Covered q (fresh (t .links) (t .borrow) lv))
+  pub flying : (q : Gh.Variable) × (I .Θ inFlight ≡ Gh.live q) × (Covered (Unit {0}) q (fresh (t .links) (t .borrow) lv))
   flying = covered-live (I .Θ inFlight) (live (fresh (t .links) (t .borrow) lv)) (fresh (t .links) (t .borrow) lv) (I .flight) refl
 
   pub flying-whole : boxes (flying .0) < flying .0 .movedFrom
   flying-whole = covered-whole (flying .2) (omega arith)
 
   pub flying-borrow : BorrowIn (flying .0 .borrow) (t .borrow)
-  flying-borrow = flying .2 .inside (omega arith)
+  flying-borrow = flying .2 .inside tt (omega arith)

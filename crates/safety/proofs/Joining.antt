@@ -12,6 +12,7 @@ use Rattle.reader.specs.Script.{Place}
 use Rattle.rules.specs.Links.{leadingBoxes}
 use Rattle.rules.specs.Places.{unite}
 use Rattle.rules.specs.Environment.{places, borrowEnd, Variable, Slot, free, used, live, Environment, Ty, fresh, borrowOf}
+use Rattle.rules.specs.Uses.{Unfinished}
 use Rattle.rules.specs.Choice.{carriedSlot, carried, movedFromOf, earlier, joinedSlot, joined, agreeing, either}
 use Rattle.rules.specs.Neat.{Among}
 use Rattle.rules.proofs.Slots.{free≢live, used≢live, carried-live, live-carried, joined-live}
@@ -30,9 +31,9 @@ use Rattle.safety.proofs.Wider.{Wider, WiderValue, value-same, wider-in
 
 -- ---- the numbers that the first block takes
 
-pub carrying : {nv : ℕ} {Γ : Environment} {lv : ℕ} {s : State} (Γ₁ : Environment) → Invariant nv Γ none lv s empty → Invariant nv (carried Γ Γ₁) none lv s empty
+pub carrying : {nv : ℕ} {ns : Unfinished} {Γ : Environment} {lv : ℕ} {s : State} (Γ₁ : Environment) → Invariant nv ns Γ none lv s empty → Invariant nv ns (carried Γ Γ₁) none lv s empty
 unfolding carried
-carrying {nv} {Γ} {lv} {s} Γ₁ I = wider-invariant {M = λ x. carriedSlot (Γ x) (Γ₁ x)} I
+carrying {nv} {ns} {Γ} {lv} {s} Γ₁ I = wider-invariant {M = λ x. carriedSlot (Γ x) (Γ₁ x)} I
     (record { up = λ x v e. (v, carried-live (Γ x) (Γ₁ x) v e, wide-same v); down = λ x v e. (v, live-carried (Γ x) (Γ₁ x) v e) })
     (value-same none lv)
 
@@ -119,14 +120,14 @@ either-value (some t) (some u) lv h =
 
 -- ---- after the block that ran
 
-module _ {nv : ℕ} {Γ : Environment} {lv : ℕ} {r : Ran Outcome} where
-  pub after-first : {Γ₁ : Environment} {o₁ : Option Ty} (Γ₂ : Environment) (o₂ : Option Ty) → Progress nv Γ Γ₁ o₁ lv r → Lived Γ Γ₁ → agreeing o₁ o₂ ≡ true
-      → Progress nv Γ (joined Γ Γ₁ Γ₂) (either o₁ o₂) lv r
+module _ {nv : ℕ} {ns : Unfinished} {Γ : Environment} {lv : ℕ} {r : Ran Outcome} where
+  pub after-first : {Γ₁ : Environment} {o₁ : Option Ty} (Γ₂ : Environment) (o₂ : Option Ty) → Progress nv ns Γ Γ₁ o₁ lv r → Lived Γ Γ₁ → agreeing o₁ o₂ ≡ true
+      → Progress nv ns Γ (joined Γ Γ₁ Γ₂) (either o₁ o₂) lv r
   after-first {Γ₁} {o₁} Γ₂ o₂ R al agree = widened R (first-wider Γ Γ₁ Γ₂ (R .lives) al) (either-value o₁ o₂ lv agree .0) (joined-used Γ Γ₁ Γ₂)
 
   -- The second block began with numbers taken that were free before the choice: no variable came into scope or left it by that.
-  pub after-second : {Γ₂ : Environment} {o₂ : Option Ty} (Γ₁ : Environment) (o₁ : Option Ty) → Progress nv (carried Γ Γ₁) Γ₂ o₂ lv r → Lived (carried Γ Γ₁) Γ₂ → agreeing o₁ o₂ ≡ true
-      → Progress nv Γ (joined Γ Γ₁ Γ₂) (either o₁ o₂) lv r
+  pub after-second : {Γ₂ : Environment} {o₂ : Option Ty} (Γ₁ : Environment) (o₁ : Option Ty) → Progress nv ns (carried Γ Γ₁) Γ₂ o₂ lv r → Lived (carried Γ Γ₁) Γ₂ → agreeing o₁ o₂ ≡ true
+      → Progress nv ns Γ (joined Γ Γ₁ Γ₂) (either o₁ o₂) lv r
   unfolding carried
   after-second {Γ₂} {o₂} Γ₁ o₁ R al agree =
       widened (record {

@@ -9,6 +9,7 @@ use lib.ListN.{length, drop}
 use Rattle.reader.specs.Script.{Place}
 use Rattle.rules.specs.Links.{Link, shared, leadingBoxes}
 use Rattle.rules.specs.Environment.{places, Variable, Slot, live, Environment, borrowOf, borrowsAt}
+use Rattle.rules.specs.Uses.{Unfinished, namedLater}
 use Rattle.rules.specs.Rules.{Located}
 use Rattle.rules.specs.Neat.{place, Among}
 use Rattle.machine.specs.Values.{empty}
@@ -20,6 +21,7 @@ use Rattle.rules.proofs.LinkChains.{boxes-drop}
 use Rattle.safety.proofs.Chains.{fits-down, fits-shared}
 use Rattle.safety.proofs.Paths.{inv-hop}
 use Rattle.safety.proofs.OnPath.{agreed}
+use Rattle.safety.proofs.Known.{Known, by-name, by-holder, known-along}
 use Rattle.safety.proofs.Certificates.{Whole, root-whole}
 use Rattle.rules.proofs.SetLaws.{borrows-in}
 use Rattle.safety.proofs.Covering.{BorrowIn, borrow-among, borrow-known, Covered, covered-back, covered-whole}
@@ -34,7 +36,7 @@ beyond {Γ} {w} {c} {x} {d} {r} {j} W q eW bq (hop Q p e f a b E) D l =
     subst (λ (n : ℕ). Reach Γ w d (var (q .root)) (q .follows + n)) (omega arith)
     (beyond W q eW bq E (inv-hop {r = r} Q p D e f (omega arith)) (omega arith))
 
-module _ {nv : ℕ} {Γ : Environment} {lv : ℕ} {s : State} (I : Invariant nv Γ none lv s empty) where
+module _ {nv : ℕ} {ns : Unfinished} {Γ : Environment} {lv : ℕ} {s : State} (I : Invariant nv ns Γ none lv s empty) where
   -- The variable that a place leads to holds a place shared, and the judge knows.
   pub record Lender (p : Place) (l : Located) (i : ℕ) (F : Found I p l i) : Type 0 where
     pub W : Gh.Variable
@@ -46,13 +48,14 @@ module _ {nv : ℕ} {Γ : Environment} {lv : ℕ} {s : State} (I : Invariant nv 
     pub lends : W .borrow ≡ Gh.sharedOf q
     pub ref : Ref (I .Θ) (I .H) (I .ρ) (I .rank) (var (F .c)) W q
     pub recorded : Among q (borrowsAt Γ (l .to))
+    pub known : Known ns (I .Θ) (var (q .root))
     -- Nobody holds that root exclusively.
     pub alone : (y : Name) (B : Gh.Variable) (k : Place) → Holds (I .Θ) y B k → q .root ≡ k .root → isExclusive (B .borrow) ≡ true → ⊥
 
-  pub lender : (p : Place) (l : Located) (i : ℕ) (F : Found I p l i) (ks : List Link) → Whole Γ (p .root) (l .root)
+  pub lender : (p : Place) (l : Located) (i : ℕ) (F : Found I p l i) (ks : List Link) → namedLater ns (p .root) ≡ true → Whole Γ (p .root) (l .root)
       → drop (p .follows) (l .root .chain) ≡ shared ∷ ks → Lender p l i F
   unfolding leadingBoxes borrowOf
-  lender p l i F ks wh e = record {
+  lender p l i F ks nm wh e = record {
     W = W;
     is = P .1;
     whole = P .3;
@@ -62,6 +65,7 @@ module _ {nv : ℕ} {Γ : Environment} {lv : ℕ} {s : State} (I : Invariant nv 
     lends = f .1;
     ref = I .typed .at w W (P .1) .refs (P .3) (f .0) bq;
     recorded = borrows-in Γ (f .0) (place (F .c) d) (l .to) (F .among) (subst (λ (n : Slot). Among (f .0) (places (borrowOf n))) (sym (C .1)) (borrow-among B (f .0) bq));
+    known = by-holder W (f .0) (known-along (F .reach) (by-name nm)) (record { is = P .1; whole = P .3; at = bq });
     alone = λ y A k L r x.
         let O : Holds (I .Θ) w W (f .0) = record { is = P .1; whole = P .3; at = bq } in
         let z : y ≡ w = I .typed .exclusive y w A W k (f .0) L O (sym r) x in
@@ -88,14 +92,14 @@ module _ {nv : ℕ} {Γ : Environment} {lv : ℕ} {s : State} (I : Invariant nv 
       N : (u : Variable) × (Γ (M .0) ≡ live u) × (leadingBoxes (u .chain) < u .movedFrom)
       N = wh .all (place (M .0) (M .1)) (M .3)
 
-      C : (v : Variable) × (Γ (F .c) ≡ live v) × (Covered W v)
+      C : (v : Variable) × (Γ (F .c) ≡ live v) × (Covered (Known ns (I .Θ) (var (F .c))) W v)
       C = covered-back (I .Θ w) (Γ (F .c)) W (I .vars (F .c)) (P .1)
 
       same : C .0 ≡ N .0
       same = let y : F .c ≡ M .0 = (let z = M .2 in cc) in let a : live (C .0) ≡ live (N .0) = sym (C .1) ∙ ap Γ y ∙ N .1 in cc
 
       B : BorrowIn (W .borrow) (C .0 .borrow)
-      B = C .2 .inside (subst (λ (k : Variable). leadingBoxes (k .chain) < k .movedFrom) (sym same) (N .2))
+      B = C .2 .inside (known-along (F .reach) (by-name nm)) (subst (λ (k : Variable). leadingBoxes (k .chain) < k .movedFrom) (sym same) (N .2))
 
       c : drop d (W .chain) ≡ shared ∷ ks
       c = sym (agreed (I .typed) (F .reach) (F .X) W (F .isX) (P .1)) ∙ ap (λ (k : List Link). drop (p .follows) k) (F .covX .chain) ∙ e

@@ -3,11 +3,13 @@ use Prim.Native.Nat.{ℕ, _+_, _-_, _≤_, _<_, zero-le}
 use native.Mathlib.Omega.{arith}
 use native.Mathlib.Decide.{ℕ-discrete}
 use mathlib.Core.Path.{_≡_, refl, sym, ap, ap₂, _∙_, subst}
-use mathlib.Core.Logic.{_≢_, inl, inr}
+use mathlib.Core.Logic.{_≢_, _⊎_, inl, inr}
 use mathlib.Core.Option.{Option, none, some}
 use mathlib.Core.List.{_∷_}
 use Rattle.reader.specs.Result.{ok, _>>=_, need}
+use Rattle.reader.specs.Script.{Place}
 use Rattle.rules.specs.Environment.{Variable, Slot, free, used, live, Environment, Ty, update, fresh}
+use Rattle.rules.specs.Uses.{Unfinished}
 use Rattle.rules.specs.Rules.{Out, valued, judgeLet}
 use Rattle.rules.proofs.Slots.{free≢live, used≢live, update-same, update-other}
 use Rattle.machine.specs.Values.{variable, Value, empty, closed, openWith}
@@ -15,23 +17,24 @@ use Rattle.machine.specs.Store.{Store, put, isOpen, State}
 use Rattle.machine.specs.Run.{runLet}
 use Rattle.rules.proofs.Answers.{err≢ok}
 use Rattle.machine.proofs.StoreLaws.{put-same}
-use Rattle.safety.proofs.Memory.{Name, inFlight, inDrop, var, Spot, Content, noRow, has, p-empty, Memory, var≢flight, var≢drop, drop≢flight}
+use Rattle.safety.proofs.Memory.{Name, inFlight, inDrop, var, Spot, Content, noRow, has, p-empty, Memory, eitherDec, var≢flight, var≢drop, drop≢flight}
 use Rattle.safety.proofs.NameMaps.{upd, upd-same, upd-other}
 use Rattle.safety.proofs.Lifted.{lift, lift-other, lift-flight}
 use Rattle.safety.proofs.Transfer.{moved, moved-other, transfer}
 use Rattle.safety.proofs.Naming.{open-name, close-name}
 use Rattle.safety.proofs.Ghost.{vacant}
 use Rattle.safety.proofs.Ghost as Gh
-use Rattle.safety.proofs.Typing.{boxes, Typed}
+use Rattle.safety.proofs.Typing.{borrowed, boxes, Holds, Typed}
 use Rattle.safety.proofs.Handing.{handed}
-use Rattle.safety.proofs.Covering.{covers, vacant≢live, covered-none, vac-covers, live-covers, covered-fresh}
-use Rattle.safety.proofs.Invariant.{Member, nobody, Invariant, covers-same, deep-ghost}
+use Rattle.safety.proofs.Known.{Known, by-flight, by-holder, known-off}
+use Rattle.safety.proofs.Covering.{covers, vacant≢live, covered-none, vac-covers, live-covers, covers-less, covered-fresh}
+use Rattle.safety.proofs.Invariant.{Member, nobody, Invariant, deep-ghost}
 use Rattle.safety.proofs.InFlight.{Full, content, flying, flying-whole, flying-borrow}
 
 -- A variable's number is taken.
-pub taking : {nv : ℕ} {Γ : Environment} {lv : ℕ} {s : State} (x : ℕ) → Γ x ≡ free → Invariant nv Γ none lv s empty
-    → Invariant nv (update Γ x used) none lv s empty
-taking {nv} {Γ} {lv} {s} x e I = record {
+pub taking : {nv : ℕ} {ns : Unfinished} {Γ : Environment} {lv : ℕ} {s : State} (x : ℕ) → Γ x ≡ free → Invariant nv ns Γ none lv s empty
+    → Invariant nv ns (update Γ x used) none lv s empty
+taking {nv} {ns} {Γ} {lv} {s} x e I = record {
   Θ = I .Θ;
   H = I .H;
   ρ = I .ρ;
@@ -46,14 +49,14 @@ taking {nv} {Γ} {lv} {s} x e I = record {
   scope = λ y q h. I .scope y q (back y q h);
 }
   where
-    vars′ : (y : ℕ) → Dec (y ≡ x) → covers (I .Θ (var y)) (update Γ x used y)
+    vars′ : (y : ℕ) → Dec (y ≡ x) → covers (Known ns (I .Θ) (var y)) (I .Θ (var y)) (update Γ x used y)
     vars′ y (yes k) = vac-covers (I .Θ (var y)) (update Γ x used y) (covered-none (I .Θ (var y)) (Γ y) (I .vars y) (λ v h. free≢live (sym e ∙ ap Γ (sym k) ∙ h))) (λ v h. used≢live (sym (update-same Γ x used) ∙ ap (λ (n : ℕ). update Γ x used n) (sym k) ∙ h))
-    vars′ y (no k) = subst (λ (sl : Slot). covers (I .Θ (var y)) sl) (sym (update-other Γ x used y k)) (I .vars y)
+    vars′ y (no k) = subst (λ (sl : Slot). covers (Known ns (I .Θ) (var y)) (I .Θ (var y)) sl) (sym (update-other Γ x used y k)) (I .vars y)
 
     back : (y : ℕ) (q : Variable) → update Γ x used y ≡ live q → Γ y ≡ live q
     back y q h = elim (ℕ-discrete y x) [ yes k ↦ absurd (used≢live (sym (update-same Γ x used) ∙ ap (λ (n : ℕ). update Γ x used n) (sym k) ∙ h)) | no k ↦ sym (update-other Γ x used y k) ∙ h ]
 
-module _ {nv : ℕ} {Γ : Environment} {t : Ty} {lv : ℕ} {s : State} {v : Value} (I : Invariant nv Γ (some t) lv s v) where
+module _ {nv : ℕ} {ns : Unfinished} {Γ : Environment} {t : Ty} {lv : ℕ} {s : State} {v : Value} (I : Invariant nv ns Γ (some t) lv s v) where
   run-let : (i x : ℕ) → s .store (variable x) ≡ closed
       → runLet s i x v ≡ ok (record { store = put (s .store) (variable x) (openWith v); taken = s .taken; opened = x ∷ s .opened }, empty)
   unfolding runLet isOpen need _>>=_
@@ -63,7 +66,7 @@ module _ {nv : ℕ} {Γ : Environment} {t : Ty} {lv : ℕ} {s : State} {v : Valu
   U = fresh (t .links) (t .borrow) lv
 
   letting : (i x : ℕ) → Γ x ≡ used → x < nv
-      → (s′ : State) × (runLet s i x v ≡ ok (s′, empty)) × (Invariant nv (update Γ x (live U)) none lv s′ empty)
+      → (s′ : State) × (runLet s i x v ≡ ok (s′, empty)) × (Invariant nv ns (update Γ x (live U)) none lv s′ empty)
       × ((y : ℕ) (q : Variable) → update Γ x (live U) y ≡ live q → q .level < lv → (k : Variable) × (Γ y ≡ live k) × (k .level ≡ q .level))
   letting i x ux xn = (
     record { store = put S (variable x) (openWith v); taken = s .taken; opened = x ∷ s .opened },
@@ -151,12 +154,23 @@ module _ {nv : ℕ} {Γ : Environment} {t : Ty} {lv : ℕ} {s : State} {v : Valu
       Θ′z : (z : Name) → z ≢ inFlight → z ≢ b → Θ′ z ≡ I .Θ z
       Θ′z z n k = upd-other (upd (I .Θ) b g) inFlight vacant z n ∙ upd-other (I .Θ) b g z k
 
-      vars′ : (y : ℕ) → covers (Θ′ (var y)) (update Γ x (live U) y)
+      -- The variable holds what the value in flight held.
+      known : {z : Name} → Known ns Θ′ z → Known ns (I .Θ) z
+      known = known-off (λ z. (z ≡ b) ⊎ (z ≡ inFlight)) (eitherDec b inFlight) (λ z n. Θ′z z (λ e. n (inr e)) (λ e. n (inl e))) new
+        where
+          new : (z : Name) (Q : Gh.Variable) (k : Place) → (z ≡ b) ⊎ (z ≡ inFlight) → Holds Θ′ z Q k → Known ns (I .Θ) (var (k .root))
+          new z Q k (inl h) K =
+              let e : g ≡ Gh.live Q = sym Θ′b ∙ ap Θ′ (sym h) ∙ K .is in
+              let u : Gh.fresh (q .chain) (q .borrow) lv ≡ Q = cc in
+              by-holder q k by-flight (record { is = flying I .1; whole = flying-whole I; at = ap (λ (y : Gh.Variable). borrowed (y .borrow)) u ∙ K .at })
+          new z Q k (inr h) K = absurd (vacant≢live (sym Θ′t ∙ ap Θ′ (sym h) ∙ K .is))
+
+      vars′ : (y : ℕ) → covers (Known ns Θ′ (var y)) (Θ′ (var y)) (update Γ x (live U) y)
       vars′ y = go (ℕ-discrete y x)
         where
-          go : Dec (y ≡ x) → covers (Θ′ (var y)) (update Γ x (live U) y)
+          go : Dec (y ≡ x) → covers (Known ns Θ′ (var y)) (Θ′ (var y)) (update Γ x (live U) y)
           go (yes k) = live-covers (Θ′ (var y)) (update Γ x (live U) y) _ U (ap (λ (z : ℕ). Θ′ (var z)) k ∙ Θ′b) (ap (λ (z : ℕ). update Γ x (live U) z) k ∙ update-same Γ x (live U)) (covered-fresh (flying I .2 .chain) refl (flying-borrow I))
-          go (no k) = subst (λ (sl : Slot). covers (Θ′ (var y)) sl) (sym (update-other Γ x (live U) y k)) (covers-same (Θ′ (var y)) (I .Θ (var y)) (Γ y) (Θ′z (var y) var≢flight (λ e. k (cc))) (I .vars y))
+          go (no k) = subst (λ (sl : Slot). covers (Known ns Θ′ (var y)) (Θ′ (var y)) sl) (sym (update-other Γ x (live U) y k)) (covers-less (Θ′ (var y)) (I .Θ (var y)) (Γ y) known (Θ′z (var y) var≢flight (λ e. k (cc))) (I .vars y))
 
       T : (rank : Name → ℕ) × Typed nv nobody Θ′ H₃ (moved (I .ρ) inFlight 0 b 0) rank
       T = handed (I .typed) inFlight b 0 q lv tb (flying I .1) (flying-whole I) zero-le dead (λ p R e f. deep-ghost I (p .root) R f)
@@ -205,9 +219,9 @@ module _ {nv : ℕ} {Γ : Environment} {t : Ty} {lv : ℕ} {s : State} {v : Valu
               let R = I .scope y q (sym (update-other Γ x (live U) y h) ∙ e) in
               (λ l. inr (R .0 l), λ i. elim i [ inl k ↦ absurd (h k) | inr k ↦ R .1 k ])
 
-module _ {nv : ℕ} {Γ : Environment} {lv : ℕ} {s : State} {v : Value} where
-  pub after-let : (o : Option Ty) → Invariant nv Γ o lv s v → (i x : ℕ) (out : Out) → Γ x ≡ used → x < nv → judgeLet nv lv Γ i x o ≡ ok out
-      → (s′ : State) × (runLet s i x v ≡ ok (s′, empty)) × (Invariant nv (out .0) (out .1) lv s′ empty)
+module _ {nv : ℕ} {ns : Unfinished} {Γ : Environment} {lv : ℕ} {s : State} {v : Value} where
+  pub after-let : (o : Option Ty) → Invariant nv ns Γ o lv s v → (i x : ℕ) (out : Out) → Γ x ≡ used → x < nv → judgeLet nv lv Γ i x o ≡ ok out
+      → (s′ : State) × (runLet s i x v ≡ ok (s′, empty)) × (Invariant nv ns (out .0) (out .1) lv s′ empty)
       × ((y : ℕ) (q : Variable) → out .0 y ≡ live q → q .level < lv → (k : Variable) × (Γ y ≡ live k) × (k .level ≡ q .level))
       × ((y : ℕ) → y ≢ x → out .0 y ≡ Γ y)
   unfolding judgeLet valued _>>=_
@@ -215,7 +229,7 @@ module _ {nv : ℕ} {Γ : Environment} {lv : ℕ} {s : State} {v : Value} where
   after-let (some t) I i x out ux xn h =
       let B = letting I i x ux xn in
       let z : (update Γ x (live (fresh (t .links) (t .borrow) lv)), none) ≡ out = cc in
-      subst (λ (q : Out). (s′ : State) × (runLet s i x v ≡ ok (s′, empty)) × (Invariant nv (q .0) (q .1) lv s′ empty)
+      subst (λ (q : Out). (s′ : State) × (runLet s i x v ≡ ok (s′, empty)) × (Invariant nv ns (q .0) (q .1) lv s′ empty)
       × ((y : ℕ) (r : Variable) → q .0 y ≡ live r → r .level < lv → (k : Variable) × (Γ y ≡ live k) × (k .level ≡ r .level))
       × ((y : ℕ) → y ≢ x → q .0 y ≡ Γ y)) z
       (B .0, B .1, B .2, B .3, λ y n. update-other Γ x _ y n)

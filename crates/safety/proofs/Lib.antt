@@ -24,13 +24,15 @@ pub mod Frames
 pub mod Handing
 pub mod Writing
 pub mod Fading
--- What is asked of the judge: certificates, and that its environment covers the proof's.
+-- What is asked of the judge: certificates, and that its environment covers the proof's, which knows what some of the names hold.
+pub mod Known
 pub mod Certificates
 pub mod Covering
 pub mod Widening
 pub mod Inversion
 -- The invariant, and where places lead.
 pub mod Invariant
+pub mod Settling
 pub mod Finding
 pub mod Following
 pub mod Progress

@@ -1,10 +1,12 @@
 -- Number, reading, below, sum; and the number at the place of a choice.
 use Prim.Native.Nat.{ℕ}
 use mathlib.Core.Path.{_≡_, refl}
+use mathlib.Core.Bool.{true}
 use mathlib.Core.Option.{none, some}
 use Rattle.reader.specs.Result.{ok, _>>=_}
 use Rattle.reader.specs.Script.{Place}
 use Rattle.rules.specs.Environment.{Environment}
+use Rattle.rules.specs.Uses.{Unfinished, namedLater}
 use Rattle.rules.specs.Rules.{numberTy, judgeReadable, judgeNumber}
 use Rattle.machine.specs.Values.{Location, empty, num, openWith}
 use Rattle.machine.specs.Store.{State, Ran}
@@ -18,8 +20,8 @@ use Rattle.safety.proofs.Following.{judged-found, is-whole}
 use Rattle.safety.proofs.Progress.{Progress, unchanged}
 use Rattle.safety.proofs.NewValue.{new-number}
 
-module _ {nv : ℕ} {Γ : Environment} {lv : ℕ} {s : State} (I : Invariant nv Γ none lv s empty) where
-  pub case-number : (n : ℕ) (r : Ran Outcome) → r ≡ ok (s, num n) → Progress nv Γ Γ (some numberTy) lv r
+module _ {nv : ℕ} {ns : Unfinished} {Γ : Environment} {lv : ℕ} {s : State} (I : Invariant nv ns Γ none lv s empty) where
+  pub case-number : (n : ℕ) (r : Ran Outcome) → r ≡ ok (s, num n) → Progress nv ns Γ Γ (some numberTy) lv r
   case-number n r e = unchanged I (some numberTy) (num n) r e (new-number I n)
 
   pub run-num : (i : ℕ) (p : Place) (loc : Location) (n : ℕ) → locate s i p ≡ ok loc → s .store loc ≡ openWith (num n)
@@ -27,12 +29,13 @@ module _ {nv : ℕ} {Γ : Environment} {lv : ℕ} {s : State} (I : Invariant nv 
   unfolding runNumber runCopy filled numberIn _>>=_
   run-num i p loc n e h = (rw (e, h) refl, rw (e, h) refl)
 
-  pub one-number : (i j : ℕ) (p : Place) (u : Unit {0}) → judgeNumber nv Γ j p ≡ ok u → (n : ℕ) × (runNumber s i p ≡ ok n)
+  pub one-number : (js : Unfinished) (i j : ℕ) (p : Place) (u : Unit {0}) → namedLater ns (p .root) ≡ true → judgeNumber nv js Γ j p ≡ ok u
+      → (n : ℕ) × (runNumber s i p ≡ ok n)
   unfolding judgeNumber
-  one-number i j p u h =
-      let a = then (judgeReadable nv Γ j p) _ u h in
-      let b = readable-ok nv Γ j p (a .0) (a .1) in
-      let F = judged-found I i j p (a .0) (b .0) in
+  one-number js i j p u nm h =
+      let a = then (judgeReadable nv js Γ j p) _ u h in
+      let b = readable-ok nv js Γ j p (a .0) (a .1) in
+      let F = judged-found I i j p (a .0) nm (b .0) in
       let N = number-there I p (a .0) i F (is-whole nv Γ (p .root) (a .0 .root) (b .1)) (number-nil _ (needed _ _ _ (a .2))) in
       (N .0, run-num i p (F .loc) (N .0) (F .run) (N .2 (F .loc) (F .run)) .0)
 
@@ -41,9 +44,10 @@ module _ {nv : ℕ} {Γ : Environment} {lv : ℕ} {s : State} (I : Invariant nv 
   run-both f i p q a b d e = rw (d, e) refl
 
   -- The numbers at two places, whatever f makes of them.
-  pub case-pair : (f : ℕ → ℕ → ℕ) (i : ℕ) (p q : Place) (u u′ : Unit {0}) → judgeNumber nv Γ i p ≡ ok u → judgeNumber nv Γ i q ≡ ok u′
-      → Progress nv Γ Γ (some numberTy) lv (runPair f s i p q)
-  case-pair f i p q u u′ d e =
-      let a = one-number i i p u d in
-      let b = one-number i i q u′ e in
+  pub case-pair : (js : Unfinished) (f : ℕ → ℕ → ℕ) (i : ℕ) (p q : Place) (u u′ : Unit {0}) → namedLater ns (p .root) ≡ true → namedLater ns (q .root) ≡ true
+      → judgeNumber nv js Γ i p ≡ ok u → judgeNumber nv js Γ i q ≡ ok u′
+      → Progress nv ns Γ Γ (some numberTy) lv (runPair f s i p q)
+  case-pair js f i p q u u′ m n d e =
+      let a = one-number js i i p u m d in
+      let b = one-number js i i q u′ n e in
       case-number (f (a .0) (b .0)) (runPair f s i p q) (run-both f i p q (a .0) (b .0) (a .1) (b .1))

@@ -6,15 +6,17 @@ use mathlib.Core.Path.{_≡_, refl, sym, ap, _∙_, subst}
 use mathlib.Core.Logic.{_≢_}
 use mathlib.Core.Option.{Option}
 use Rattle.rules.specs.Environment.{Variable, Slot, used, live, Environment, Ty, update}
+use Rattle.rules.specs.Uses.{Unfinished}
 use Rattle.rules.proofs.Slots.{used≢live, update-same, update-other}
 use Rattle.machine.specs.Values.{Value}
 use Rattle.machine.specs.Store.{State}
 use Rattle.safety.proofs.Memory.{Name, var}
 use Rattle.safety.proofs.Ghost as Gh
+use Rattle.safety.proofs.Known.{Known}
 use Rattle.safety.proofs.Covering.{Covered, covers, live-covers}
-use Rattle.safety.proofs.Invariant.{Member, Invariant, covers-same}
+use Rattle.safety.proofs.Invariant.{Member, Invariant}
 
-module _ {nv : ℕ} {Γ : Environment} {o : Option Ty} {lv : ℕ} {s : State} {v : Value} (I : Invariant nv Γ o lv s v) where
+module _ {nv : ℕ} {ns : Unfinished} {Γ : Environment} {o : Option Ty} {lv : ℕ} {s : State} {v : Value} (I : Invariant nv ns Γ o lv s v) where
   module _ (x : ℕ) (X N : Variable) (eX : Γ x ≡ live X) (lN : N .level ≡ X .level) (cN : N .chain ≡ X .chain) where
     pub levels-update : (y : ℕ) (q : Variable) → update Γ x (live N) y ≡ live q → (k : Variable) × (Γ y ≡ live k) × (k .level ≡ q .level)
     levels-update y q e = go (ℕ-discrete y x)
@@ -50,10 +52,10 @@ module _ {nv : ℕ} {Γ : Environment} {o : Option Ty} {lv : ℕ} {s : State} {v
         go (no h) = (k, update-other Γ x (live N) y h ∙ e, refl, refl)
 
     -- The proof's environment with the change.
-    pub vars-update : (Θ′ : Name → Gh.Slot) (n : Gh.Variable) → Θ′ (var x) ≡ Gh.live n → Covered n N → ((y : ℕ) → y ≢ x → Θ′ (var y) ≡ I .Θ (var y))
-        → (y : ℕ) → covers (Θ′ (var y)) (update Γ x (live N) y)
+    pub vars-update : (Θ′ : Name → Gh.Slot) (n : Gh.Variable) → Θ′ (var x) ≡ Gh.live n → Covered (Known ns Θ′ (var x)) n N
+        → ((y : ℕ) → y ≢ x → covers (Known ns Θ′ (var y)) (Θ′ (var y)) (Γ y)) → (y : ℕ) → covers (Known ns Θ′ (var y)) (Θ′ (var y)) (update Γ x (live N) y)
     vars-update Θ′ n en c h y = go (ℕ-discrete y x)
       where
-        go : Dec (y ≡ x) → covers (Θ′ (var y)) (update Γ x (live N) y)
-        go (yes k) = live-covers (Θ′ (var y)) (update Γ x (live N) y) n N (ap (λ (z : ℕ). Θ′ (var z)) k ∙ en) (ap (λ (z : ℕ). update Γ x (live N) z) k ∙ update-same Γ x (live N)) c
-        go (no k) = subst (λ (sl : Slot). covers (Θ′ (var y)) sl) (sym (update-other Γ x (live N) y k)) (covers-same (Θ′ (var y)) (I .Θ (var y)) (Γ y) (h y k) (I .vars y))
+        go : Dec (y ≡ x) → covers (Known ns Θ′ (var y)) (Θ′ (var y)) (update Γ x (live N) y)
+        go (yes k) = live-covers (Θ′ (var y)) (update Γ x (live N) y) n N (ap (λ (z : ℕ). Θ′ (var z)) k ∙ en) (ap (λ (z : ℕ). update Γ x (live N) z) k ∙ update-same Γ x (live N)) (subst (λ (z : ℕ). Covered (Known ns Θ′ (var z)) n N) (sym k) c)
+        go (no k) = subst (λ (sl : Slot). covers (Known ns Θ′ (var y)) (Θ′ (var y)) sl) (sym (update-other Γ x (live N) y k)) (h y k)

@@ -14,7 +14,8 @@ use Rattle.reader.specs.Layout.{Form, inBytes, inRows}
 use Rattle.reader.specs.Reader.{Cursor, Reads, _>>=_ as _&_, done, expect, first, peek, skip, next, ranged, field, operands, zeroFields, restOfRow, known, kind, opening, counted, several, built, term, nothingLeft, over, script, mark, version, leading, wholeScript, answer, parse, decodeIn, decode}
 use Rattle.rules.specs.Environment.{Slot, free, used, live, Environment, Ty}
 use Rattle.rules.specs.Follow.{Met}
-use Rattle.rules.specs.Rules.{inScope, reached, valued, judgePlace, judgeReadable, judgeCopy, judgeMove, recordedPlaces, judgeShared, judgeExclusive, judgeBox, judgeLet, judgeAssign, judgeNumber, judgeBelow, judgeBlockEnd, judgeChoice}
+use Rattle.rules.specs.Uses.{Unfinished}
+use Rattle.rules.specs.Rules.{inScope, reached, valued, judgePlace, judgeReadable, judgeCopy, judgeMove, recordedPlaces, judgeShared, judgeExclusive, judgeBox, judgeLet, judgeWrite, judgeAssign, judgeNumber, judgeBelow, judgeBlockEnd, judgeChoice}
 use Rattle.rules.specs.Judge.{judge, judges, judgeScript}
 
 -- If the result is a refusal, its number is from a to b.
@@ -177,9 +178,9 @@ valued-only (some t) i = search steps
 ruleset of-rules = (steps, scope-only, reached-only, valued-only)
 
 module _ (nv : ℕ) where
-  number-only : (Γ : Environment) (i : ℕ) (p : Place) → Only 30 43 (judgeNumber nv Γ i p)
+  number-only : (ns : Unfinished) (Γ : Environment) (i : ℕ) (p : Place) → Only 30 43 (judgeNumber nv ns Γ i p)
   unfolding judgeNumber judgeReadable judgePlace
-  number-only Γ i p = search of-rules depth 8
+  number-only ns Γ i p = search of-rules depth 8
 
   recorded-only : (Γ : Environment) (i : ℕ) (p : Place) (passed : Option ℕ) → Only 30 43 (recordedPlaces nv Γ i p passed)
   unfolding recordedPlaces judgePlace
@@ -188,29 +189,29 @@ module _ (nv : ℕ) where
 
   -- The other rules are unfolded too. An inner term comes first, then the rule.
   mutual
-    unfolding judge judgePlace judgeReadable judgeCopy judgeMove judgeShared judgeExclusive judgeBox judgeLet judgeAssign judgeBelow judgeBlockEnd judgeChoice
+    unfolding judge judgePlace judgeReadable judgeCopy judgeMove judgeShared judgeExclusive judgeBox judgeLet judgeWrite judgeAssign judgeBelow judgeBlockEnd judgeChoice
 
-    judge-only : (t : Term) (level : ℕ) (Γ : Environment) → Only 30 43 (judge nv t level Γ)
-    judge-only (number i n) level Γ = search of-rules
-    judge-only (reading i n) level Γ = search of-rules
-    judge-only (copy i p) level Γ = search of-rules depth 8
-    judge-only (move i p) level Γ = search of-rules depth 8
-    judge-only (borrowShared i p) level Γ = search (of-rules, recorded-only) depth 8
-    judge-only (borrowExclusive i p) level Γ = search of-rules depth 8
-    judge-only (box i t) level Γ = onward (judge-only t level Γ) (λ o. search of-rules)
-    judge-only (declare i x t) level Γ = onward (search of-rules) (λ u. onward (judge-only t level _) (λ o. search of-rules))
-    judge-only (assign i p t) level Γ = onward (judge-only t level Γ) (λ o. search of-rules depth 8)
-    judge-only (below i p q) level Γ = search (of-rules, number-only)
-    judge-only (sum i p q) level Γ = search (of-rules, number-only)
-    judge-only (block i ts) level Γ = onward (judges-only ts (suc level) Γ) (λ o. search of-rules)
-    judge-only (choice i p j us k vs) level Γ =
-        onward (number-only Γ i p) (λ u.
-        onward (onward (judges-only us (suc level) Γ) (λ o. search of-rules)) (λ a.
-        onward (onward (judges-only vs (suc level) _) (λ o. search of-rules)) (λ b. search of-rules)))
+    judge-only : (t : Term) (level : ℕ) (ns : Unfinished) (Γ : Environment) → Only 30 43 (judge nv t level ns Γ)
+    judge-only (number i n) level ns Γ = search of-rules
+    judge-only (reading i n) level ns Γ = search of-rules
+    judge-only (copy i p) level ns Γ = search of-rules depth 8
+    judge-only (move i p) level ns Γ = search of-rules depth 8
+    judge-only (borrowShared i p) level ns Γ = search (of-rules, recorded-only) depth 8
+    judge-only (borrowExclusive i p) level ns Γ = search of-rules depth 8
+    judge-only (box i t) level ns Γ = onward (judge-only t level ns Γ) (λ o. search of-rules)
+    judge-only (declare i x t) level ns Γ = onward (search of-rules) (λ u. onward (judge-only t level ns _) (λ o. search of-rules))
+    judge-only (assign i p t) level ns Γ = onward (judge-only t level ns Γ) (λ o. search of-rules depth 8)
+    judge-only (below i p q) level ns Γ = search (of-rules, number-only)
+    judge-only (sum i p q) level ns Γ = search (of-rules, number-only)
+    judge-only (block i ts) level ns Γ = onward (judges-only ts (suc level) ns Γ) (λ o. search of-rules)
+    judge-only (choice i p j us k vs) level ns Γ =
+        onward (number-only ns Γ i p) (λ u.
+        onward (onward (judges-only us (suc level) ns Γ) (λ o. search of-rules)) (λ a.
+        onward (onward (judges-only vs (suc level) _ _) (λ o. search of-rules)) (λ b. search of-rules)))
 
-    judges-only : (ts : Terms) (level : ℕ) (Γ : Environment) → Only 30 43 (judges nv ts level Γ)
-    judges-only (last t) level Γ = judge-only t level Γ
-    judges-only (more t ts) level Γ = onward (judge-only t level Γ) (λ o. judges-only ts level (o .0))
+    judges-only : (ts : Terms) (level : ℕ) (ns : Unfinished) (Γ : Environment) → Only 30 43 (judges nv ts level ns Γ)
+    judges-only (last t) level ns Γ = judge-only t level ns Γ
+    judges-only (more t ts) level ns Γ = onward (judge-only t level ns Γ) (λ o. judges-only ts level _ (o .0))
 
   script-only : (t : Term) → Only 30 43 (judgeScript nv t)
   unfolding judgeScript

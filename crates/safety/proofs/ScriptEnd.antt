@@ -7,6 +7,7 @@ use mathlib.Core.Option.{some}
 use mathlib.Core.List.{List, []}
 use Rattle.rules.specs.Links.{Link, leadingBoxes}
 use Rattle.rules.specs.Environment.{Variable, live, Environment, Ty}
+use Rattle.rules.specs.Uses.{Unfinished}
 use Rattle.machine.specs.Values.{variable, cell, Value, num, Row, closed, givenBack, openWith}
 use Rattle.machine.specs.Store.{State}
 use Rattle.safety.proofs.Memory.{Name, inFlight, inDrop, var, Spot, inCell, noRow, has, nameDec, var≢flight, top≢cell, has≢noRow}
@@ -18,7 +19,7 @@ use Rattle.safety.proofs.Covering.{covered-back}
 use Rattle.safety.proofs.Invariant.{Member, Invariant, drop-noRow}
 use Rattle.safety.proofs.InFlight.{flying, flying-whole}
 
-module _ {nv : ℕ} {Γ : Environment} {t : Ty} {s : State} {v : Value} (I : Invariant nv Γ (some t) 0 s v) (none-open : s .opened ≡ []) (nil : t .links ≡ []) where
+module _ {nv : ℕ} {ns : Unfinished} {Γ : Environment} {t : Ty} {s : State} {v : Value} (I : Invariant nv ns Γ (some t) 0 s v) (none-open : s .opened ≡ []) (nil : t .links ≡ []) where
   -- The outermost block has closed all that it opened, and there is no other.
   none-live : (x : ℕ) (q : Variable) → Γ x ≢ live q
   none-live x q e = subst (λ (k : List ℕ). Member x k) none-open (I .scope x q e .0 zero-le)

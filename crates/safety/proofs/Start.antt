@@ -3,6 +3,7 @@ use Prim.Native.Nat.{ℕ}
 use native.Mathlib.Omega.{arith}
 use mathlib.Core.Path.{_≡_, refl}
 use mathlib.Core.Option.{none}
+use Rattle.rules.specs.Uses.{Unfinished}
 use Rattle.rules.specs.Judge.{nothingTaken}
 use Rattle.rules.proofs.Slots.{free≢live}
 use Rattle.machine.specs.Values.{Value, empty, closed}
@@ -12,7 +13,7 @@ use Rattle.machine.proofs.Apart.{open≢closed}
 use Rattle.safety.proofs.Memory.{inFlight, inDrop, var, Spot, top, inCell, noRow, has}
 use Rattle.safety.proofs.Lifted.{lift}
 use Rattle.safety.proofs.Ghost.{vacant}
-use Rattle.safety.proofs.Covering.{vacant≢live}
+use Rattle.safety.proofs.Covering.{covers-free, covers-used, vacant≢live}
 use Rattle.safety.proofs.Invariant.{Invariant}
 
 all-closed : (q : Spot) → lift (λ l. closed) closed closed q ≡ closed
@@ -25,8 +26,8 @@ noRow≢has : {A : Type 0} {n : ℕ} {v : Value} → noRow ≡ has n v → A
 noRow≢has e = let z : _≡_ {A = ℕ} 0 1 = cc in absurd (omega arith)
 
 -- No name has a row, and none is in scope.
-pub start : (nv : ℕ) (earlier : Store) → Invariant nv (nothingTaken nv) none 0 (begun earlier) empty
-start nv earlier = record {
+pub start : (nv : ℕ) (ns : Unfinished) (earlier : Store) → Invariant nv ns (nothingTaken nv) none 0 (begun earlier) empty
+start nv ns earlier = record {
   Θ = λ z. vacant;
   H = λ z. noRow;
   ρ = λ x d. top x;
@@ -49,8 +50,8 @@ start nv earlier = record {
     exclusive = λ x y a b p q K. absurd (vacant≢live (K .is));
     absent = λ x g h. refl;
   };
-  vars = λ x. tt;
-  flight = tt;
+  vars = λ x. covers-free;
+  flight = covers-used;
   idle = refl;
   nothing = λ e. refl;
   deep = λ x q e. absurd (free≢live e);

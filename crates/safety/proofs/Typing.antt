@@ -102,12 +102,6 @@ pub record Typed (nv : ℕ) (G : Name → Type 0) (Γ : Name → Slot) (H : Name
 module _ (Γ Γ′ : Name → Slot) (X : Name → Type 0)
     (same : (z : Name) → (X z → ⊥) → Γ′ z ≡ Γ z)
     (shut : (x : Name) (Q : Variable) (p : Place) → Holds Γ x Q p → (X x → ⊥) → X (var (p .root)) → ⊥) where
-  pub avoid : {w : Name} {d : ℕ} {y : Name} {r : ℕ} → Reach Γ w d y r → (X y → ⊥) → (Reach Γ′ w d y r) × (X w → ⊥)
-  avoid {w} (here Q e a b) h = (here Q (same w h ∙ e) a b, h)
-  avoid {y} (hop Q p e q a b D) h =
-      let R = avoid D (shut y Q p (record { is = e; whole = a; at = q }) h) in
-      (hop Q p (same y h ∙ e) q a b (R .0), R .1)
-
   pub avoid-back : {w : Name} {d : ℕ} {y : Name} {r : ℕ} → Reach Γ′ w d y r → (X y → ⊥) → (Reach Γ w d y r) × (X w → ⊥)
   avoid-back {w} (here Q e a b) h = (here Q (sym (same w h) ∙ e) a b, h)
   avoid-back {y} (hop Q p e q a b D) h =

@@ -6,13 +6,15 @@ use mathlib.Core.List.{List, [], _∷_}
 use Rattle.reader.specs.Script.{Place}
 use Rattle.rules.specs.Links.{Link, boxed, shared, exclusive, leadingBoxes}
 use Rattle.rules.specs.Places.{unite}
-use Rattle.rules.specs.Environment.{Borrow, noBorrow, sharedOf, exclusiveOf, places, borrowEnd, Variable, fresh, wider}
+use Rattle.rules.specs.Environment.{Borrow, noBorrow, sharedOf, exclusiveOf, places, borrowEnd, Variable, Slot, free, used, live, fresh, wider}
 use Rattle.rules.specs.Neat.{Among}
+use Rattle.rules.proofs.Slots.{free≢live, used≢live}
 use Rattle.rules.proofs.SetLaws.{unite-left, unite-right}
+use Rattle.safety.proofs.Memory.{Name}
 use Rattle.safety.proofs.Ghost as Gh
 use Rattle.safety.proofs.Typing.{Fits}
-use Rattle.safety.proofs.Fading.{faded, fade-none}
-use Rattle.safety.proofs.Covering.{BorrowIn, in-none, in-shared, in-exclusive, Covered}
+use Rattle.safety.proofs.Fading.{faded, fade-none, without, without-off, without-on, without-vacant}
+use Rattle.safety.proofs.Covering.{BorrowIn, in-none, in-shared, in-exclusive, Covered, covers, covers-free, covers-used, covers-live, vac-covers, live-covers, covers-less}
 
 end-none : (ks : List Link) (ps : List Place) → Fits ks Gh.noBorrow → borrowEnd ks ps ≡ noBorrow
 unfolding borrowEnd
@@ -66,9 +68,9 @@ wide-new v b l =
     wide-end (fresh (v .chain) b (v .level)) (wider v b) (unite (places (v .borrow)) (places b)) refl refl l refl (λ p i. unite-right p (places (v .borrow)) (places b) i)
 
 -- What covers goes on to cover; a name that the judge counts as moved away must forget its borrow for that.
-pub covered-wide : {q : Gh.Variable} {u v : Variable} → Covered q u → Wide u v → Fits (q .chain) (q .borrow) → leadingBoxes (v .chain) < v .movedFrom
-    → Covered q v
-covered-wide {q} {u} {v} c w f g =
+pub covered-wide : {K : Type 0} {q : Gh.Variable} {u v : Variable} → Covered K q u → Wide u v → Fits (q .chain) (q .borrow)
+    → leadingBoxes (v .chain) < v .movedFrom → Covered K q v
+covered-wide {K} {q} {u} {v} c w f g =
     let n : leadingBoxes (u .chain) ≡ leadingBoxes (v .chain) = ap leadingBoxes (w .chain) in
     let l = w .less in
     let k = c .less in
@@ -78,12 +80,16 @@ covered-wide {q} {u} {v} c w f g =
       level = c .level ∙ w .level;
       less = omega arith;
       cap = omega arith;
-      inside = λ h. w .borrow (q .borrow) (subst (λ (y : List Link). Fits y (q .borrow)) (c .chain ∙ w .chain) f) (c .inside (omega arith));
-      outside = λ h. absurd (omega arith);
+      inside = λ k h. wide (c .inside k (omega arith));
+      holds = λ p e h. (g, wide (c .holds p e h .1));
     }
+  where
+    wide : BorrowIn (q .borrow) (u .borrow) → BorrowIn (q .borrow) (v .borrow)
+    wide b = w .borrow (q .borrow) (subst (λ (y : List Link). Fits y (q .borrow)) (c .chain ∙ w .chain) f) b
 
-pub covered-faded : {q : Gh.Variable} {u v : Variable} → Covered q u → Wide u v → v .movedFrom ≤ leadingBoxes (v .chain) → Covered (faded q) v
-covered-faded {q} {u} {v} c w g =
+pub covered-faded : {K : Type 0} {q : Gh.Variable} {u v : Variable} → Covered K q u → Wide u v → v .movedFrom ≤ leadingBoxes (v .chain)
+    → Covered K (faded q) v
+covered-faded {K} {q} {u} {v} c w g =
     let l = w .less in
     let k = c .less in
     record {
@@ -91,6 +97,27 @@ covered-faded {q} {u} {v} c w g =
       level = c .level ∙ w .level;
       less = omega arith;
       cap = omega arith;
-      inside = λ h. absurd (omega arith);
-      outside = λ h p f. absurd (fade-none (q .borrow) p f);
+      inside = λ k h. absurd (omega arith);
+      holds = λ p f. absurd (fade-none (q .borrow) p f);
     }
+
+-- Who need not be known may forget what it borrows.
+pub without-covers : {K K′ : Type 0} (Θ : Name → Gh.Slot) (X : Name → Type 0) (xDec : (z : Name) → Dec (X z)) (z : Name) (sl : Slot) → covers K (Θ z) sl
+    → (X z → (q : Gh.Variable) → Θ z ≡ Gh.live q → K′ → ⊥) → (K′ → K) → covers K′ (without Θ X xDec z) sl
+without-covers {K} {K′} Θ X xDec z sl c n f = go (xDec z)
+  where
+    forgets : X z → (g : Gh.Slot) (sl : Slot) → Θ z ≡ g → covers K g sl → covers K′ (without Θ X xDec z) sl
+    forgets h g sl e covers-free = vac-covers (without Θ X xDec z) free (without-vacant Θ X xDec z e) (λ v k. free≢live k)
+    forgets h g sl e covers-used = vac-covers (without Θ X xDec z) used (without-vacant Θ X xDec z e) (λ v k. used≢live k)
+    forgets h g sl e (covers-live {q = q} {v = v} k) = live-covers (without Θ X xDec z) (live v) (faded q) v (without-on Θ X xDec z q h e) refl (record {
+      chain = k .chain;
+      level = k .level;
+      less = k .less;
+      cap = k .cap;
+      inside = λ u. absurd (n h q e u);
+      holds = λ p e. absurd (fade-none (q .borrow) p e);
+    })
+
+    go : Dec (X z) → covers K′ (without Θ X xDec z) sl
+    go (yes h) = forgets h (Θ z) sl refl c
+    go (no h) = covers-less (without Θ X xDec z) (Θ z) sl f (without-off Θ X xDec z h) c

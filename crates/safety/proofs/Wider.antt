@@ -8,6 +8,7 @@ use mathlib.Core.Logic.{_≢_}
 use mathlib.Core.Option.{Option, none}
 use Rattle.rules.specs.Links.{leadingBoxes}
 use Rattle.rules.specs.Environment.{Variable, Slot, free, used, live, Environment, Ty}
+use Rattle.rules.specs.Uses.{Unfinished}
 use Rattle.rules.proofs.Slots.{free≢live, used≢live}
 use Rattle.machine.specs.Values.{Value, Row, closed}
 use Rattle.machine.specs.Store.{State, Ran}
@@ -16,10 +17,11 @@ use Rattle.safety.proofs.Memory.{Name, inFlight, inDrop, var, Memory}
 use Rattle.safety.proofs.Lifted.{lift}
 use Rattle.safety.proofs.Ghost as Gh
 use Rattle.safety.proofs.Typing.{Fits, Typed}
-use Rattle.safety.proofs.Fading.{faded, fading, without, without-off, without-on, without-in}
-use Rattle.safety.proofs.Covering.{covers, covered-live, covered-none, vac-covers, live-covers}
+use Rattle.safety.proofs.Fading.{faded, without, without-off, without-on, without-typed, without-holds}
+use Rattle.safety.proofs.Known.{Known, by-holder, known-less}
+use Rattle.safety.proofs.Covering.{covers, covered-live, covered-none, vac-covers, live-covers, covered-less, covers-less}
 use Rattle.safety.proofs.Widening.{Wide, covered-wide, covered-faded}
-use Rattle.safety.proofs.Invariant.{Member, flightSlot, flightRow, nobody, Invariant, covers-same}
+use Rattle.safety.proofs.Invariant.{Member, flightSlot, flightRow, nobody, Invariant}
 use Rattle.safety.proofs.Progress.{Progress}
 
 -- The same variables are in scope, and each stands for at least as much in M.
@@ -30,7 +32,7 @@ pub record Wider (Γ M : Environment) : Type 0 where
 -- The value in flight likewise.
 pub record WiderValue (o o′ : Option Ty) (lv : ℕ) : Type 0 where
   pub row : (v : Value) → flightRow o v ≡ flightRow o′ v
-  pub flight : (g : Gh.Slot) → ((q : Gh.Variable) → g ≡ Gh.live q → Fits (q .chain) (q .borrow)) → covers g (flightSlot o lv) → covers g (flightSlot o′ lv)
+  pub flight : (g : Gh.Slot) → ((q : Gh.Variable) → g ≡ Gh.live q → Fits (q .chain) (q .borrow)) → covers (Unit {0}) g (flightSlot o lv) → covers (Unit {0}) g (flightSlot o′ lv)
   pub no-value : o′ ≡ none → o ≡ none
 
 pub value-same : (o : Option Ty) (lv : ℕ) → WiderValue o o lv
@@ -71,7 +73,7 @@ lost-name M inFlight = no (λ h. h)
 lost-name M inDrop = no (λ h. h)
 lost-name M (var x) = lost-dec (M x)
 
-module _ {nv : ℕ} {Γ M : Environment} {o o′ : Option Ty} {lv : ℕ} {s : State} {v : Value} (I : Invariant nv Γ o lv s v) (W : Wider Γ M) (V₀ : WiderValue o o′ lv) where
+module _ {nv : ℕ} {ns : Unfinished} {Γ M : Environment} {o o′ : Option Ty} {lv : ℕ} {s : State} {v : Value} (I : Invariant nv ns Γ o lv s v) (W : Wider Γ M) (V₀ : WiderValue o o′ lv) where
   -- What is counted as moved away forgets what it borrows.
   Θ′ : Name → Gh.Slot
   Θ′ = without (I .Θ) (LostName M) (lost-name M)
@@ -82,31 +84,36 @@ module _ {nv : ℕ} {Γ M : Environment} {o o′ : Option Ty} {lv : ℕ} {s : St
 
   typed′ : Typed nv nobody Θ′ (I .H) (I .ρ) (I .rank)
   unfolding Θ′
-  typed′ = fading (I .typed) (LostName M) (lost-name M) Θ′ (without-off (I .Θ) (LostName M) (lost-name M)) (without-in (I .Θ) (LostName M) (lost-name M)) (without-on (I .Θ) (LostName M) (lost-name M))
+  typed′ = without-typed (I .typed) (LostName M) (lost-name M)
 
-  in-scope : (x : ℕ) (v : Variable) → M x ≡ live v → covers (Θ′ (var x)) (live v)
+  -- Nothing more is held.
+  known : {z : Name} → Known ns Θ′ z → Known ns (I .Θ) z
+  unfolding Θ′
+  known = known-less (λ x e. e) (λ y Q p k K. by-holder Q p k (without-holds (I .typed) (LostName M) (lost-name M) y Q p K))
+
+  in-scope : (x : ℕ) (v : Variable) → M x ≡ live v → covers (Known ns Θ′ (var x)) (Θ′ (var x)) (live v)
   unfolding Θ′ LostName
   in-scope x v e =
       let u = W .up x v e in
       let C = covered-live (I .Θ (var x)) (Γ x) (u .0) (I .vars x) (u .1) in
       elim (lost-dec (M x)) [
-        | yes h ↦ live-covers (Θ′ (var x)) (live v) (faded (C .0)) v (without-on (I .Θ) (LostName M) (lost-name M) (var x) (C .0) h (C .1)) refl (covered-faded (C .2) (u .2) (lost-is (M x) v e h))
-        | no h ↦ live-covers (Θ′ (var x)) (live v) (C .0) v (same (var x) h ∙ C .1) refl (covered-wide (C .2) (u .2) (I .typed .at (var x) (C .0) (C .1) .fits) (not-lost (M x) v e h))
+        | yes h ↦ live-covers (Θ′ (var x)) (live v) (faded (C .0)) v (without-on (I .Θ) (LostName M) (lost-name M) (var x) (C .0) h (C .1)) refl (covered-less known (covered-faded (C .2) (u .2) (lost-is (M x) v e h)))
+        | no h ↦ live-covers (Θ′ (var x)) (live v) (C .0) v (same (var x) h ∙ C .1) refl (covered-less known (covered-wide (C .2) (u .2) (I .typed .at (var x) (C .0) (C .1) .fits) (not-lost (M x) v e h)))
       ]
 
-  vars′ : (x : ℕ) → covers (Θ′ (var x)) (M x)
+  vars′ : (x : ℕ) → covers (Known ns Θ′ (var x)) (Θ′ (var x)) (M x)
   unfolding LostName Lost
   vars′ x = go (M x) refl
     where
-      out : (sl : Slot) → M x ≡ sl → ((v : Variable) → sl ≢ live v) → (Lost sl → ⊥) → covers (Θ′ (var x)) sl
+      out : (sl : Slot) → M x ≡ sl → ((v : Variable) → sl ≢ live v) → (Lost sl → ⊥) → covers (Known ns Θ′ (var x)) (Θ′ (var x)) sl
       out sl e n h = vac-covers (Θ′ (var x)) sl (same (var x) (λ k. h (rw e at k)) ∙ covered-none (I .Θ (var x)) (Γ x) (I .vars x) (λ u k. let d = W .down x u k in n (d .0) (sym e ∙ d .1))) n
 
-      go : (sl : Slot) → M x ≡ sl → covers (Θ′ (var x)) sl
+      go : (sl : Slot) → M x ≡ sl → covers (Known ns Θ′ (var x)) (Θ′ (var x)) sl
       go free e = out free e (λ v k. free≢live k) (λ h. h)
       go used e = out used e (λ v k. used≢live k) (λ h. h)
       go (live v) e = in-scope x v e
 
-  pub wider-invariant : Invariant nv M o′ lv s v
+  pub wider-invariant : Invariant nv ns M o′ lv s v
   unfolding LostName
   wider-invariant = record {
     Θ = Θ′;
@@ -116,7 +123,7 @@ module _ {nv : ℕ} {Γ M : Environment} {o o′ : Option Ty} {lv : ℕ} {s : St
     mem = subst (λ (r : Row). Memory (I .H) (lift (s .store) r closed) (s .taken) (I .ρ)) (V₀ .row v) (I .mem);
     typed = typed′;
     vars = vars′;
-    flight = V₀ .flight (Θ′ inFlight) (λ q e. typed′ .at inFlight q e .fits) (covers-same (Θ′ inFlight) (I .Θ inFlight) (flightSlot o lv) (same inFlight (λ h. h)) (I .flight));
+    flight = V₀ .flight (Θ′ inFlight) (λ q e. typed′ .at inFlight q e .fits) (covers-less (Θ′ inFlight) (I .Θ inFlight) (flightSlot o lv) (λ u. u) (same inFlight (λ h. h)) (I .flight));
     idle = same inDrop (λ h. h) ∙ I .idle;
     nothing = λ e. I .nothing (V₀ .no-value e);
     deep = λ x q e. let u = W .up x q e in subst (λ (k : ℕ). k ≤ lv) (u .2 .level) (I .deep x (u .0) (u .1));
@@ -124,9 +131,9 @@ module _ {nv : ℕ} {Γ M : Environment} {o o′ : Option Ty} {lv : ℕ} {s : St
   }
 
 -- A term's progress likewise.
-pub widened : {nv : ℕ} {Γ Γ₁ M : Environment} {o o′ : Option Ty} {lv : ℕ} {r : Ran Outcome} → Progress nv Γ Γ₁ o lv r → Wider Γ₁ M
-    → WiderValue o o′ lv → ((x : ℕ) → Γ x ≡ used → M x ≡ used) → Progress nv Γ M o′ lv r
-widened {nv} {Γ} {Γ₁} {M} {o} {o′} {lv} {r} R W V₀ us = record {
+pub widened : {nv : ℕ} {ns : Unfinished} {Γ Γ₁ M : Environment} {o o′ : Option Ty} {lv : ℕ} {r : Ran Outcome} → Progress nv ns Γ Γ₁ o lv r → Wider Γ₁ M
+    → WiderValue o o′ lv → ((x : ℕ) → Γ x ≡ used → M x ≡ used) → Progress nv ns Γ M o′ lv r
+widened {nv} {ns} {Γ} {Γ₁} {M} {o} {o′} {lv} {r} R W V₀ us = record {
   s = R .s;
   v = R .v;
   ran = R .ran;

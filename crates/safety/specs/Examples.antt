@@ -51,6 +51,15 @@ e2 =
     ⨾ declare 3 1 (borrowExclusive 4 (v 0))
     ⨾ last (copy 5 (v 0)))
 
+-- `let v0=5; let v1=&mut v0; copy v0; copy *v1`
+unfoldable pub e2UsedAgain : Term
+e2UsedAgain =
+    block 0 (
+    declare 1 0 (number 2 5)
+    ⨾ declare 3 1 (borrowExclusive 4 (v 0))
+    ⨾ copy 5 (v 0)
+    ⨾ last (copy 6 (star (v 1))))
+
 -- `let v0=box 7; let v1=move v0; copy *v0`
 unfoldable pub e3 : Term
 e3 =
@@ -206,14 +215,15 @@ checked t = verdict t (judgeScript (base .variables) t)
 
 unfoldable pub lines : List Line
 lines =
-    checked e1 ∷ checked e2 ∷ checked e3 ∷ checked e4 ∷ checked e5 ∷ checked e6 ∷ checked e7 ∷ unchecked e3
+    checked e1 ∷ checked e2 ∷ checked e2UsedAgain ∷ checked e3 ∷ checked e4 ∷ checked e5 ∷ checked e6 ∷ checked e7 ∷ unchecked e3
     ∷ checked e9 ∷ unchecked e9 ∷ checked nine ∷ checked eight ∷ checked e11
     ∷ checked lent ∷ atZero lent ∷ checked written ∷ atZero written ∷ checked away ∷ checked unlike ∷ []
 
 unfoldable pub table : List Line
 table =
-    -- E1 to E4.
+    -- E1 to E4; E2 also with its borrow in use at the copy.
     accepted 8 1 0
+    ∷ accepted 6 5 0
     ∷ refused 34 5
     ∷ refused 33 6
     ∷ accepted 9 8 1

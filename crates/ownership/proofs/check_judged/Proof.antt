@@ -2,7 +2,7 @@
 use native.Mathlib.Omega.{arith}
 use borrow.Author.Needs.{needs}
 use Rattle.ownership.specs.Answers.{toldChecked}
-use Rattle.ownership.proofs.CheckLaws.{under-words, set-ranged, script-is, rules-accepted, rules-refused}
+use Rattle.ownership.proofs.CheckLaws.{under-words, set-ranged, script-ends, script-names, script-few, rules-accepted, rules-refused}
 use Rattle.ownership.proofs.check_judged.Statement.{statement}
 use Rattle.ownership.proofs.check_judged.Tie as tie
 
@@ -17,8 +17,9 @@ judge-alone-requires c κs =
     let start = c .before .before .before in
     let rows = start .args .rows .now in
     let under = under-words rows (c .before .before .shared-slice-known .given) in
-    let ranges = set-ranged (start .args .set) rows under _ (start .pre) in
-    (script-is (start .args .set) rows under _ (start .pre), ranges .variables .1, omega (arith, ranges .levels .1))
+    let set = start .args .set in
+    let ranges = set-ranged set rows under _ (start .pre) in
+    (script-ends set rows under _ (start .pre), script-names set rows under _ (start .pre), omega (arith, script-few set rows under _ (start .pre)), ranges .variables .1, omega (arith, ranges .levels .1))
 
 enum-told : tie.Need-enum-told
 enum-told c = search needs

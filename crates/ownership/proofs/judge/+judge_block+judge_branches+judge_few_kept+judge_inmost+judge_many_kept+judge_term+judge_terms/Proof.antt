@@ -25,10 +25,10 @@ use Rattle.ownership.proofs.judge.+judge_block+judge_branches+judge_few
 use Rattle.ownership.proofs.judge.+judge_block+judge_branches+judge_few_kept+judge_inmost+judge_many_kept+judge_term+judge_terms.{statement}
 use Rattle.ownership.proofs.judge.+judge_block+judge_branches+judge_few_kept+judge_inmost+judge_many_kept+judge_term+judge_terms.Tie.{close}
 use Rattle.ownership.proofs.judge.+judge_block+judge_branches+judge_few_kept+judge_inmost+judge_many_kept+judge_term+judge_terms.Proof.Cycle.{μ-judge-block, μ-judge-branches, μ-judge-few-kept, μ-judge-inmost, μ-judge-many-kept, μ-judge-term, μ-judge-terms, judge-block-at, judge-branches-at, judge-few-kept-at, judge-inmost-at, judge-many-kept-at, judge-term-at, judge-terms-at, judge-term-Inv-loop, judge-term-μ-loop, judge-term-Inv-loop2, judge-term-μ-loop2, judge-terms-Inv-loop, judge-terms-μ-loop, judge-block-claims, judge-branches-claims, judge-few-kept-claims, judge-inmost-claims, judge-many-kept-claims, judge-term-claims, judge-terms-claims}
-use Rattle.ownership.proofs.judge.+judge_block+judge_branches+judge_few_kept+judge_inmost+judge_many_kept+judge_term+judge_terms.Proof.Block.{judge-block-index-at-requires, judge-block-in-scope-requires, judge-block-add-judge-terms, judge-block-sub-judge-terms, judge-block-add-judge-terms-2, judge-block-judge-terms-requires, judge-block-verdict-of-requires, judge-block-enum-known-verdict, judge-block-enum-told, judge-block-same-length, judge-block-returns, judge-block-judge-block-end-requires, judge-block-judged-term-requires, judge-block-same-length-2, judge-block-returns-2}
+use Rattle.ownership.proofs.judge.+judge_block+judge_branches+judge_few_kept+judge_inmost+judge_many_kept+judge_term+judge_terms.Proof.Block.{judge-block-index-at-requires, judge-block-in-scope-requires, judge-block-sub-with-named, judge-block-with-named-requires, judge-block-add-judge-terms, judge-block-sub-judge-terms, judge-block-add-judge-terms-2, judge-block-judge-terms-requires, judge-block-verdict-of-requires, judge-block-enum-known-verdict, judge-block-enum-told, judge-block-same-length, judge-block-returns, judge-block-judge-block-end-requires, judge-block-judged-term-requires, judge-block-same-length-2, judge-block-returns-2}
 use Rattle.ownership.proofs.judge.+judge_block+judge_branches+judge_few_kept+judge_inmost+judge_many_kept+judge_term+judge_terms.Proof.Branches.{judge-branches-keep-requires, judge-branches-add-judge-terms, judge-branches-sub-judge-terms, judge-branches-judge-terms-requires, judge-branches-verdict-of-requires, judge-branches-enum-known-verdict, judge-branches-enum-told, judge-branches-same-length, judge-branches-same-length-2, judge-branches-returns, judge-branches-exchange-requires, judge-branches-sub-judge-terms-2, judge-branches-judge-terms-requires-2, judge-branches-verdict-of-requires-2, judge-branches-enum-known-other-verdict, judge-branches-enum-told-2, judge-branches-same-length-3, judge-branches-same-length-4, judge-branches-returns-2, judge-branches-join-requires, judge-branches-judge-either-requires, judge-branches-judged-term-requires, judge-branches-same-length-5, judge-branches-same-length-6, judge-branches-returns-3}
 use Rattle.ownership.proofs.judge.+judge_block+judge_branches+judge_few_kept+judge_inmost+judge_many_kept+judge_term+judge_terms.Proof.Kept.{judge-few-kept-slice-aggregate-judge-branches, judge-few-kept-judge-branches-requires, judge-few-kept-same-length, judge-few-kept-returns, judge-many-kept-slice-aggregate-judge-branches, judge-many-kept-judge-branches-requires, judge-many-kept-same-length, judge-many-kept-returns}
-use Rattle.ownership.proofs.judge.+judge_block+judge_branches+judge_few_kept+judge_inmost+judge_many_kept+judge_term+judge_terms.Proof.Inmost.{judge-inmost-field-at-requires, judge-inmost-judge-block-requires, judge-inmost-same-length, judge-inmost-returns, judge-inmost-place-at-requires, judge-inmost-judge-number-requires, judge-inmost-enum-known-number, judge-inmost-refused-requires, judge-inmost-same-length-2, judge-inmost-returns-2, judge-inmost-enum-told, judge-inmost-numbers-taken-requires, judge-inmost-judge-few-kept-requires, judge-inmost-same-length-3, judge-inmost-returns-3, judge-inmost-judge-many-kept-requires, judge-inmost-same-length-4, judge-inmost-returns-4, judge-inmost-place-at-requires-2, judge-inmost-add-judged-term, judge-inmost-judge-leaf-requires, judge-inmost-judged-term-requires, judge-inmost-same-length-5, judge-inmost-returns-5}
+use Rattle.ownership.proofs.judge.+judge_block+judge_branches+judge_few_kept+judge_inmost+judge_many_kept+judge_term+judge_terms.Proof.Inmost.{judge-inmost-field-at-requires, judge-inmost-judge-block-requires, judge-inmost-same-length, judge-inmost-returns, judge-inmost-place-at-requires, judge-inmost-index-of-requires, judge-inmost-sub-read-barred, judge-inmost-read-barred-requires, judge-inmost-judge-number-requires, judge-inmost-enum-known-number, judge-inmost-refused-requires, judge-inmost-same-length-2, judge-inmost-returns-2, judge-inmost-enum-told, judge-inmost-sub-with-named, judge-inmost-with-named-requires, judge-inmost-only-requires, judge-inmost-unite-requires, judge-inmost-numbers-taken-requires, judge-inmost-judge-few-kept-requires, judge-inmost-same-length-3, judge-inmost-returns-3, judge-inmost-judge-many-kept-requires, judge-inmost-same-length-4, judge-inmost-returns-4, judge-inmost-place-at-requires-2, judge-inmost-judge-leaf-requires, judge-inmost-add-judged-term, judge-inmost-judged-term-requires, judge-inmost-same-length-5, judge-inmost-returns-5}
 use Rattle.ownership.proofs.judge.+judge_block+judge_branches+judge_few_kept+judge_inmost+judge_many_kept+judge_term+judge_terms.Proof.Term.{judge-term-loop-holds, judge-term-add-field-at, judge-term-field-at-requires, judge-term-wraps-requires, judge-term-add-judge-before, judge-term-judge-before-requires, judge-term-enum-known-begun, judge-term-refused-requires, judge-term-same-length, judge-term-returns, judge-term-enum-told, judge-term-add-around, judge-term-loop-less, judge-term-loop-again, judge-term-add-judge-inmost, judge-term-sub-judge-inmost, judge-term-judge-inmost-requires, judge-term-loop2-holds, judge-term-sub-around, judge-term-add-judge-after, judge-term-judge-after-requires, judge-term-loop2-less, judge-term-loop2-again, judge-term-same-length-2, judge-term-returns-2}
 use Rattle.ownership.proofs.judge.+judge_block+judge_branches+judge_few_kept+judge_inmost+judge_many_kept+judge_term+judge_terms.Proof.Terms.{judge-terms-fine-requires, judge-terms-loop-holds, judge-terms-judge-term-requires, judge-terms-verdict-of-requires, judge-terms-enum-told, judge-terms-enum-told-2, judge-terms-same-length, judge-terms-returns, judge-terms-sub-left, judge-terms-loop-less, judge-terms-loop-again, judge-terms-same-length-2, judge-terms-returns-2}
 
@@ -47,6 +47,8 @@ pub +judge-block+judge-branches+judge-few-kept+judge-inmost+judge-many-kept+judg
     judge-block.Post
     (judge-block-index-at-requires t)
     (judge-block-in-scope-requires t)
+    (judge-block-sub-with-named t)
+    (judge-block-with-named-requires t)
     (judge-block-add-judge-terms t)
     (judge-block-sub-judge-terms t)
     (judge-block-add-judge-terms-2 t)
@@ -100,12 +102,19 @@ pub +judge-block+judge-branches+judge-few-kept+judge-inmost+judge-many-kept+judg
     (judge-inmost-same-length t)
     (judge-inmost-returns t)
     (judge-inmost-place-at-requires t)
+    (judge-inmost-index-of-requires t)
+    (judge-inmost-sub-read-barred t)
+    (judge-inmost-read-barred-requires t)
     (judge-inmost-judge-number-requires t)
     (judge-inmost-enum-known-number t)
     (judge-inmost-refused-requires t)
     (judge-inmost-same-length-2 t)
     (judge-inmost-returns-2 t)
     (judge-inmost-enum-told t)
+    (judge-inmost-sub-with-named t)
+    (judge-inmost-with-named-requires t)
+    (judge-inmost-only-requires t)
+    (judge-inmost-unite-requires t)
     (judge-inmost-numbers-taken-requires t)
     (judge-inmost-judge-few-kept-requires t)
     (judge-inmost-same-length-3 t)
@@ -114,8 +123,8 @@ pub +judge-block+judge-branches+judge-few-kept+judge-inmost+judge-many-kept+judg
     (judge-inmost-same-length-4 t)
     (judge-inmost-returns-4 t)
     (judge-inmost-place-at-requires-2 t)
-    (judge-inmost-add-judged-term t)
     (judge-inmost-judge-leaf-requires t)
+    (judge-inmost-add-judged-term t)
     (judge-inmost-judged-term-requires t)
     (judge-inmost-same-length-5 t)
     (judge-inmost-returns-5 t))

@@ -1,11 +1,24 @@
 -- `ownership::judge::judge_after` meets its contract. Assumes nothing.
+use Prim.Native.Nat.{ℕ, _-_}
 use native.Mathlib.Omega.{arith}
 use mathlib.Core.Path.{sym, _∙_}
-use Rattle.ownership.proofs.JudgeLaws.{told-ended}
-use Rattle.ownership.proofs.AroundLaws.{after-refused, after-box, after-let, after-assign}
 use borrow.Author.Needs.{needs}
+use Rattle.rules.specs.Uses.{Unfinished}
+use Rattle.rules.specs.Masks.{has}
+use Rattle.ownership.specs.RowUses.{laterAt, laterIn}
+use Rattle.ownership.specs.JudgeRows.{Wraps}
+use Rattle.ownership.proofs.LaterLaws.{after-later}
+use Rattle.ownership.proofs.JudgeLaws.{told-ended}
+use Rattle.ownership.proofs.AroundLaws.{after-refused, after-box, after-let, after-assign, last-wraps}
 use Rattle.ownership.proofs.judge.judge_after.Statement.{statement}
 use Rattle.ownership.proofs.judge.judge_after.Tie as tie
+
+-- What has not finished once the term has.
+abbrev later : tie.Start → ℕ → Unfinished
+later s next = laterIn (s .args .rows .now) (s .args .start) (s .args .i - s .args .start) (laterAt (s .args .variables) (s .args .uses .now) (has (s .args .named)) next)
+
+wraps : (s : tie.Start) → Wraps (s .args .variables) (s .args .rows .now) (s .args .i)
+wraps s = last-wraps _ _ _ _ (s .pre .0) (s .pre .1)
 
 verdict-of-requires : tie.Need-verdict-of-requires
 verdict-of-requires c κs = search needs
@@ -19,13 +32,13 @@ enum-told c = search needs
 returns : tie.Need-returns
 returns c =
     let at-verdict-of = c .before .before in
-    let start = at-verdict-of .before .before .before in
-    (after-refused _ _ _ _ _ _ _ (sym (at-verdict-of .verdict-of .ensures) ∙ c .enum-told .given .1), start .pre .1)
+    let start = at-verdict-of .before .before .before .before in
+    (after-refused _ _ _ _ (later start) _ _ _ (sym (at-verdict-of .verdict-of .ensures) ∙ c .enum-told .given .1), start .pre .2)
 
 field-at-requires : tie.Need-field-at-requires
 field-at-requires c κs =
-    let start = c .before .before .before .before .before .before in
-    (start .pre .0 .room, omega arith)
+    let start = c .before .before .before .before .before .before .before in
+    (wraps start .room, omega arith)
 
 judge-box-requires : tie.Need-judge-box-requires
 judge-box-requires c κs = search needs
@@ -35,8 +48,8 @@ judged-term-requires c κs = search needs
 
 index-at-requires : tie.Need-index-at-requires
 index-at-requires c κs =
-    let start = c .before .before .before .before .before .before .before .before in
-    (start .pre .0 .room, omega arith)
+    let start = c .before .before .before .before .before .before .before .before .before in
+    (wraps start .room, omega arith)
 
 judge-let-requires : tie.Need-judge-let-requires
 judge-let-requires c κs =
@@ -45,29 +58,25 @@ judge-let-requires c κs =
     let at-field-at = at-match2 .before in
     let at-verdict = at-field-at .before .before in
     let at-verdict-of = at-verdict .before .before in
-    let start = at-verdict-of .before .before .before in
+    let start = at-verdict-of .before .before .before .before in
     let fine = sym (at-verdict-of .verdict-of .ensures) ∙ at-verdict .verdict .given .1 in
-    let ready = start .pre .2 in
+    let ready = start .pre .4 in
     let k = sym (at-field-at .field-at .ensures) ∙ at-match2 .match2 .keys2 in
     let x = at-index-at .index-at .ensures in
-    ((start .pre .1, (_, ready .neat _ fine)), omega (arith, x, start .pre .0 .number k), rw x (ready .taken _ fine k), ready .value _ fine)
+    ((start .pre .2, (_, ready .neat _ fine)), omega (arith, x, wraps start .number (λ e. absurd (omega (arith, k, e)))), rw x (ready .taken _ fine k), ready .value _ fine)
 
 judged-term-requires-2 : tie.Need-judged-term-requires-2
 judged-term-requires-2 c κs = search needs
 
-place-at-requires : tie.Need-place-at-requires
-place-at-requires c κs =
-    let start = c .before .before .before .before .before .before .before .before in
-    (start .pre .0 .room, omega arith)
-
 judge-assign-requires : tie.Need-judge-assign-requires
 judge-assign-requires c κs =
-    let at-verdict = c .before .before .before .before .before in
+    let at-match2 = c .before in
+    let at-field-at = at-match2 .before in
+    let at-verdict = at-field-at .before .before in
     let at-verdict-of = at-verdict .before .before in
-    let start = at-verdict-of .before .before .before in
+    let start = at-verdict-of .before .before .before .before in
     let fine = sym (at-verdict-of .verdict-of .ensures) ∙ at-verdict .verdict .given .1 in
-    let ready = start .pre .2 in
-    (start .pre .1, (_, ready .neat _ fine))
+    ((start .pre .2, (_, start .pre .4 .neat _ fine)), start .pre .3, start .pre .0, start .pre .1, wraps start .number (λ e. at-match2 .match2 .rest .0 .1 (at-field-at .field-at .ensures ∙ e)))
 
 judged-term-requires-3 : tie.Need-judged-term-requires-3
 judged-term-requires-3 c κs = search needs
@@ -79,9 +88,9 @@ returns-2 c =
     let at-field-at = at-match2 .before in
     let at-verdict = at-field-at .before .before in
     let at-verdict-of = at-verdict .before .before in
-    let start = at-verdict-of .before .before .before in
+    let start = at-verdict-of .before .before .before .before in
     let fine = sym (at-verdict-of .verdict-of .ensures) ∙ at-verdict .verdict .given .1 in
-    (after-box _ _ _ _ _ _ _ fine _ _ (sym (at-field-at .field-at .ensures) ∙ at-match2 .match2 .keys1) (told-ended _ _ _ _ _ (c .judged-term .ensures) _ (at-judge-box .judge-box .ensures _ _ _)), start .pre .1)
+    (after-box _ _ _ _ (later start) _ _ _ fine _ _ (sym (at-field-at .field-at .ensures) ∙ at-match2 .match2 .keys1) (told-ended _ _ _ _ _ (c .judged-term .ensures) _ (at-judge-box .judge-box .ensures _ _ _)), start .pre .2)
 
 same-length : tie.Need-same-length
 same-length c = search needs
@@ -94,8 +103,9 @@ returns-3 c =
     let at-field-at = at-match2 .before in
     let at-verdict = at-field-at .before .before in
     let at-verdict-of = at-verdict .before .before in
+    let start = at-verdict-of .before .before .before .before in
     let fine = sym (at-verdict-of .verdict-of .ensures) ∙ at-verdict .verdict .given .1 in
-    (after-let _ _ _ _ _ _ _ fine _ _ (sym (at-field-at .field-at .ensures) ∙ at-match2 .match2 .keys2) _ (at-index-at .index-at .ensures) (told-ended _ _ _ _ _ (c .judged-term2 .ensures) _ (at-judge-let .judge-let .ensures .0 _)), at-judge-let .judge-let .ensures .1)
+    (after-let _ _ _ _ (later start) _ _ _ fine _ _ (sym (at-field-at .field-at .ensures) ∙ at-match2 .match2 .keys2) _ (at-index-at .index-at .ensures) (told-ended _ _ _ _ _ (c .judged-term2 .ensures) _ (at-judge-let .judge-let .ensures .0 _)), at-judge-let .judge-let .ensures .1)
 
 same-length-2 : tie.Need-same-length-2
 same-length-2 c = search needs
@@ -103,16 +113,16 @@ same-length-2 c = search needs
 returns-4 : tie.Need-returns-4
 returns-4 c =
     let at-judge-assign = c .before .before .before in
-    let at-place-at = at-judge-assign .before .before in
-    let at-match2 = at-place-at .before in
+    let at-match2 = at-judge-assign .before .before in
     let at-field-at = at-match2 .before in
     let at-verdict = at-field-at .before .before in
     let at-verdict-of = at-verdict .before .before in
-    let start = at-verdict-of .before .before .before in
+    let start = at-verdict-of .before .before .before .before in
     let fine = sym (at-verdict-of .verdict-of .ensures) ∙ at-verdict .verdict .given .1 in
     let rest = at-match2 .match2 .rest in
     let k = at-field-at .field-at .ensures in
-    (after-assign _ _ _ _ _ _ _ fine _ _ (start .pre .0) (λ e. rest .0 .1 (k ∙ e)) (λ e. rest .1 (k ∙ e)) _ (at-place-at .place-at .ensures) (told-ended _ _ _ _ _ (c .judged-term3 .ensures) _ (at-judge-assign .judge-assign .ensures .0 _)), at-judge-assign .judge-assign .ensures .1)
+    let assigned = at-judge-assign .judge-assign .ensures .0 _ (after-later _ (start .args .rows .now) (start .args .uses .now) (has (start .args .named)) _ _ (start .pre .0) (start .args .inner .next)) in
+    (after-assign _ _ _ _ (later start) _ _ _ fine _ _ (wraps start) (λ e. rest .0 .1 (k ∙ e)) (λ e. rest .1 (k ∙ e)) (told-ended _ _ _ _ _ (c .judged-term3 .ensures) _ assigned), at-judge-assign .judge-assign .ensures .1)
 
 pub judge-after-spec : {M : Type 1} → statement M
 judge-after-spec =
@@ -128,7 +138,6 @@ judge-after-spec =
     index-at-requires
     judge-let-requires
     judged-term-requires-2
-    place-at-requires
     judge-assign-requires
     judged-term-requires-3
     returns-2

@@ -1,6 +1,5 @@
 -- `ownership::judge::judge_before` meets its contract. Assumes nothing.
 use native.Mathlib.Omega.{arith}
-use mathlib.Core.Path.{sym, _∙_}
 use borrow.Author.Tests.{eq-eqb, ne-eqb}
 use Rattle.rules.specs.Verdicts.{begun}
 use Rattle.ownership.specs.JudgeRows.{beginAt}
@@ -22,7 +21,7 @@ begin-let-requires : tie.Need-begin-let-requires
 begin-let-requires c κs =
     let at-field-at = c .before .before .before in
     let start = at-field-at .before .before .before in
-    (start .pre .1, omega (arith, c .before .index-at .ensures, start .pre .0 .number (sym (at-field-at .field-at .ensures) ∙ c .before .before .if1 .left)))
+    (start .pre .1, omega (arith, c .before .index-at .ensures, start .pre .0 .number (λ q. omega (arith, at-field-at .field-at .ensures, c .before .before .if1 .left, q))))
 
 same-length : tie.Need-same-length
 same-length c = search needs

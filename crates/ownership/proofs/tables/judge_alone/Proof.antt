@@ -6,7 +6,7 @@ use Rattle.ownership.proofs.tables.judge_alone.Tie as tie
 judge-few-requires : tie.Need-judge-few-requires
 judge-few-requires c κs =
     let p = c .before .before .pre in
-    (p .0, omega (arith, c .if1 .taken), p .2)
+    (p .0, p .1, p .2, omega (arith, c .if1 .taken), p .4)
 
 judge-many-requires : tie.Need-judge-many-requires
 judge-many-requires c κs = c .before .before .pre

@@ -21,7 +21,7 @@ unfolding judgeBelow _>>=_
 returns c =
     let at-left = c .before .before in
     let at-judge-number = at-left .before .before in
-    λ i. rw (no-number _ i (at-judge-number .judge-number .ensures i) (at-left .left .given .1)) (told-refused _ _ (c .refused .ensures) _ i)
+    λ i ns first second. rw (no-number _ i (at-judge-number .judge-number .ensures i ns first) (at-left .left .given .1)) (told-refused _ _ (c .refused .ensures) _ i)
 
 enum-told : tie.Need-enum-told
 enum-told c = search needs
@@ -42,8 +42,8 @@ returns-2 c =
     let at-judge-number2 = at-right .before .before in
     let at-enum-told = at-judge-number2 .before in
     let at-judge-number = at-enum-told .before .before in
-    λ i.
-    rw (number-at _ i (at-judge-number .judge-number .ensures i) (at-enum-told .enum-told .given .1), no-number _ i (at-judge-number2 .judge-number2 .ensures i) (at-right .right .given .1))
+    λ i ns first second.
+    rw (number-at _ i (at-judge-number .judge-number .ensures i ns first) (at-enum-told .enum-told .given .1), no-number _ i (at-judge-number2 .judge-number2 .ensures i ns second) (at-right .right .given .1))
     (told-refused _ _ (c .refused2 .ensures) _ i)
 
 enum-told-2 : tie.Need-enum-told-2
@@ -59,8 +59,8 @@ returns-3 c =
     let at-judge-number2 = at-enum-told2 .before .before in
     let at-enum-told = at-judge-number2 .before in
     let at-judge-number = at-enum-told .before .before in
-    λ i.
-    rw (number-at _ i (at-judge-number .judge-number .ensures i) (at-enum-told .enum-told .given .1), number-at _ i (at-judge-number2 .judge-number2 .ensures i) (at-enum-told2 .enum-told2 .given .1))
+    λ i ns first second.
+    rw (number-at _ i (at-judge-number .judge-number .ensures i ns first) (at-enum-told .enum-told .given .1), number-at _ i (at-judge-number2 .judge-number2 .ensures i ns second) (at-enum-told2 .enum-told2 .given .1))
     (c .number-value .ensures _ i)
 
 pub judge-below-spec : {M : Type 1} → statement M

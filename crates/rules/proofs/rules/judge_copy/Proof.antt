@@ -6,12 +6,15 @@ use borrow.Author.Needs.{needs}
 use borrow.Author.Tests.{not-true, not-false}
 use Rattle.reader.specs.Result.{_>>=_}
 use Rattle.rules.specs.Links.{isNumber, copies}
+use Rattle.rules.specs.Follow.{valueWhole}
+use Rattle.rules.specs.Uses.{Unfinished}
+use Rattle.rules.specs.Bars.{readBarred}
 use Rattle.rules.specs.Rules.{judgeCopy}
 use Rattle.rules.specs.Chains.{chainOf}
 use Rattle.rules.specs.Table.{environmentOf, asPlace}
-use Rattle.rules.specs.Verdicts.{Read}
+use Rattle.rules.specs.Verdicts.{Named, Read}
 use Rattle.rules.proofs.ToldLaws.{told-refused}
-use Rattle.rules.proofs.PlaceLaws.{read-at, read-refused, copy-refused, copy-number}
+use Rattle.rules.proofs.PlaceLaws.{whole-at, read-at, read-refused, copy-refused, copy-number}
 use Rattle.rules.proofs.LentLaws.{copy-asks, copy-lent}
 use Rattle.rules.proofs.rules.judge_copy.Statement.{statement}
 use Rattle.rules.proofs.rules.judge_copy.Tie as tie
@@ -24,8 +27,14 @@ module _ (k : tie.After-known-told2) where
   abbrev rest : ℕ
   rest = k .before .readable2 .given .0 .0
 
-  read : (i : ℕ) → Read (start .args .variables) (environmentOf (start .args .env .now)) i (asPlace (start .args .place)) rest
-  read i = read-at _ _ i _ (k .before .before .before .judge-readable .ensures i) (k .before .readable2 .given .1)
+  -- Its value is whole, whatever was told of bars.
+  named : (F : Named (environmentOf (start .args .env .now)) (asPlace (start .args .place)) rest)
+      × (valueWhole (start .args .variables) (environmentOf (start .args .env .now)) (asPlace (start .args .place) .root) (F .variable) ≡ true)
+  named = whole-at _ _ _ (k .before .before .before .judge-readable .ensures .1) (k .before .readable2 .given .1)
+
+  read : (i : ℕ) (ns : Unfinished) → start .args .barred ≡ readBarred (start .args .variables) ns (environmentOf (start .args .env .now)) (asPlace (start .args .place) .root)
+      → Read (start .args .variables) ns (environmentOf (start .args .env .now)) i (asPlace (start .args .place)) rest
+  read i ns barred = read-at _ ns _ i _ (k .before .before .before .judge-readable .ensures .0 i ns barred) (k .before .readable2 .given .1)
 
 -- Where its value is copied, and no number.
 copied : (e : tie.Else1) → copies (chainOf (rest (e .before .before))) ≡ true
@@ -56,8 +65,8 @@ returns : tie.Need-returns
 returns c =
     let at-copied = c .before .before in
     let k = at-copied .before in
-    λ i. told-refused _ _ (c .refused2 .ensures) _ i
-    ∙ sym (copy-refused _ _ (start k .pre) i _ (read k i) (sym (at-copied .is-copied .ensures) ∙ not-true (at-copied .is-copied .result) (c .before .if1 .taken)))
+    λ i ns barred. told-refused _ _ (c .refused2 .ensures) _ i
+    ∙ sym (copy-refused _ _ (start k .pre) i _ (read k i ns barred) (sym (at-copied .is-copied .ensures) ∙ not-true (at-copied .is-copied .result) (c .before .if1 .taken)))
 
 is-number-requires : tie.Need-is-number-requires
 is-number-requires c κs = search needs
@@ -69,8 +78,8 @@ returns-2 : tie.Need-returns-2
 returns-2 c =
     let at-number = c .before .before in
     let k = at-number .before .before .before in
-    λ i. c .number-value .ensures _ i
-    ∙ sym (copy-number _ _ (start k .pre) i _ (read k i) (copied (at-number .before)) (sym (at-number .is-number .ensures) ∙ c .before .if2 .taken))
+    λ i ns barred. c .number-value .ensures _ i
+    ∙ sym (copy-number _ _ (start k .pre) i _ (read k i ns barred) (copied (at-number .before)) (sym (at-number .is-number .ensures) ∙ c .before .if2 .taken))
 
 index-of-requires : tie.Need-index-of-requires
 index-of-requires c κs = search needs
@@ -78,7 +87,6 @@ index-of-requires c κs = search needs
 index-of-requires-2 : tie.Need-index-of-requires-2
 index-of-requires-2 c κs = search needs
 
--- What is asked does not depend on the term, so any term will do.
 lent-at-requires : tie.Need-lent-at-requires
 lent-at-requires c κs =
     let at-root = c .before in
@@ -86,7 +94,7 @@ lent-at-requires c κs =
     let copying = other .before .before in
     let k = copying .before .before in (
       start k .pre,
-      copy-asks _ _ (start k .pre) 0 _ (read k 0) _ (at-root .index-of .ensures) _ (c .index-of2 .ensures) (copied copying) (no-number other),
+      copy-asks _ _ (start k .pre) _ (named k .0) _ (at-root .index-of .ensures) _ (c .index-of2 .ensures) (named k .1) (copied copying) (no-number other),
     )
 
 value-of-requires : tie.Need-value-of-requires
@@ -99,8 +107,8 @@ returns-3 c =
     let at-judge-readable = at-readable .before .before in
     let start = at-judge-readable .before .before in
     let env = start .args .env .now in
-    λ i.
-    let refused = read-refused (start .args .variables) (environmentOf env) i (asPlace (start .args .place)) (at-judge-readable .judge-readable .ensures i) (at-readable .readable .given .1) in
+    λ i ns barred.
+    let refused = read-refused (start .args .variables) ns (environmentOf env) i (asPlace (start .args .place)) (at-judge-readable .judge-readable .ensures .0 i ns barred) (at-readable .readable .given .1) in
     rw (told-refused _ _ (c .refused .ensures) env i, refused)
 
 returns-4 : tie.Need-returns-4
@@ -108,11 +116,10 @@ returns-4 c =
     let at-lent = c .before in
     let at-follows = at-lent .before in
     let at-root = at-follows .before in
-    let other = at-root .before in
-    let copying = other .before .before in
+    let copying = at-root .before .before .before in
     let k = copying .before .before in
-    λ i. c .value-of .ensures _ i
-    ∙ sym (copy-lent _ _ (start k .pre) i _ (read k i) _ (at-root .index-of .ensures) _ (at-follows .index-of2 .ensures) (copied copying) (no-number other) _ (at-lent .lent-at .ensures i))
+    λ i ns barred. c .value-of .ensures _ i
+    ∙ sym (copy-lent _ _ (start k .pre) i _ (read k i ns barred) _ (at-root .index-of .ensures) _ (at-follows .index-of2 .ensures) (copied copying) _ (at-lent .lent-at .ensures i))
 
 pub judge-copy-spec : {M : Type 1} → statement M
 judge-copy-spec =

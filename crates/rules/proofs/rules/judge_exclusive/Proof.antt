@@ -74,8 +74,8 @@ returns : tie.Need-returns
 returns c =
     let at-whole = c .before .before in
     let k = at-whole .before in
-    λ i. told-refused _ _ (c .refused2 .ensures) _ i
-    ∙ sym (exclusive-moved (env k) (nv k) (start k .pre) i (p k) (named k) _ (is-root k) _ (at-whole .value-whole .ensures) (not-true (at-whole .value-whole .result) (c .before .if1 .taken)))
+    λ i ns barred. told-refused _ _ (c .refused2 .ensures) _ i
+    ∙ sym (exclusive-moved (env k) (nv k) (start k .pre) i (p k) (named k) _ (is-root k) _ (at-whole .value-whole .ensures) ns (not-true (at-whole .value-whole .result) (c .before .if1 .taken)))
 
 links-at-requires : tie.Need-links-at-requires
 links-at-requires c κs =
@@ -98,31 +98,26 @@ returns-2 c =
     let at-links = at-follows .before in
     let at-whole = at-links .before .before in
     let k = at-whole .before in
-    λ i. told-refused _ _ (c .refused3 .ensures) _ i
-    ∙ sym (exclusive-shared (env k) (nv k) (start k .pre) i (p k) (named k) _ (is-root k) _ (at-whole .value-whole .ensures) (whole (at-links .before)) _ _ (at-follows .index-of2 .ensures) (at-links .links-at .ensures) _ (at-shared .no-shared .ensures) (not-true (at-shared .no-shared .result) (c .before .if2 .taken)))
-
-write-barred-requires : tie.Need-write-barred-requires
-write-barred-requires c κs =
-    let k = c .before .before .before .before .before .before in
-    (start k .pre .0, inside k)
+    λ i ns barred. told-refused _ _ (c .refused3 .ensures) _ i
+    ∙ sym (exclusive-shared (env k) (nv k) (start k .pre) i (p k) (named k) _ (is-root k) _ (at-whole .value-whole .ensures) ns (whole (at-links .before)) _ _ (at-follows .index-of2 .ensures) (at-links .links-at .ensures) _ (at-shared .no-shared .ensures) (not-true (at-shared .no-shared .result) (c .before .if2 .taken)))
 
 refused-requires-4 : tie.Need-refused-requires-4
 refused-requires-4 c κs = search needs
 
 returns-3 : tie.Need-returns-3
 returns-3 c =
-    let at-barred = c .before .before in
-    let at-shared = at-barred .before .before in
+    let at-unshared = c .before .before in
+    let at-shared = at-unshared .before in
     let at-follows = at-shared .before in
     let at-links = at-follows .before in
     let at-whole = at-links .before .before in
     let k = at-whole .before in
-    λ i. told-refused _ _ (c .refused4 .ensures) _ i
-    ∙ sym (exclusive-barred (env k) (nv k) (start k .pre) i (p k) (named k) _ (is-root k) _ (at-whole .value-whole .ensures) (whole (at-links .before)) _ _ (at-follows .index-of2 .ensures) (at-links .links-at .ensures) _ (at-shared .no-shared .ensures) (unshared (at-barred .before)) _ (at-barred .write-barred .ensures) (c .before .if3 .taken))
+    λ i ns barred. told-refused _ _ (c .refused4 .ensures) _ i
+    ∙ sym (exclusive-barred (env k) (nv k) (start k .pre) i (p k) (named k) _ (is-root k) _ (at-whole .value-whole .ensures) ns (whole (at-links .before)) _ _ (at-follows .index-of2 .ensures) (at-links .links-at .ensures) _ (at-shared .no-shared .ensures) (unshared at-unshared) _ barred (c .before .if3 .taken))
 
 only-requires : tie.Need-only-requires
 only-requires c κs =
-    let k = c .before .before .before .before .before .before .before .before in
+    let k = c .before .before .before .before .before .before .before in
     omega (arith, inside k, start k .pre .0 .1)
 
 longer-value-requires : tie.Need-longer-value-requires
@@ -134,20 +129,20 @@ returns-4 c =
     let at-named = c .before .before in
     let at-judge-named = at-named .before .before in
     let start = at-judge-named .before .before .before in
-    λ i.
+    λ i ns barred.
     let refused = named-refused (start .args .variables) (environmentOf (start .args .env .now)) i (asPlace (start .args .place)) (at-judge-named .judge-named .ensures i) (at-named .named .given .1) in
     told-refused _ _ (c .refused .ensures) _ i ∙ rw refused
 
 returns-5 : tie.Need-returns-5
 returns-5 c =
     let at-only = c .before in
-    let at-barred = at-only .before .before in
-    let at-shared = at-barred .before .before in
+    let at-unshared = at-only .before .before in
+    let at-shared = at-unshared .before in
     let at-follows = at-shared .before in
     let at-links = at-follows .before in
     let at-whole = at-links .before .before in
     let k = at-whole .before in
-    λ i. exclusive-there (env k) (nv k) (start k .pre) i (p k) (named k) _ (is-root k) _ (at-whole .value-whole .ensures) (whole (at-links .before)) _ _ (at-follows .index-of2 .ensures) (at-links .links-at .ensures) _ (at-shared .no-shared .ensures) (unshared (at-barred .before)) _ (at-barred .write-barred .ensures) (at-only .before .if3 .left) _ (at-only .only .ensures) _ (c .longer-value .ensures)
+    λ i ns barred. exclusive-there (env k) (nv k) (start k .pre) i (p k) (named k) _ (is-root k) _ (at-whole .value-whole .ensures) ns (whole (at-links .before)) _ _ (at-follows .index-of2 .ensures) (at-links .links-at .ensures) _ (at-shared .no-shared .ensures) (unshared at-unshared) _ barred (at-only .before .if3 .left) _ (at-only .only .ensures) _ (c .longer-value .ensures)
 
 pub judge-exclusive-spec : {M : Type 1} → statement M
 judge-exclusive-spec =
@@ -166,7 +161,6 @@ judge-exclusive-spec =
     no-shared-requires
     refused-requires-3
     returns-2
-    write-barred-requires
     refused-requires-4
     returns-3
     only-requires

@@ -14,7 +14,6 @@ use Rattle.rules.specs.Verdicts.{Named}
 use Rattle.rules.proofs.ToldLaws.{told-refused}
 use Rattle.rules.proofs.PlaceLaws.{named-at, move-refused, named-live, named-inside, whole-is}
 use Rattle.rules.proofs.MoveLaws.{boxes-is, move-passed, move-moved, move-barred, move-there}
-use Rattle.rules.proofs.AssignLaws.{barred-as}
 use Rattle.rules.proofs.rules.judge_move.Statement.{statement}
 use Rattle.rules.proofs.rules.judge_move.Tie as tie
 
@@ -98,8 +97,8 @@ returns : tie.Need-returns
 returns c =
     let at-boxes = c .before .before in
     let k = at-boxes .before .before .before .before in (
-      λ i. told-refused _ _ (c .refused2 .ensures) _ i
-          ∙ sym (move-passed (env k) (nv k) (start k .pre) (p k) (named k) i (omega (arith, counted at-boxes, at-boxes .index-of2 .ensures, c .before .if1 .taken))),
+      λ i ns barred. told-refused _ _ (c .refused2 .ensures) _ i
+          ∙ sym (move-passed (env k) (nv k) (start k .pre) (p k) (named k) ns i (omega (arith, counted at-boxes, at-boxes .index-of2 .ensures, c .before .if1 .taken))),
       start k .pre .0,
     )
 
@@ -119,13 +118,10 @@ returns-2 c =
     let at-whole = c .before .before in
     let at-own = at-whole .before .before in
     let k = at-own .before .before .before .before .before in (
-      λ i. told-refused _ _ (c .refused3 .ensures) _ i
-          ∙ sym (move-moved (env k) (nv k) (start k .pre) (p k) (named k) (own at-own) i (whole-is (env k) (nv k) (start k .pre) 0 (p k) (named k) _ (is-root k) _ false (at-whole .value-whole .ensures) (not-true (at-whole .value-whole .result) (c .before .if2 .taken)))),
+      λ i ns barred. told-refused _ _ (c .refused3 .ensures) _ i
+          ∙ sym (move-moved (env k) (nv k) (start k .pre) (p k) (named k) (own at-own) ns i (whole-is (env k) (nv k) (start k .pre) 0 (p k) (named k) _ (is-root k) _ false (at-whole .value-whole .ensures) (not-true (at-whole .value-whole .result) (c .before .if2 .taken)))),
       start k .pre .0,
     )
-
-write-barred-requires : tie.Need-write-barred-requires
-write-barred-requires c κs = (start (at (c .before)) .pre .0, inside (at (c .before)))
 
 refused-requires-4 : tie.Need-refused-requires-4
 refused-requires-4 c κs = search needs
@@ -135,17 +131,16 @@ same-length-3 c = search needs
 
 returns-3 : tie.Need-returns-3
 returns-3 c =
-    let at-barred = c .before .before in
-    let e = at-barred .before .before in
+    let e = c .before .before in
     let k = at e in (
-      λ i. told-refused _ _ (c .refused4 .ensures) _ i
-          ∙ sym (move-barred (env k) (nv k) (start k .pre) (p k) (named k) (own (e .before .before .before)) (whole e) i (barred-as _ _ _ _ _ _ (is-root k) (at-barred .write-barred .ensures) (c .before .if3 .taken))),
+      λ i ns barred. told-refused _ _ (c .refused4 .ensures) _ i
+          ∙ sym (move-barred (env k) (nv k) (start k .pre) (p k) (named k) (own (e .before .before .before)) (whole e) ns i (sym barred ∙ c .before .if3 .taken)),
       start k .pre .0,
     )
 
 roots-at-requires : tie.Need-roots-at-requires
 roots-at-requires c κs =
-    let k = at (c .before .before .before .before) in
+    let k = at (c .before .before) in
     omega (arith, inside k, start k .pre .0 .0)
 
 cast-move-away : tie.Need-cast-move-away
@@ -153,7 +148,7 @@ cast-move-away c = search needs
 
 move-away-requires : tie.Need-move-away-requires
 move-away-requires c κs =
-    let k = at (c .before .before .before .before .before .before .before) in
+    let k = at (c .before .before .before .before .before) in
     (start k .pre .0, inside k)
 
 value-of-requires : tie.Need-value-of-requires
@@ -167,8 +162,8 @@ returns-4 c =
     let at-named = c .before .before in
     let at-judge-named = at-named .before .before in
     let start = at-judge-named .before .before .before .before in (
-      λ i. told-refused _ _ (c .refused .ensures) _ i
-          ∙ sym (move-refused (start .args .variables) (environmentOf (start .args .env .now)) i (asPlace (start .args .place)) (at-judge-named .judge-named .ensures i) (at-named .named .given .1)),
+      λ i ns barred. told-refused _ _ (c .refused .ensures) _ i
+          ∙ sym (move-refused (start .args .variables) (environmentOf (start .args .env .now)) i (asPlace (start .args .place)) (at-judge-named .judge-named .ensures i) (at-named .named .given .1) ns),
       start .pre .0,
     )
 
@@ -179,11 +174,10 @@ returns-5 : tie.Need-returns-5
 returns-5 c =
     let at-move-away = c .before .before .before in
     let at-roots = at-move-away .before .before .before in
-    let at-barred = at-roots .before .before .before in
-    let e = at-barred .before .before in
+    let e = at-roots .before .before .before in
     let k = at e in (
-      λ i. c .value-of .ensures _ i
-          ∙ move-there (env k) (nv k) (start k .pre) (p k) (named k) (own (e .before .before .before)) (whole e) _ (at-move-away .move-away .ensures .2) _ (is-root k) _ (at-roots .roots-at .ensures) (at-move-away .move-away .ensures .0) i (barred-as _ _ _ _ _ _ (is-root k) (at-barred .write-barred .ensures) (at-roots .before .before .if3 .left)),
+      λ i ns barred. c .value-of .ensures _ i
+          ∙ move-there (env k) (nv k) (start k .pre) (p k) (named k) (own (e .before .before .before)) (whole e) _ (at-move-away .move-away .ensures .2) _ (is-root k) _ (at-roots .roots-at .ensures) (at-move-away .move-away .ensures .0) ns i (sym barred ∙ at-roots .before .before .if3 .left),
       at-move-away .move-away .ensures .1,
     )
 
@@ -206,7 +200,6 @@ judge-move-spec =
     refused-requires-3
     same-length-2
     returns-2
-    write-barred-requires
     refused-requires-4
     same-length-3
     returns-3

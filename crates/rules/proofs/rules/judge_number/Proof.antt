@@ -1,7 +1,10 @@
 -- `rules::rules::judge_number` meets its contract. Assumes nothing.
 use Prim.Native.Nat.{ℕ}
+use mathlib.Core.Path.{_≡_}
 use borrow.Author.Needs.{needs}
 use Rattle.reader.specs.Result.{need, _>>=_}
+use Rattle.rules.specs.Uses.{Unfinished}
+use Rattle.rules.specs.Bars.{readBarred}
 use Rattle.rules.specs.Rules.{judgeNumber}
 use Rattle.rules.specs.Table.{environmentOf, asPlace}
 use Rattle.rules.specs.Verdicts.{Read}
@@ -12,8 +15,9 @@ use Rattle.rules.proofs.rules.judge_number.Tie as tie
 -- What is known of a readable place.
 read : (k : tie.After-known-told) →
     let start = k .before .before .before .before .before in
-    (i : ℕ) → Read (start .args .variables) (environmentOf (start .args .env .now)) i (asPlace (start .args .place)) (k .before .readable .given .0 .0)
-read k i = read-at _ _ i _ (k .before .before .before .judge-readable .ensures i) (k .before .readable .given .1)
+    (i : ℕ) (ns : Unfinished) → start .args .barred ≡ readBarred (start .args .variables) ns (environmentOf (start .args .env .now)) (asPlace (start .args .place) .root)
+    → Read (start .args .variables) ns (environmentOf (start .args .env .now)) i (asPlace (start .args .place)) (k .before .readable .given .0 .0)
+read k i ns barred = read-at _ ns _ i _ (k .before .before .before .judge-readable .ensures .0 i ns barred) (k .before .readable .given .1)
 
 judge-readable-requires : tie.Need-judge-readable-requires
 judge-readable-requires c κs = search needs
@@ -31,8 +35,8 @@ returns : tie.Need-returns
 unfolding judgeNumber need _>>=_
 returns c =
     let at-number = c .before in
-    λ i.
-    let F = read (at-number .before) i in
+    λ i ns barred.
+    let F = read (at-number .before) i ns barred in
     rw (F .is, F .named .after, ← at-number .is-number .ensures, c .if1 .taken)
 
 returns-2 : tie.Need-returns-2
@@ -40,14 +44,14 @@ returns-2 c =
     let at-judge-readable = c .before .before in
     let start = at-judge-readable .before .before in
     let env = start .args .env .now in
-    λ i. number-refused (start .args .variables) (environmentOf env) i (asPlace (start .args .place)) (at-judge-readable .judge-readable .ensures i) (c .enum-told .given .1)
+    λ i ns barred. number-refused (start .args .variables) ns (environmentOf env) i (asPlace (start .args .place)) (at-judge-readable .judge-readable .ensures .0 i ns barred) (c .enum-told .given .1)
 
 returns-3 : tie.Need-returns-3
 unfolding judgeNumber need _>>=_
 returns-3 c =
     let at-number = c .before in
-    λ i.
-    let F = read (at-number .before) i in
+    λ i ns barred.
+    let F = read (at-number .before) i ns barred in
     rw (F .is, F .named .after, ← at-number .is-number .ensures, c .if1 .left)
 
 pub judge-number-spec : {M : Type 1} → statement M

@@ -6,7 +6,7 @@ use borrow.Author.Tests.{not-true, not-false}
 use Rattle.rules.specs.declared.rules.Readable.{Readable}
 use Rattle.rules.specs.Table.{environmentOf, asPlace}
 use Rattle.rules.specs.Verdicts.{Named, ReadableIs}
-use Rattle.rules.proofs.PlaceLaws.{named-at, named-live, named-inside, readable-refused, readable-moved, readable-barred, readable-there}
+use Rattle.rules.proofs.PlaceLaws.{named-at, named-live, whole-is, whole-there, whole-refused, readable-refused, readable-moved, readable-barred, readable-there}
 use Rattle.rules.proofs.rules.judge_readable.Statement.{statement}
 use Rattle.rules.proofs.rules.judge_readable.Tie as tie
 
@@ -38,7 +38,10 @@ returns : tie.Need-returns
 returns c =
     let at-judge-named = c .before .before in
     let start = at-judge-named .before .before in
-    λ i. readable-refused (start .args .variables) (environmentOf (start .args .env .now)) i (asPlace (start .args .place)) (at-judge-named .judge-named .ensures i) (c .enum-told2 .given .1)
+    let nv = start .args .variables in
+    let Γ = environmentOf (start .args .env .now) in
+    let p = asPlace (start .args .place) in
+    (λ i ns barred. readable-refused nv ns Γ i p (at-judge-named .judge-named .ensures i) (c .enum-told2 .given .1), whole-refused nv Γ p (c .enum-told2 .given .1))
 
 index-of-requires : tie.Need-index-of-requires
 index-of-requires c κs = search needs
@@ -50,28 +53,27 @@ returns-2 : tie.Need-returns-2
 returns-2 c =
     let at-whole = c .before in
     let b = at-whole .before in
-    λ i. readable-moved _ _ (start b .pre) i _ (named b) _ (is-root b) _ (at-whole .value-whole .ensures) (not-true (at-whole .value-whole .result) (c .if1 .taken))
-
-read-barred-requires : tie.Need-read-barred-requires
-read-barred-requires c κs =
-    let b = c .before .before in
-    (start b .pre .0, named-inside _ _ (start b .pre) 0 _ (named b) _ (is-root b))
+    (λ i ns barred. readable-moved _ _ (start b .pre) i _ (named b) _ (is-root b) _ (at-whole .value-whole .ensures) ns (not-true (at-whole .value-whole .result) (c .if1 .taken)), tt)
 
 returns-3 : tie.Need-returns-3
 returns-3 c =
-    let at-barred = c .before in
-    let at-whole = at-barred .before .before in
+    let at-whole = c .before .before in
     let b = at-whole .before in
-    λ i. readable-barred _ _ (start b .pre) i _ (named b) _ (is-root b) _ (at-whole .value-whole .ensures) (whole (at-barred .before)) _ (at-barred .read-barred .ensures) (c .if2 .taken)
+    (λ i ns barred. readable-barred _ _ (start b .pre) i _ (named b) _ (is-root b) _ (at-whole .value-whole .ensures) ns (whole (c .before)) _ barred (c .if2 .taken), tt)
 
 returns-4 : tie.Need-returns-4
 returns-4 c =
-    let at-barred = c .before in
-    let at-whole = at-barred .before .before in
+    let at-whole = c .before .before in
     let b = at-whole .before in
-    λ i.
-    let found = readable-there _ _ (start b .pre) i _ (named b) _ (is-root b) _ (at-whole .value-whole .ensures) (whole (at-barred .before)) _ (at-barred .read-barred .ensures) (c .if2 .left) in
-    subst (λ (k : Readable). ReadableIs (start b .args .variables) (environmentOf (start b .args .env .now)) i (asPlace (start b .args .place)) k) (sym (b .before .enum-told .given .1)) found
+    let nv = start b .args .variables in
+    let env = start b .args .env .now in
+    let p = asPlace (start b .args .place) in
+    let told = b .before .enum-told .given .1 in (
+      λ i ns barred.
+          let found = readable-there _ _ (start b .pre) i _ (named b) _ (is-root b) _ (at-whole .value-whole .ensures) ns (whole (c .before)) _ barred (c .if2 .left) in
+          subst (λ (k : Readable). ReadableIs nv ns (environmentOf env) i p k) (sym told) found,
+      whole-there nv (environmentOf env) p told (named b) (whole-is env nv (start b .pre) 0 p (named b) _ (is-root b) _ true (at-whole .value-whole .ensures) (whole (c .before))),
+    )
 
 pub judge-readable-spec : {M : Type 1} → statement M
-judge-readable-spec = tie.close (tie.spec judge-named-requires enum-told enum-told-2 returns index-of-requires value-whole-requires returns-2 read-barred-requires returns-3 returns-4)
+judge-readable-spec = tie.close (tie.spec judge-named-requires enum-told enum-told-2 returns index-of-requires value-whole-requires returns-2 returns-3 returns-4)

@@ -2,6 +2,7 @@
 use Prim.Native.Nat.{ℕ, _<_}
 use native.Mathlib.Omega.{arith}
 use mathlib.Core.Path.{_≡_, sym, ap, _∙_}
+use mathlib.Core.Bool.{true}
 use mathlib.Core.List.{List}
 use mathlib.Core.Option.{none}
 use lib.ListN.{take}
@@ -9,12 +10,15 @@ use borrow.Author.Needs.{needs}
 use Rattle.reader.specs.Result.{_>>=_}
 use Rattle.reader.specs.Script.{Place}
 use Rattle.rules.specs.Links.{lastShared}
+use Rattle.rules.specs.Follow.{valueWhole}
+use Rattle.rules.specs.Uses.{Unfinished}
+use Rattle.rules.specs.Bars.{readBarred}
 use Rattle.rules.specs.Rules.{judgeShared}
 use Rattle.rules.specs.Chains.{chainOf, asPassed}
 use Rattle.rules.specs.Table.{linksAt, environmentOf, asPlace}
-use Rattle.rules.specs.Verdicts.{Read}
+use Rattle.rules.specs.Verdicts.{Named, Read}
 use Rattle.rules.proofs.ToldLaws.{told-refused}
-use Rattle.rules.proofs.PlaceLaws.{read-at, read-refused, named-inside, shared-there}
+use Rattle.rules.proofs.PlaceLaws.{whole-at, read-at, read-refused, named-inside, shared-there}
 use Rattle.rules.proofs.LentLaws.{shared-asks, shared-lent}
 use Rattle.rules.proofs.rules.judge_shared.Statement.{statement}
 use Rattle.rules.proofs.rules.judge_shared.Tie as tie
@@ -33,12 +37,18 @@ module _ (k : tie.After-index-of) where
   abbrev root : ℕ
   root = k .index-of .result
 
-  read : (i : ℕ) → Read (start .args .variables) (environmentOf env) i p (k .before .before .readable2 .given .0 .0)
-  read i = read-at _ _ i _ (k .before .before .before .before .judge-readable .ensures i) (k .before .before .readable2 .given .1)
+  abbrev rest : ℕ
+  rest = k .before .before .readable2 .given .0 .0
 
-  -- Where the root lies does not depend on the term that asks, so any term will do.
+  -- Its value is whole, whatever was told of bars.
+  named : (F : Named (environmentOf env) p rest) × (valueWhole (start .args .variables) (environmentOf env) (p .root) (F .variable) ≡ true)
+  named = whole-at _ _ _ (k .before .before .before .before .judge-readable .ensures .1) (k .before .before .readable2 .given .1)
+
+  read : (i : ℕ) (ns : Unfinished) → start .args .barred ≡ readBarred (start .args .variables) ns (environmentOf env) (p .root) → Read (start .args .variables) ns (environmentOf env) i p rest
+  read i ns barred = read-at _ ns _ i _ (k .before .before .before .before .judge-readable .ensures .0 i ns barred) (k .before .before .readable2 .given .1)
+
   inside : root < start .args .variables
-  inside = named-inside _ _ (start .pre) 0 _ (read 0 .named) _ (k .index-of .ensures)
+  inside = named-inside _ _ (start .pre) 0 _ (named .0) _ (k .index-of .ensures)
 
 -- Where the last shared link is looked for.
 module _ (c : tie.After-last-shared) where
@@ -95,7 +105,7 @@ lent-at-requires c κs =
     let looked = c .before .before .before in
     let k = at looked in (
       start k .pre,
-      shared-asks _ _ (start k .pre) 0 _ (read k 0) _ (k .index-of .ensures) _ (looked .before .index-of2 .ensures) _ (last looked ∙ ap asPassed (c .before .passed .given .1)),
+      shared-asks _ _ (start k .pre) _ (named k .0) _ (k .index-of .ensures) _ (looked .before .index-of2 .ensures) (named k .1) _ (last looked ∙ ap asPassed (c .before .passed .given .1)),
     )
 
 longer-value-requires-2 : tie.Need-longer-value-requires-2
@@ -107,8 +117,8 @@ returns c =
     let at-readable = c .before .before in
     let at-judge-readable = at-readable .before .before in
     let start = at-judge-readable .before .before in
-    λ i.
-    let none = read-refused (start .args .variables) (environmentOf (start .args .env .now)) i (asPlace (start .args .place)) (at-judge-readable .judge-readable .ensures i) (at-readable .readable .given .1) in
+    λ i ns barred.
+    let none = read-refused (start .args .variables) ns (environmentOf (start .args .env .now)) i (asPlace (start .args .place)) (at-judge-readable .judge-readable .ensures .0 i ns barred) (at-readable .readable .given .1) in
     rw none (told-refused _ _ (c .refused .ensures) _ i)
 
 returns-2 : tie.Need-returns-2
@@ -119,7 +129,7 @@ returns-2 c =
     let k = at looked in
     let unpassed : lastShared (take (p k .follows) (chainOf (linksAt (env k) (root k)))) ≡ none =
     ap (λ (n : ℕ). lastShared (take n (chainOf (linksAt (env k) (root k))))) (sym (looked .before .index-of2 .ensures)) ∙ last looked ∙ ap asPassed (at-none .enum-told .given .1) in
-    λ i. shared-there _ _ (start k .pre) i _ (read k i) _ (k .index-of .ensures) unpassed _ (c .before .only .ensures) _ (c .longer-value .ensures)
+    λ i ns barred. shared-there _ _ (start k .pre) i _ (read k i ns barred) _ (k .index-of .ensures) unpassed _ (c .before .only .ensures) _ (c .longer-value .ensures)
 
 returns-3 : tie.Need-returns-3
 unfolding asPassed
@@ -128,7 +138,7 @@ returns-3 c =
     let at-passed = at-lent .before .before in
     let looked = at-passed .before .before in
     let k = at looked in
-    λ i. shared-lent _ _ (start k .pre) i _ (read k i) _ (k .index-of .ensures) _ (looked .before .index-of2 .ensures) _ (last looked ∙ ap asPassed (at-passed .passed .given .1)) _ (at-lent .lent-at .ensures i) _ (c .longer-value2 .ensures)
+    λ i ns barred. shared-lent _ _ (start k .pre) i _ (read k i ns barred) _ (k .index-of .ensures) _ (looked .before .index-of2 .ensures) _ (last looked ∙ ap asPassed (at-passed .passed .given .1)) _ (at-lent .lent-at .ensures i) _ (c .longer-value2 .ensures)
 
 pub judge-shared-spec : {M : Type 1} → statement M
 judge-shared-spec =

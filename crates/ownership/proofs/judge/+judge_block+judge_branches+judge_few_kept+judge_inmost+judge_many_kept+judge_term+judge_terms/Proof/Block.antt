@@ -6,8 +6,13 @@ use mathlib.Core.Path.{_≡_, sym, _∙_}
 use borrow.Author.Needs.{needs}
 use Rattle.reader.proofs.RowTreeLaws.{has-level, has-room, block-rest}
 use Rattle.rules.specs.declared.verdicts.Verdict.the-variants as verdict
+use Rattle.rules.specs.Uses.{Unfinished}
+use Rattle.rules.specs.Masks.{has}
 use Rattle.rules.specs.Verdicts.{verdictOf}
+use Rattle.ownership.specs.RowUses.{laterAt, laterIn}
 use Rattle.rules.proofs.NeatBlocks.{neat-enter}
+use Rattle.rules.proofs.SameLater.{SameLater}
+use Rattle.ownership.proofs.LaterLaws.{block-later}
 use Rattle.ownership.proofs.JudgeLaws.{told-ended}
 use Rattle.ownership.proofs.BlockTerm.{block-refused, block-fine, block-inside}
 use Rattle.ownership.proofs.ScopeLaws.{scope-around}
@@ -19,10 +24,17 @@ use Rattle.ownership.proofs.judge.+judge_block+judge_branches+judge_few
 -- Where its terms are judged.
 module _ (t : ℕ) (j : judge-block-lts.After-judge-terms (judge-block-claims t) (judge-block-at t) judge-block.Post) where
   abbrev at-count : judge-block-lts.After-index-at (judge-block-claims t) (judge-block-at t) judge-block.Post
-  at-count = j .before .before .before .before
+  at-count = j .before .before .before .before .before
 
   abbrev start : judge-block-lts.Start (judge-block-claims t) (judge-block-at t) judge-block.Post
-  start = at-count .before .before .before
+  start = at-count .before .before .before .before
+
+  abbrev later : ℕ → Unfinished
+  later next = laterIn (start .args .rows .now) (start .args .start) (start .args .i - start .args .start) (laterAt (start .args .variables) (start .args .uses .now) (has (start .args .named)) next)
+
+  -- What they are judged with is what comes after the block, and around it.
+  same : (next : ℕ) → SameLater (start .args .variables) (laterAt (start .args .variables) (start .args .uses .now) (has (j .before .before .with-named .result)) next) (later next)
+  same = block-later _ _ _ _ _ _ _ (j .before .before .with-named .ensures)
 
 -- Where they are fine.
 module _ (t : ℕ) (k : judge-block-lts.After-known-told (judge-block-claims t) (judge-block-at t) judge-block.Post) where
@@ -34,36 +46,46 @@ module _ (t : ℕ) (k : judge-block-lts.After-known-told (judge-block-claims t) 
 
 pub judge-block-index-at-requires : (t : ℕ) → judge-block-lts.Need-index-at-requires (judge-block-claims t) (judge-block-at t) judge-block.Post
 judge-block-index-at-requires t c κs =
-    let start = c .before .before in
+    let start = c .before .before .before in
     (has-room _ _ _ _ (start .pre .1 .0), omega arith)
 
 pub judge-block-in-scope-requires : (t : ℕ) → judge-block-lts.Need-in-scope-requires (judge-block-claims t) (judge-block-at t) judge-block.Post
 judge-block-in-scope-requires t c κs =
-    let start = c .before .before .before .before in
+    let start = c .before .before .before .before .before in
     start .pre .1 .2
+
+pub judge-block-sub-with-named : (t : ℕ) → judge-block-lts.Need-sub-with-named (judge-block-claims t) (judge-block-at t) judge-block.Post
+judge-block-sub-with-named t c =
+    let start = c .before .before .before .before .before .before in
+    start .pre .1 .6
+
+pub judge-block-with-named-requires : (t : ℕ) → judge-block-lts.Need-with-named-requires (judge-block-claims t) (judge-block-at t) judge-block.Post
+judge-block-with-named-requires t c κs =
+    let start = c .before .before .before .before .before .before in
+    (start .pre .1 .7, start .pre .1 .2 .1)
 
 pub judge-block-add-judge-terms : (t : ℕ) → judge-block-lts.Need-add-judge-terms (judge-block-claims t) (judge-block-at t) judge-block.Post
 judge-block-add-judge-terms t c =
-    let start = c .before .before .before .before .before in
+    let start = c .before .before .before .before .before .before .before in
     omega (arith, has-room _ _ _ _ (start .pre .1 .0))
 
 pub judge-block-sub-judge-terms : (t : ℕ) → judge-block-lts.Need-sub-judge-terms (judge-block-claims t) (judge-block-at t) judge-block.Post
 judge-block-sub-judge-terms t c =
-    let start = c .before .before .before .before .before in
+    let start = c .before .before .before .before .before .before .before in
     omega (arith, has-level _ _ _ _ (start .pre .1 .0))
 
 pub judge-block-add-judge-terms-2 : (t : ℕ) → judge-block-lts.Need-add-judge-terms-2 (judge-block-claims t) (judge-block-at t) judge-block.Post
 judge-block-add-judge-terms-2 t c =
-    let start = c .before .before .before .before .before .before in
+    let start = c .before .before .before .before .before .before .before .before in
     omega (arith, start .pre .1 .4, has-level _ _ _ _ (start .pre .1 .0))
 
 pub judge-block-judge-terms-requires : (t : ℕ) → judge-block-lts.Need-judge-terms-requires (judge-block-claims t) (judge-block-at t) judge-block.Post
 judge-block-judge-terms-requires t c κs =
-    let at-index-at = c .before .before .before in
-    let start = at-index-at .before .before .before in
+    let at-index-at = c .before .before .before .before in
+    let start = at-index-at .before .before .before .before in
     let p = start .pre .1 in
     let h = has-level _ _ _ _ (p .0) in
-    (omega (arith, start .pre .0, h), (block-rest _ _ _ _ (p .0) (p .1) _ (at-index-at .index-at .ensures), p .2, rw (add-one _) (neat-enter (p .3)), omega (arith, p .4, h)))
+    (omega (arith, start .pre .0, h), (block-rest _ _ _ _ (p .0) (p .1) _ (at-index-at .index-at .ensures), p .2, rw (add-one _) (neat-enter (p .3)), omega (arith, p .4, h), p .5))
 
 pub judge-block-verdict-of-requires : (t : ℕ) → judge-block-lts.Need-verdict-of-requires (judge-block-claims t) (judge-block-at t) judge-block.Post
 judge-block-verdict-of-requires t c κs = search needs
@@ -84,14 +106,14 @@ judge-block-returns t c =
     let j = c .before .before .before .before .before in
     let p = start t j .pre .1 in
     let refused = sym (c .before .before .verdict-of .ensures) ∙ c .enum-told .given .1 in
-    (block-refused _ _ _ _ (p .0) _ _ (p .1) _ (at-count t j .index-at .ensures) _ _ _ (j .judge-terms .ensures .0) _ refused, j .judge-terms .ensures .1)
+    (block-refused _ _ _ _ (p .0) _ (later t j) _ (same t j) _ (p .1) _ (at-count t j .index-at .ensures) _ _ _ (j .judge-terms .ensures .0) _ refused, j .judge-terms .ensures .1)
 
 pub judge-block-judge-block-end-requires : (t : ℕ) → judge-block-lts.Need-judge-block-end-requires (judge-block-claims t) (judge-block-at t) judge-block.Post
 judge-block-judge-block-end-requires t c κs =
     let j = at-terms t (c .before) in
     let p = start t j .pre .1 in
-    let inside = block-inside _ _ _ _ (p .0) _ _ (p .1) _ (at-count t j .index-at .ensures) _ _ _ (j .judge-terms .ensures .0) _ (fine t (c .before)) (p .3) in
-    (j .judge-terms .ensures .1, rw (j .before .before .in-scope .ensures) (scope-around _ _ _ _ (p .2) (p .3) _ inside))
+    let inside = block-inside _ _ _ _ (p .0) _ (later t j) _ (same t j) _ (p .1) _ (at-count t j .index-at .ensures) _ _ _ (j .judge-terms .ensures .0) _ (fine t (c .before)) (p .3) in
+    (j .judge-terms .ensures .1, rw (j .before .before .before .in-scope .ensures) (scope-around _ _ _ _ (p .2) (p .3) _ inside))
 
 pub judge-block-judged-term-requires : (t : ℕ) → judge-block-lts.Need-judged-term-requires (judge-block-claims t) (judge-block-at t) judge-block.Post
 judge-block-judged-term-requires t c κs = search needs
@@ -108,4 +130,4 @@ judge-block-returns-2 t c =
     let j = at-terms t k in
     let p = start t j .pre .1 in
     let out = told-ended _ _ _ _ _ (c .judged-term .ensures) _ (at-end .judge-block-end .ensures .0 _) in
-    (block-fine _ _ _ _ (p .0) _ _ (p .1) _ (at-count t j .index-at .ensures) _ _ _ (j .judge-terms .ensures .0) _ (fine t k) _ _ out, at-end .judge-block-end .ensures .1)
+    (block-fine _ _ _ _ (p .0) _ (later t j) _ (same t j) _ (p .1) _ (at-count t j .index-at .ensures) _ _ _ (j .judge-terms .ensures .0) _ (fine t k) _ _ out, at-end .judge-block-end .ensures .1)

@@ -10,12 +10,16 @@ use Rattle.reader.proofs.RowTreeLaws.{has-level, has-room, rest-one}
 use Rattle.rules.specs.declared.verdicts.Verdict.the-variants as verdict
 use Rattle.rules.specs.Environment.{Environment}
 use Rattle.rules.specs.Choice.{carried}
+use Rattle.rules.specs.Uses.{Unfinished}
+use Rattle.rules.specs.Masks.{has}
 use Rattle.rules.specs.Neat.{Neat}
 use Rattle.rules.specs.Table.{environmentOf}
 use Rattle.rules.specs.Kept.{KeepsAll, Stays}
 use Rattle.rules.specs.Verdicts.{verdictOf}
 use Rattle.ownership.specs.declared.judge.JudgedTerm.{JudgedTerm}
+use Rattle.ownership.specs.RowUses.{laterAt}
 use Rattle.ownership.specs.JudgeRows.{ended, judgeAt}
+use Rattle.ownership.proofs.LaterLaws.{Follows, tree-follows}
 use Rattle.ownership.proofs.BlockLaws.{one-judged}
 use Rattle.ownership.proofs.BranchLaws.{first-ready, first-refused, first-neat, first-stays, second-ready, second-start, second-refused, second-neat, second-stays, branches-fine}
 use Rattle.ownership.proofs.judge.judge_branches.Reads as judge-branches
@@ -32,7 +36,7 @@ module _ (t : ℕ) (k : judge-branches-lts.After-known-told (judge-branches-clai
   at-keep = at-one .before .before .before .before
 
   abbrev start : judge-branches-lts.Start (judge-branches-claims t) (judge-branches-at t) judge-branches.Post
-  start = at-keep .before .before .before .before .before .before
+  start = at-keep .before .before .before .before .before .before .before
 
   abbrev inside : ℕ → RowTree Term
   inside = treeAt (start .args .variables) (start .args .levels - 1) (start .args .rows .now)
@@ -40,23 +44,29 @@ module _ (t : ℕ) (k : judge-branches-lts.After-known-told (judge-branches-clai
   abbrev Γ : Environment
   Γ = environmentOf (start .args .env .now)
 
+  abbrev later : ℕ → Unfinished
+  later = laterAt (start .args .variables) (start .args .uses .now) (has (start .args .named))
+
+  follows : Follows (start .args .variables) later inside
+  follows = tree-follows _ _ _ (start .pre .1 .5) _ _
+
   abbrev one : JudgedTerm
   one = at-one .judge-terms .result
 
   abbrev env₁ : List ℕ
   env₁ = at-one .judge-terms .last .1 .1 .1 .1 .0
 
-  judged₁ : ended env₁ one ≡ judgeAt (start .args .variables) (inside (start .args .i + 1)) (start .args .level) Γ
-  judged₁ = at-one .judge-terms .ensures .0 ∙ one-judged _ _ _ _ _ _
+  judged₁ : ended env₁ one ≡ judgeAt (start .args .variables) (inside (start .args .i + 1)) (start .args .level) later Γ
+  judged₁ = at-one .judge-terms .ensures .0 ∙ one-judged _ _ _ _ _ _ _
 
   fine₁ : verdictOf (one .told) ≡ verdict.Fine (k .before .verdict .given .0 .0)
   fine₁ = sym (k .before .before .before .verdict-of .ensures) ∙ k .before .verdict .given .1
 
   neat₁ : Neat (start .args .variables) (environmentOf env₁) (start .args .level)
-  neat₁ = first-neat _ _ _ _ (start .pre .1 .0) (start .pre .1 .1) _ _ _ _ judged₁ (start .pre .1 .3) _ fine₁
+  neat₁ = first-neat _ _ _ _ (start .pre .1 .0) (start .pre .1 .1) _ _ follows _ _ _ judged₁ (start .pre .1 .3) _ fine₁
 
   stays₁ : Stays Γ (environmentOf env₁)
-  stays₁ = first-stays _ _ _ _ (start .pre .1 .0) (start .pre .1 .1) _ _ _ _ judged₁ (start .pre .1 .3) _ fine₁
+  stays₁ = first-stays _ _ _ _ (start .pre .1 .0) (start .pre .1 .1) _ _ follows _ _ _ judged₁ (start .pre .1 .3) _ fine₁
 
 -- Where the second block begins.
 module _ (t : ℕ) (x : judge-branches-lts.After-exchange (judge-branches-claims t) (judge-branches-at t) judge-branches.Post) where
@@ -71,8 +81,8 @@ module _ (t : ℕ) (j : judge-branches-lts.After-judge-terms2 (judge-branches-cl
   abbrev at-exchange : judge-branches-lts.After-exchange (judge-branches-claims t) (judge-branches-at t) judge-branches.Post
   at-exchange = j .before .before .before .before .before .before
 
-  judged₂ : ended (j .judge-terms2 .last .1 .1 .1 .1 .0) (j .judge-terms2 .result) ≡ judgeAt (start t (fine-one t at-exchange) .args .variables) (inside t (fine-one t at-exchange) (one t (fine-one t at-exchange) .next)) (start t (fine-one t at-exchange) .args .level) (environmentOf (at-exchange .exchange .last .0))
-  judged₂ = j .judge-terms2 .ensures .0 ∙ one-judged _ _ _ _ _ _
+  judged₂ : ended (j .judge-terms2 .last .1 .1 .1 .1 .0) (j .judge-terms2 .result) ≡ judgeAt (start t (fine-one t at-exchange) .args .variables) (inside t (fine-one t at-exchange) (one t (fine-one t at-exchange) .next)) (start t (fine-one t at-exchange) .args .level) (later t (fine-one t at-exchange)) (environmentOf (at-exchange .exchange .last .0))
+  judged₂ = j .judge-terms2 .ensures .0 ∙ one-judged _ _ _ _ _ _ _
 
 -- Where it is fine.
 module _ (t : ℕ) (k : judge-branches-lts.After-known-told2 (judge-branches-claims t) (judge-branches-at t) judge-branches.Post) where
@@ -84,26 +94,26 @@ module _ (t : ℕ) (k : judge-branches-lts.After-known-told2 (judge-branches-cla
 
 pub judge-branches-keep-requires : (t : ℕ) → judge-branches-lts.Need-keep-requires (judge-branches-claims t) (judge-branches-at t) judge-branches.Post
 judge-branches-keep-requires t c κs =
-    let start = c .before .before .before .before .before in
+    let start = c .before .before .before .before .before .before in
     let p = start .pre .1 in
-    ((p .2, (_, p .3)), p .5, p .6)
+    ((p .2, (_, p .3)), p .6, p .7)
 
 pub judge-branches-add-judge-terms : (t : ℕ) → judge-branches-lts.Need-add-judge-terms (judge-branches-claims t) (judge-branches-at t) judge-branches.Post
 judge-branches-add-judge-terms t c =
-    let start = c .before .before .before .before .before .before .before .before in
+    let start = c .before .before .before .before .before .before .before .before .before in
     omega (arith, has-room _ _ _ _ (start .pre .1 .0))
 
 pub judge-branches-sub-judge-terms : (t : ℕ) → judge-branches-lts.Need-sub-judge-terms (judge-branches-claims t) (judge-branches-at t) judge-branches.Post
 judge-branches-sub-judge-terms t c =
-    let start = c .before .before .before .before .before .before .before .before in
+    let start = c .before .before .before .before .before .before .before .before .before in
     omega (arith, has-level _ _ _ _ (start .pre .1 .0))
 
 pub judge-branches-judge-terms-requires : (t : ℕ) → judge-branches-lts.Need-judge-terms-requires (judge-branches-claims t) (judge-branches-at t) judge-branches.Post
 judge-branches-judge-terms-requires t c κs =
-    let start = c .before .before .before .before .before .before .before .before .before in
+    let start = c .before .before .before .before .before .before .before .before .before .before in
     let p = start .pre .1 in
     let first = first-ready _ _ _ _ (p .0) (p .1) in
-    (omega (arith, start .pre .0, has-level _ _ _ _ (p .0)), (rest-one _ _ (first .0), p .2, p .3, omega (arith, p .4)))
+    (omega (arith, start .pre .0, has-level _ _ _ _ (p .0)), (rest-one _ _ (first .0), p .2, p .3, omega (arith, p .4), p .5))
 
 pub judge-branches-verdict-of-requires : (t : ℕ) → judge-branches-lts.Need-verdict-of-requires (judge-branches-claims t) (judge-branches-at t) judge-branches.Post
 judge-branches-verdict-of-requires t c κs = search needs
@@ -128,17 +138,17 @@ pub judge-branches-returns : (t : ℕ) → judge-branches-lts.Need-returns (judg
 judge-branches-returns t c =
     let at-verdict-of = c .before .before in
     let at-judge-terms = at-verdict-of .before .before .before in
-    let start = at-judge-terms .before .before .before .before .before .before .before .before .before .before in
+    let start = at-judge-terms .before .before .before .before .before .before .before .before .before .before .before in
     let p = start .pre .1 in
-    let e = at-judge-terms .judge-terms .ensures .0 ∙ one-judged _ _ _ _ _ _ in
+    let e = at-judge-terms .judge-terms .ensures .0 ∙ one-judged _ _ _ _ _ _ _ in
     let refused = sym (at-verdict-of .verdict-of .ensures) ∙ c .enum-told .given .1 in
-    (first-refused _ _ _ _ (p .0) (p .1) _ _ _ _ e _ refused, at-judge-terms .judge-terms .ensures .1)
+    (first-refused _ _ _ _ (p .0) (p .1) _ _ (tree-follows _ _ _ (p .5) _ _) _ _ _ e _ refused, at-judge-terms .judge-terms .ensures .1)
 
 pub judge-branches-exchange-requires : (t : ℕ) → judge-branches-lts.Need-exchange-requires (judge-branches-claims t) (judge-branches-at t) judge-branches.Post
 judge-branches-exchange-requires t c κs =
     let k = c .before .before in
     let p = start t k .pre .1 in
-    ((at-one t k .judge-terms .ensures .1, (_, neat₁ t k)), omega (arith, p .5, p .2 .2 .most), omega (arith, p .6, at-keep t k .keep .kept .1 .1 .0))
+    ((at-one t k .judge-terms .ensures .1, (_, neat₁ t k)), omega (arith, p .6, p .2 .2 .most), omega (arith, p .7, at-keep t k .keep .kept .1 .1 .0))
 
 pub judge-branches-sub-judge-terms-2 : (t : ℕ) → judge-branches-lts.Need-sub-judge-terms-2 (judge-branches-claims t) (judge-branches-at t) judge-branches.Post
 judge-branches-sub-judge-terms-2 t c =
@@ -150,8 +160,8 @@ judge-branches-judge-terms-requires-2 t c κs =
     let x = c .before .before .before .before .before in
     let k = fine-one t x in
     let p = start t k .pre .1 in
-    let second = second-ready _ _ _ _ (p .0) (p .1) _ _ _ _ (judged₁ t k) (p .3) _ (fine₁ t k) in
-    (omega (arith, start t k .pre .0, has-level _ _ _ _ (p .0)), (rest-one _ _ (second .0), x .exchange .ensures .1, second-start _ _ _ _ (p .0) (p .1) _ _ _ _ (judged₁ t k) (p .3) _ (fine₁ t k) _ (exchanged t x .0), omega (arith, p .4)))
+    let second = second-ready _ _ _ _ (p .0) (p .1) _ _ (follows t k) _ _ _ (judged₁ t k) (p .3) _ (fine₁ t k) in
+    (omega (arith, start t k .pre .0, has-level _ _ _ _ (p .0)), (rest-one _ _ (second .0), x .exchange .ensures .1, second-start _ _ _ _ (p .0) (p .1) _ _ (follows t k) _ _ _ (judged₁ t k) (p .3) _ (fine₁ t k) _ (exchanged t x .0), omega (arith, p .4), p .5))
 
 pub judge-branches-verdict-of-requires-2 : (t : ℕ) → judge-branches-lts.Need-verdict-of-requires-2 (judge-branches-claims t) (judge-branches-at t) judge-branches.Post
 judge-branches-verdict-of-requires-2 t c κs = search needs
@@ -180,7 +190,7 @@ judge-branches-returns-2 t c =
     let k = fine-one t x in
     let p = start t k .pre .1 in
     let refused = sym (c .before .before .verdict-of2 .ensures) ∙ c .enum-told2 .given .1 in
-    (second-refused _ _ _ _ (p .0) (p .1) _ _ _ _ (judged₁ t k) (p .3) _ (fine₁ t k) _ (exchanged t x .0) _ _ (judged₂ t j) _ refused, j .judge-terms2 .ensures .1)
+    (second-refused _ _ _ _ (p .0) (p .1) _ _ (follows t k) _ _ _ (judged₁ t k) (p .3) _ (fine₁ t k) _ (exchanged t x .0) _ _ (judged₂ t j) _ refused, j .judge-terms2 .ensures .1)
 
 pub judge-branches-join-requires : (t : ℕ) → judge-branches-lts.Need-join-requires (judge-branches-claims t) (judge-branches-at t) judge-branches.Post
 judge-branches-join-requires t c κs =
@@ -188,8 +198,8 @@ judge-branches-join-requires t c κs =
     let x = at-exchange t j in
     let k = fine-one t x in
     let p = start t k .pre .1 in
-    let neat = second-neat _ _ _ _ (p .0) (p .1) _ _ _ _ (judged₁ t k) (p .3) _ (fine₁ t k) _ (exchanged t x .0) _ _ (judged₂ t j) _ (fine₂ t (c .before .before)) in
-    ((j .judge-terms2 .ensures .1, (_, neat)), omega (arith, p .5, p .2 .2 .most), omega (arith, p .6, at-keep t k .keep .kept .1 .1 .0, x .exchange .kept .1 .1 .0))
+    let neat = second-neat _ _ _ _ (p .0) (p .1) _ _ (follows t k) _ _ _ (judged₁ t k) (p .3) _ (fine₁ t k) _ (exchanged t x .0) _ _ (judged₂ t j) _ (fine₂ t (c .before .before)) in
+    ((j .judge-terms2 .ensures .1, (_, neat)), omega (arith, p .6, p .2 .2 .most), omega (arith, p .7, at-keep t k .keep .kept .1 .1 .0, x .exchange .kept .1 .1 .0))
 
 pub judge-branches-judge-either-requires : (t : ℕ) → judge-branches-lts.Need-judge-either-requires (judge-branches-claims t) (judge-branches-at t) judge-branches.Post
 judge-branches-judge-either-requires t c κs = search needs
@@ -217,6 +227,6 @@ judge-branches-returns-3 t c =
     let x = at-exchange t j in
     let k = fine-one t x in
     let p = start t k .pre .1 in
-    let stays₂ = second-stays _ _ _ _ (p .0) (p .1) _ _ _ _ (judged₁ t k) (p .3) _ (fine₁ t k) _ (exchanged t x .0) _ _ (judged₂ t j) _ (fine₂ t m) in
+    let stays₂ = second-stays _ _ _ _ (p .0) (p .1) _ _ (follows t k) _ _ _ (judged₁ t k) (p .3) _ (fine₁ t k) _ (exchanged t x .0) _ _ (judged₂ t j) _ (fine₂ t m) in
     let joins = at-join .join .ensures .0 _ _ _ (neat₁ t k) (exchanged t x .1) (stays₁ t k) stays₂ in
-    (branches-fine _ _ _ _ (p .0) (p .1) _ _ _ _ (judged₁ t k) (p .3) _ (fine₁ t k) _ (exchanged t x .0) _ _ (judged₂ t j) _ (fine₂ t m) _ (at-join .join .ensures .2) joins _ (c .before .judge-either .ensures) _ (c .judged-term .ensures), at-join .join .ensures .1)
+    (branches-fine _ _ _ _ (p .0) (p .1) _ _ (follows t k) _ _ _ (judged₁ t k) (p .3) _ (fine₁ t k) _ (exchanged t x .0) _ _ (judged₂ t j) _ (fine₂ t m) _ (at-join .join .ensures .2) joins _ (c .before .judge-either .ensures) _ (c .judged-term .ensures), at-join .join .ensures .1)

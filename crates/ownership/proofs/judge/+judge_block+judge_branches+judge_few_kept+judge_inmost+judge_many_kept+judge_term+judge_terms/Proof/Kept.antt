@@ -14,9 +14,9 @@ judge-few-kept-slice-aggregate-judge-branches t c = refl
 
 pub judge-few-kept-judge-branches-requires : (t : ℕ) → judge-few-kept-lts.Need-judge-branches-requires (judge-few-kept-claims t) (judge-few-kept-at t) judge-few-kept.Post
 judge-few-kept-judge-branches-requires t c κs =
-    let start = c .before .before .before .before in
+    let start = c .before .before .before .before .before in
     let p = start .pre .1 in
-    (omega (arith, start .pre .0), (p .0, p .1, p .2, p .3, p .4, p .5, omega (arith, p .6)))
+    (omega (arith, start .pre .0), (p .0, p .1, p .2, p .3, p .4, p .5, p .6, omega (arith, p .7)))
 
 pub judge-few-kept-same-length : (t : ℕ) → judge-few-kept-lts.Need-same-length (judge-few-kept-claims t) (judge-few-kept-at t) judge-few-kept.Post
 judge-few-kept-same-length t c = c .before .before .before .judge-branches .kept .1 .1 .1 .0
@@ -29,9 +29,9 @@ judge-many-kept-slice-aggregate-judge-branches t c = refl
 
 pub judge-many-kept-judge-branches-requires : (t : ℕ) → judge-many-kept-lts.Need-judge-branches-requires (judge-many-kept-claims t) (judge-many-kept-at t) judge-many-kept.Post
 judge-many-kept-judge-branches-requires t c κs =
-    let start = c .before .before .before .before in
+    let start = c .before .before .before .before .before in
     let p = start .pre .1 in
-    (omega (arith, start .pre .0), (p .0, p .1, p .2, p .3, p .4, p .5, omega (arith, p .5, p .2 .1, p .2 .2 .most)))
+    (omega (arith, start .pre .0), (p .0, p .1, p .2, p .3, p .4, p .5, p .6, omega (arith, p .6, p .2 .1, p .2 .2 .most)))
 
 pub judge-many-kept-same-length : (t : ℕ) → judge-many-kept-lts.Need-same-length (judge-many-kept-claims t) (judge-many-kept-at t) judge-many-kept.Post
 judge-many-kept-same-length t c = c .before .before .before .judge-branches .kept .1 .1 .1 .0

@@ -7,10 +7,12 @@ use Rattle.reader.specs.Kinds.{wrapsOf}
 use Rattle.reader.specs.RowParts.{fieldAt}
 use Rattle.reader.specs.RowTrees.{IsTree, treeAt}
 use Rattle.reader.proofs.RowTreeLaws.{has-level, has-room}
+use Rattle.rules.specs.Masks.{has}
 use Rattle.rules.specs.Table.{environmentOf}
+use Rattle.ownership.specs.RowUses.{laterAt}
 use Rattle.ownership.proofs.JudgeLaws.{refused-ended}
 use Rattle.ownership.proofs.AroundLaws.{met-begun, refused-begun, wrapped}
-use Rattle.ownership.proofs.InwardsLaws.{Outwards, inwards-start, inwards-more, inwards-neat, inwards-tree, inwards-refused, outwards-none, outwards-less, outwards-wraps, outwards-ready}
+use Rattle.ownership.proofs.InwardsLaws.{Outwards, inwards-start, inwards-more, inwards-neat, inwards-tree, inwards-around, inwards-refused, outwards-start, outwards-none, outwards-less, outwards-around, outwards-ready}
 use Rattle.ownership.proofs.judge.judge_inmost.Reads as judge-inmost
 use Rattle.ownership.proofs.judge.judge_term.Reads as judge-term
 use Rattle.ownership.proofs.judge.+judge_block+judge_branches+judge_few_kept+judge_inmost+judge_many_kept+judge_term+judge_terms.Lts-judge_term as judge-term-lts
@@ -19,7 +21,7 @@ use Rattle.ownership.proofs.judge.+judge_block+judge_branches+judge_few
 -- Some terms in, inwards: the next is a term.
 module _ (t : ℕ) (l : judge-term-lts.At-loop (judge-term-claims t) (judge-term-at t) judge-term.Post judge-term-Inv-loop judge-term-μ-loop judge-term-Inv-loop2 judge-term-μ-loop2) where
   abbrev start : judge-term-lts.Start (judge-term-claims t) (judge-term-at t) judge-term.Post judge-term-Inv-loop judge-term-μ-loop judge-term-Inv-loop2 judge-term-μ-loop2
-  start = l .before .before .before
+  start = l .before .before .before .before
 
   tree : IsTree (treeAt (start .args .variables) (start .args .levels - l .loop .around) (start .args .rows .now) (start .args .i + l .loop .around))
   tree = inwards-tree _ _ _ _ (start .pre .1 .0) _ _ _ (l .loop .inv .2)
@@ -40,11 +42,11 @@ module _ (t : ℕ) (o : judge-term-lts.At-loop2 (judge-term-claims t) (judge-ter
   abbrev inmost : judge-term-lts.At-loop (judge-term-claims t) (judge-term-at t) judge-term.Post judge-term-Inv-loop judge-term-μ-loop judge-term-Inv-loop2 judge-term-μ-loop2
   inmost = at-inmost .before .before .before .before .before
 
-  outwards : Outwards (start t inmost .args .variables) (start t inmost .args .levels) (start t inmost .args .rows .now) (start t inmost .args .i) (start t inmost .args .level) (environmentOf (start t inmost .args .env .now)) (o .loop2 .around) (o .loop2 .env) (o .loop2 .judged)
-  outwards = o .loop2 .inv .3 _ (_, inmost .loop .inv .2, at-inmost .judge-inmost .ensures .0)
+  outwards : Outwards (start t inmost .args .variables) (start t inmost .args .levels) (start t inmost .args .rows .now) (start t inmost .args .i) (laterAt (start t inmost .args .variables) (start t inmost .args .uses .now) (has (start t inmost .args .named))) (start t inmost .args .level) (environmentOf (start t inmost .args .env .now)) (o .loop2 .around) (o .loop2 .env) (o .loop2 .judged)
+  outwards = o .loop2 .inv .3 _ (outwards-start _ _ _ _ _ _ _ _ _ (inmost .loop .inv .2) _ _ (at-inmost .judge-inmost .ensures .0))
 
 pub judge-term-loop-holds : (t : ℕ) → judge-term-lts.Need-loop-holds (judge-term-claims t) (judge-term-at t) judge-term.Post judge-term-Inv-loop judge-term-μ-loop judge-term-Inv-loop2 judge-term-μ-loop2
-judge-term-loop-holds t c = (refl, c .before .before .pre .1 .1, inwards-start _ _ _)
+judge-term-loop-holds t c = (refl, c .before .before .before .pre .1 .1, inwards-start _ _ _)
 
 pub judge-term-add-field-at : (t : ℕ) → judge-term-lts.Need-add-field-at (judge-term-claims t) (judge-term-at t) judge-term.Post judge-term-Inv-loop judge-term-μ-loop judge-term-Inv-loop2 judge-term-μ-loop2
 judge-term-add-field-at t c = omega (arith, has-room _ _ _ _ (tree t c))
@@ -82,7 +84,7 @@ judge-term-returns t c =
     let w = at-before .before .before .before in
     let l = inwards t w in
     let begun = refused-begun _ (at-begun .begun .given .1) (at-before .judge-before .ensures .0) in
-    (refused-ended _ _ _ (c .refused .ensures) ∙ inwards-refused _ _ _ _ (start t l .pre .1 .0) _ _ _ _ (l .loop .inv .2) (sym (wraps-is t w) ∙ at-before .before .before .if1 .taken) _ begun, at-before .judge-before .ensures .1)
+    (refused-ended _ _ _ (c .refused .ensures) ∙ inwards-refused _ _ _ _ _ (start t l .pre .1 .0) _ _ _ _ (l .loop .inv .2) (sym (wraps-is t w) ∙ at-before .before .before .if1 .taken) _ begun, at-before .judge-before .ensures .1)
 
 pub judge-term-enum-told : (t : ℕ) → judge-term-lts.Need-enum-told (judge-term-claims t) (judge-term-at t) judge-term.Post judge-term-Inv-loop judge-term-μ-loop judge-term-Inv-loop2 judge-term-μ-loop2
 judge-term-enum-told t c = search needs
@@ -111,7 +113,7 @@ judge-term-judge-inmost-requires t c κs =
     let w = c .before .before in
     let l = inwards t w in
     let p = start t l .pre .1 in
-    (omega (arith, start t l .pre .0), (tree t l, sym (wraps-is t w) ∙ c .before .if1 .left, l .loop .inv .1, inwards-neat _ _ _ _ _ (p .2) _ _ (l .loop .inv .2), omega (arith, p .3)))
+    (omega (arith, start t l .pre .0), (tree t l, sym (wraps-is t w) ∙ c .before .if1 .left, l .loop .inv .1, inwards-neat _ _ _ _ _ (p .2) _ _ (l .loop .inv .2), omega (arith, p .3), p .4, omega arith, inwards-around _ _ _ _ (p .0) _ _ _ (l .loop .inv .2)))
 
 pub judge-term-loop2-holds : (t : ℕ) → judge-term-lts.Need-loop2-holds (judge-term-claims t) (judge-term-at t) judge-term.Post judge-term-Inv-loop judge-term-μ-loop judge-term-Inv-loop2 judge-term-μ-loop2
 judge-term-loop2-holds t c = (omega arith, refl, c .before .before .judge-inmost .ensures .1, λ Γ O. O)
@@ -127,7 +129,7 @@ judge-term-judge-after-requires t c κs =
     let o = c .before .before in
     let p = start t (inmost t o) .pre .1 in
     let more = c .before .loop2-test .taken in
-    (outwards-wraps _ _ _ _ (p .0) _ _ _ _ _ _ more refl (outwards t o), o .loop2 .inv .2, outwards-ready _ _ _ _ (p .0) _ _ _ _ _ _ more refl (p .2) (outwards t o))
+    (omega arith, outwards-around _ _ _ _ (p .0) _ _ _ _ more refl (outwards t o .1), o .loop2 .inv .2, p .4 .long, outwards-ready _ _ _ _ _ (p .0) _ _ _ _ _ _ more refl (p .2) (outwards t o))
 
 pub judge-term-loop2-less : (t : ℕ) → judge-term-lts.Need-loop2-less (judge-term-claims t) (judge-term-at t) judge-term.Post judge-term-Inv-loop judge-term-μ-loop judge-term-Inv-loop2 judge-term-μ-loop2
 judge-term-loop2-less t c = omega arith
@@ -137,11 +139,11 @@ judge-term-loop2-again t c =
     let at-after = c .before .before in
     let at-test = at-after .before .before in
     let o = at-test .before in
-    (omega (arith, o .loop2 .inv .0), at-after .judge-after .kept .1 .1 .0 ∙ o .loop2 .inv .1, at-after .judge-after .ensures .1, λ Γ O. outwards-less _ _ _ _ (start t (inmost t o) .pre .1 .0) _ _ _ _ _ _ (at-test .loop2-test .taken) refl (o .loop2 .inv .3 Γ O) _ _ (at-after .judge-after .ensures .0))
+    (omega (arith, o .loop2 .inv .0), at-after .judge-after .kept .1 .1 .1 .0 ∙ o .loop2 .inv .1, at-after .judge-after .ensures .1, λ Γ O. outwards-less _ _ _ _ _ (start t (inmost t o) .pre .1 .0) _ _ _ _ _ _ (at-test .loop2-test .taken) refl (o .loop2 .inv .3 Γ O) _ _ (at-after .judge-after .ensures .0))
 
 pub judge-term-same-length-2 : (t : ℕ) → judge-term-lts.Need-same-length-2 (judge-term-claims t) (judge-term-at t) judge-term.Post judge-term-Inv-loop judge-term-μ-loop judge-term-Inv-loop2 judge-term-μ-loop2
-judge-term-same-length-2 t c = c .before .loop2 .inv .1 ∙ at-inmost t (c .before) .judge-inmost .kept .1 .1 .1 .0 ∙ inmost t (c .before) .loop .inv .0
+judge-term-same-length-2 t c = c .before .loop2 .inv .1 ∙ at-inmost t (c .before) .judge-inmost .kept .1 .1 .1 .1 .0 ∙ inmost t (c .before) .loop .inv .0
 
 pub judge-term-returns-2 : (t : ℕ) → judge-term-lts.Need-returns-2 (judge-term-claims t) (judge-term-at t) judge-term.Post judge-term-Inv-loop judge-term-μ-loop judge-term-Inv-loop2 judge-term-μ-loop2
 judge-term-returns-2 t c =
-    (outwards-none _ _ _ _ (start t (inmost t (c .before)) .pre .1 .0) _ _ _ _ _ (c .loop2-test .left) (outwards t (c .before)), c .before .loop2 .inv .2)
+    (outwards-none _ _ _ _ _ (start t (inmost t (c .before)) .pre .1 .0) _ _ _ _ _ (c .loop2-test .left) (outwards t (c .before)), c .before .loop2 .inv .2)

@@ -1,13 +1,13 @@
--- `rules::assign::judge_assign` meets its contract. Assumes nothing.
+-- `rules::assign::judge_write` meets its contract. Assumes nothing.
 use mathlib.Core.Path.{refl, _∙_}
 use borrow.Author.Needs.{needs}
 use Rattle.reader.specs.Result.{_>>=_}
-use Rattle.rules.specs.Rules.{valued, judgeAssign}
+use Rattle.rules.specs.Rules.{valued, judgeWrite}
 use Rattle.rules.specs.Verdicts.{asValue}
 use Rattle.rules.proofs.ToldLaws.{told-refused}
 use Rattle.rules.proofs.AssignLaws.{located-as}
-use Rattle.rules.proofs.assign.judge_assign.Statement.{statement}
-use Rattle.rules.proofs.assign.judge_assign.Tie as tie
+use Rattle.rules.proofs.assign.judge_write.Statement.{statement}
+use Rattle.rules.proofs.assign.judge_write.Tie as tie
 
 enum-known-inner : tie.Need-enum-known-inner
 enum-known-inner c = search needs
@@ -19,7 +19,7 @@ refused-requires : tie.Need-refused-requires
 refused-requires c κs = search needs
 
 returns : tie.Need-returns
-unfolding judgeAssign asValue valued _>>=_
+unfolding judgeWrite asValue valued _>>=_
 returns c = (λ i. told-refused _ _ (c .refused .ensures) _ i ∙ rw (c .before .enum-told .given .1), c .before .before .before .before .pre .0)
 
 judge-place-requires : tie.Need-judge-place-requires
@@ -34,8 +34,8 @@ refused-requires-2 c κs = search needs
 enum-known-located-2 : tie.Need-enum-known-located-2
 enum-known-located-2 c = search needs
 
-assign-own-requires : tie.Need-assign-own-requires
-assign-own-requires c κs =
+write-own-requires : tie.Need-write-own-requires
+write-own-requires c κs =
     let at-located = c .before .before in
     let at-judge-place = at-located .before .before in
     let start = at-judge-place .before .before .before .before .before .before in
@@ -44,8 +44,8 @@ assign-own-requires c κs =
 enum-known-located-3 : tie.Need-enum-known-located-3
 enum-known-located-3 c = search needs
 
-assign-beyond-requires : tie.Need-assign-beyond-requires
-assign-beyond-requires c κs =
+write-beyond-requires : tie.Need-write-beyond-requires
+write-beyond-requires c κs =
     let at-located = c .before .before in
     let at-judge-place = at-located .before .before in
     let start = at-judge-place .before .before .before .before .before .before in
@@ -55,7 +55,7 @@ same-length : tie.Need-same-length
 same-length c = search needs
 
 returns-2 : tie.Need-returns-2
-unfolding judgeAssign asValue valued _>>=_
+unfolding judgeWrite asValue valued _>>=_
 returns-2 c =
     let at-located = c .before .before in
     let at-judge-place = at-located .before .before in
@@ -71,21 +71,21 @@ same-length-2 c = search needs
 
 returns-3 : tie.Need-returns-3
 returns-3 c =
-    let at-assign = c .before .before in
-    let is-of = at-assign .before .before .before .before .before .before .before .before .inner .given .1 in
-    (λ i. rw is-of (at-assign .assign-own .ensures .0 i), at-assign .assign-own .ensures .1)
+    let at-write = c .before .before in
+    let is-of = at-write .before .before .before .before .before .before .before .before .inner .given .1 in
+    (λ i. rw is-of (at-write .write-own .ensures .0 i), at-write .write-own .ensures .1)
 
 same-length-3 : tie.Need-same-length-3
 same-length-3 c = search needs
 
 returns-4 : tie.Need-returns-4
 returns-4 c =
-    let at-assign = c .before .before in
-    let is-of = at-assign .before .before .before .before .before .before .before .before .inner .given .1 in
-    (λ i. rw is-of (at-assign .assign-beyond .ensures .0 i), at-assign .assign-beyond .ensures .1)
+    let at-write = c .before .before in
+    let is-of = at-write .before .before .before .before .before .before .before .before .inner .given .1 in
+    (λ i. rw is-of (at-write .write-beyond .ensures .0 i), at-write .write-beyond .ensures .1)
 
-pub judge-assign-spec : {M : Type 1} → statement M
-judge-assign-spec =
+pub judge-write-spec : {M : Type 1} → statement M
+judge-write-spec =
     tie.close
     (tie.spec
     enum-known-inner
@@ -96,9 +96,9 @@ judge-assign-spec =
     enum-known-located
     refused-requires-2
     enum-known-located-2
-    assign-own-requires
+    write-own-requires
     enum-known-located-3
-    assign-beyond-requires
+    write-beyond-requires
     same-length
     returns-2
     same-length-2

@@ -1,13 +1,13 @@
--- `rules::assign::assign_own` meets its contract. Assumes nothing.
+-- `rules::assign::write_own` meets its contract. Assumes nothing.
 use mathlib.Core.Path.{sym, _∙_}
 use borrow.Author.Needs.{needs}
 use borrow.Author.Tests.{not-true, not-false}
 use Rattle.rules.specs.Verdicts.{asValue}
 use Rattle.rules.proofs.ToldLaws.{told-refused, told-fine}
 use Rattle.rules.proofs.PlaceLaws.{named-inside}
-use Rattle.rules.proofs.OwnLaws.{own-other-links, own-too-short, own-barred, own-assigned}
-use Rattle.rules.proofs.assign.assign_own.Statement.{statement}
-use Rattle.rules.proofs.assign.assign_own.Tie as tie
+use Rattle.rules.proofs.OwnLaws.{own-other-links, own-too-short, own-written}
+use Rattle.rules.proofs.assign.write_own.Statement.{statement}
+use Rattle.rules.proofs.assign.write_own.Tie as tie
 
 refused-requires : tie.Need-refused-requires
 refused-requires c κs = search needs
@@ -54,46 +54,16 @@ refill-requires c κs =
     let start = at-index-of .before .before .before .before in
     (start .pre .0 .0, named-inside _ _ (start .pre .0) 0 _ (start .pre .1 0 .named) _ (at-index-of .index-of .ensures))
 
-write-barred-requires : tie.Need-write-barred-requires
-write-barred-requires c κs =
-    let at-refill = c .before .before .before in
-    let at-index-of = at-refill .before .before .before .before .before .before .before .before in
-    let start = at-index-of .before .before .before .before in
-    (at-refill .refill .ensures .1, named-inside _ _ (start .pre .0) 0 _ (start .pre .1 0 .named) _ (at-index-of .index-of .ensures))
-
-refused-requires-3 : tie.Need-refused-requires-3
-refused-requires-3 c κs = search needs
+fine-requires : tie.Need-fine-requires
+fine-requires c κs = search needs
 
 same-length-2 : tie.Need-same-length-2
 same-length-2 c = search needs
 
 returns-3 : tie.Need-returns-3
-returns-3 c =
-    let at-barred = c .before .before in
-    let at-refill = at-barred .before .before .before .before in
-    let at-enough = at-refill .before .before in
-    let at-lives = at-enough .before in
-    let at-level = at-lives .before in
-    let at-recorded = at-level .before .before in
-    let at-index-of = at-recorded .before .before in
-    let at-same = at-index-of .before in
-    let start = at-same .before .before .before in (
-      λ i. told-refused _ _ (c .refused3 .ensures) _ i
-          ∙ sym (own-barred _ _ (start .pre .0) i _ (start .pre .1 i) _ (at-same .if1 .left) _ (at-recorded .recorded-roots .ensures (start .args .env .now)) _ (at-index-of .index-of .ensures) _ (at-level .level-at .ensures) (at-lives .lives-at .result) (at-lives .lives-at .ensures) (not-false (at-lives .lives-at .result) (at-enough .if2 .left)) _ (at-refill .refill .ensures .0) (at-barred .write-barred .result) (at-barred .write-barred .ensures) (c .before .if3 .taken)),
-      at-refill .refill .ensures .1,
-    )
-
-fine-requires : tie.Need-fine-requires
-fine-requires c κs = search needs
-
-same-length-3 : tie.Need-same-length-3
-same-length-3 c = search needs
-
-returns-4 : tie.Need-returns-4
 unfolding asValue
-returns-4 c =
-    let at-barred = c .before .before in
-    let at-refill = at-barred .before .before .before .before in
+returns-3 c =
+    let at-refill = c .before .before .before in
     let at-enough = at-refill .before .before in
     let at-lives = at-enough .before in
     let at-level = at-lives .before in
@@ -102,12 +72,12 @@ returns-4 c =
     let at-same = at-index-of .before in
     let start = at-same .before .before .before in (
       λ i. told-fine _ _ (c .fine .ensures) _ i
-          ∙ sym (own-assigned _ _ (start .pre .0) i _ (start .pre .1 i) _ (at-same .if1 .left) _ (at-recorded .recorded-roots .ensures (start .args .env .now)) _ (at-index-of .index-of .ensures) _ (at-level .level-at .ensures) (at-lives .lives-at .result) (at-lives .lives-at .ensures) (not-false (at-lives .lives-at .result) (at-enough .if2 .left)) _ (at-refill .refill .ensures .0) (at-barred .write-barred .result) (at-barred .write-barred .ensures) (c .before .if3 .left)),
+          ∙ sym (own-written _ _ (start .pre .0) i _ (start .pre .1 i) _ (at-same .if1 .left) _ (at-recorded .recorded-roots .ensures (start .args .env .now)) _ (at-index-of .index-of .ensures) _ (at-level .level-at .ensures) (at-lives .lives-at .result) (at-lives .lives-at .ensures) (not-false (at-lives .lives-at .result) (at-enough .if2 .left)) _ (at-refill .refill .ensures .0)),
       at-refill .refill .ensures .1,
     )
 
-pub assign-own-spec : {M : Type 1} → statement M
-assign-own-spec =
+pub write-own-spec : {M : Type 1} → statement M
+write-own-spec =
     tie.close
     (tie.spec
     refused-requires
@@ -120,10 +90,6 @@ assign-own-spec =
     same-length
     returns-2
     refill-requires
-    write-barred-requires
-    refused-requires-3
-    same-length-2
-    returns-3
     fine-requires
-    same-length-3
-    returns-4)
+    same-length-2
+    returns-3)

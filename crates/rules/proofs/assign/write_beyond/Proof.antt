@@ -1,6 +1,5 @@
--- `rules::assign::assign_beyond` meets its contract. Assumes nothing.
-use Prim.Native.Nat.{ℕ, _<_}
-use mathlib.Core.Path.{_≡_, sym, _∙_, subst}
+-- `rules::assign::write_beyond` meets its contract. Assumes nothing.
+use mathlib.Core.Path.{_≡_, sym, _∙_}
 use mathlib.Core.Bool.{true}
 use lib.ListN.{take}
 use borrow.Author.Needs.{needs}
@@ -9,10 +8,9 @@ use Rattle.rules.specs.Links.{noShared}
 use Rattle.rules.specs.Chains.{chainOf}
 use Rattle.rules.specs.Verdicts.{asValue}
 use Rattle.rules.proofs.ToldLaws.{told-refused, told-fine}
-use Rattle.rules.proofs.EntryLaws.{live-inside}
-use Rattle.rules.proofs.AssignLaws.{passes-as, barred-as, shared-passed, other-links, lives-too-short, writing-barred, assigned}
-use Rattle.rules.proofs.assign.assign_beyond.Statement.{statement}
-use Rattle.rules.proofs.assign.assign_beyond.Tie as tie
+use Rattle.rules.proofs.AssignLaws.{passes-as, shared-passed, other-links, lives-too-short, written}
+use Rattle.rules.proofs.assign.write_beyond.Statement.{statement}
+use Rattle.rules.proofs.assign.write_beyond.Tie as tie
 
 -- Where no shared link is passed.
 passed : (e : tie.Else1) → noShared (take (e .before .before .before .before .args .place .follows) (chainOf (e .before .before .before .before .args .links))) ≡ true
@@ -79,49 +77,16 @@ write-to-requires c κs =
     let start = c .before .before .before .before .before .before .before .before .before .before .before .before in
     (start .pre .0 .0, start .pre .1 0 .low)
 
-index-of-requires-2 : tie.Need-index-of-requires-2
-index-of-requires-2 c κs = search needs
-
-write-barred-requires : tie.Need-write-barred-requires
-write-barred-requires c κs =
-    let at-write-to = c .before .before .before .before in
-    let start = at-write-to .before .before .before .before .before .before .before .before .before .before .before .before .before in
-    (at-write-to .write-to .ensures .1, subst (λ (x : ℕ). x < start .args .variables) (sym (c .index-of2 .ensures)) (live-inside _ _ (start .pre .0 .0) _ _ (start .pre .1 0 .root)))
-
-refused-requires-4 : tie.Need-refused-requires-4
-refused-requires-4 c κs = search needs
+fine-requires : tie.Need-fine-requires
+fine-requires c κs = search needs
 
 same-length-2 : tie.Need-same-length-2
 same-length-2 c = search needs
 
 returns-4 : tie.Need-returns-4
-returns-4 c =
-    let at-write-barred = c .before .before in
-    let at-index-of2 = at-write-barred .before in
-    let at-write-to = at-index-of2 .before .before .before .before in
-    let at-enough = at-write-to .before .before in
-    let at-live = at-enough .before in
-    let at-recorded = at-live .before .before in
-    let at-same = at-recorded .before .before in
-    let at-passed = at-same .before .before in
-    let start = at-passed .before .before .before .before in (
-      λ i. told-refused _ _ (c .refused4 .ensures) _ i
-          ∙ sym (writing-barred _ _ _ (start .pre .0 .1 .1) i _ _ _ _ (start .pre .1 i) _ (passed at-passed) (at-same .if2 .left) _ (at-recorded .recorded-roots .ensures (start .args .env .now)) (at-live .live-long-enough .result) (at-live .live-long-enough .ensures) (enough at-enough) _ (at-write-to .write-to .ensures .0) (barred-as _ _ _ _ _ _ (at-index-of2 .index-of2 .ensures) (at-write-barred .write-barred .ensures) (c .before .if4 .taken))),
-      at-write-to .write-to .ensures .1,
-    )
-
-fine-requires : tie.Need-fine-requires
-fine-requires c κs = search needs
-
-same-length-3 : tie.Need-same-length-3
-same-length-3 c = search needs
-
-returns-5 : tie.Need-returns-5
 unfolding asValue
-returns-5 c =
-    let at-write-barred = c .before .before in
-    let at-index-of2 = at-write-barred .before in
-    let at-write-to = at-index-of2 .before .before .before .before in
+returns-4 c =
+    let at-write-to = c .before .before .before in
     let at-enough = at-write-to .before .before in
     let at-live = at-enough .before in
     let at-recorded = at-live .before .before in
@@ -129,12 +94,12 @@ returns-5 c =
     let at-passed = at-same .before .before in
     let start = at-passed .before .before .before .before in (
       λ i. told-fine _ _ (c .fine .ensures) _ i
-          ∙ sym (assigned _ _ _ (start .pre .0 .1 .1) i _ _ _ _ (start .pre .1 i) _ (passed at-passed) (at-same .if2 .left) _ (at-recorded .recorded-roots .ensures (start .args .env .now)) (at-live .live-long-enough .result) (at-live .live-long-enough .ensures) (enough at-enough) _ (at-write-to .write-to .ensures .0) (barred-as _ _ _ _ _ _ (at-index-of2 .index-of2 .ensures) (at-write-barred .write-barred .ensures) (c .before .if4 .left))),
+          ∙ sym (written _ _ _ (start .pre .0 .1 .1) i _ _ _ _ (start .pre .1 i) _ (passed at-passed) (at-same .if2 .left) _ (at-recorded .recorded-roots .ensures (start .args .env .now)) (at-live .live-long-enough .result) (at-live .live-long-enough .ensures) (enough at-enough) _ (at-write-to .write-to .ensures .0)),
       at-write-to .write-to .ensures .1,
     )
 
-pub assign-beyond-spec : {M : Type 1} → statement M
-assign-beyond-spec =
+pub write-beyond-spec : {M : Type 1} → statement M
+write-beyond-spec =
     tie.close
     (tie.spec
     index-of-requires
@@ -149,11 +114,6 @@ assign-beyond-spec =
     same-length
     returns-3
     write-to-requires
-    index-of-requires-2
-    write-barred-requires
-    refused-requires-4
-    same-length-2
-    returns-4
     fine-requires
-    same-length-3
-    returns-5)
+    same-length-2
+    returns-4)

@@ -1,0 +1,75 @@
+-- What bars a root, by the code's answers: nobody does where nobody may, and what a set has is what the terms around name. Assumes nothing.
+use Prim.Native.Nat.{ℕ, zero, suc, _+_}
+use mathlib.Core.Path.{_≡_, refl, sym, ap, _∙_}
+use mathlib.Core.Bool.{Bool, true, false, false≢true}
+use mathlib.Core.List.{List}
+use lib.Dec.{ltb, eqb}
+use lib.ListN.{getD}
+use Rattle.reader.specs.Result.{pick}
+use Rattle.reader.specs.Kinds.{wrapsOf}
+use Rattle.reader.specs.RowParts.{fieldAt}
+use Rattle.rules.specs.declared.roots.Roots.{Roots}
+use Rattle.rules.specs.Uses.{Unfinished, names, namedLater}
+use Rattle.rules.specs.Bars.{heldBy, held}
+use Rattle.rules.specs.Masks.{has, isEmpty}
+use Rattle.rules.specs.Table.{environmentOf, borrowsBy, MayHold}
+use Rattle.rules.specs.Verdicts.{LaterIs}
+use Rattle.ownership.specs.RowUses.{rowNames, namings, namedWith}
+use Rattle.rules.proofs.MaskLaws.{none-in}
+use Rattle.ownership.proofs.RowUseLaws.{last-row}
+use Rattle.ownership.proofs.FoundUses.{names-one, wrap-one, box-none, named-one}
+
+-- Where nobody may hold a borrow of the root, none of these does.
+pub nobody-holds : (env : List ℕ) (any : Bool) (root : ℕ) (s : Roots) → MayHold env any root s → isEmpty s ≡ true → (these : ℕ → Bool) (n : ℕ) → held (borrowsBy any) these n (environmentOf env) root ≡ false
+unfolding held
+nobody-holds env any root s may e these zero = refl
+nobody-holds env any root s may e these (suc n) = go (heldBy (borrowsBy any) (environmentOf env n) root) refl (nobody-holds env any root s may e these n)
+  where
+    go : (b : Bool) → heldBy (borrowsBy any) (environmentOf env n) root ≡ b → held (borrowsBy any) these n (environmentOf env) root ≡ false
+        → elim b [ true ↦ elim (these n) [ true ↦ true | false ↦ held (borrowsBy any) these n (environmentOf env) root ] | false ↦ held (borrowsBy any) these n (environmentOf env) root ] ≡ false
+    go true k ih = absurd (false≢true (sym (none-in s e n) ∙ may n k))
+    go false k ih = ih
+
+-- The set has what the terms around name.
+pub later-has : (nv : ℕ) (uses : List ℕ) (from : ℕ) (s : Roots) (named : ℕ → Bool) (ns : Unfinished) → ((x : ℕ) → has s x ≡ named x) → LaterIs nv uses from named ns → LaterIs nv uses from (has s) ns
+later-has nv uses from s named ns e later x l = later x l ∙ ap (λ (b : Bool). pick (ltb from (getD uses x 0)) true b) (sym (e x))
+
+-- ---- the set, row by row
+
+pub nothing-named : (rows : List ℕ) (start : ℕ) (named : ℕ → Bool) (x : ℕ) → named x ≡ namedWith rows start 0 named x
+unfolding namedLater namings
+nothing-named rows start named x = go (named x)
+  where
+    go : (b : Bool) → b ≡ pick b true false
+    go true = refl
+    go false = refl
+
+pub named-all : (rows : List ℕ) (start k count : ℕ) (named all : ℕ → Bool) → k ≡ count → ((x : ℕ) → all x ≡ namedWith rows start k named x) → (x : ℕ) → all x ≡ namedWith rows start count named x
+named-all rows start k count named all e h x = rw (← e) (h x)
+
+module _ (rows : List ℕ) (start k : ℕ) (named all : ℕ → Bool) (so-far : (x : ℕ) → all x ≡ namedWith rows start k named x) where
+  abbrev byRow : ℕ → Bool → Bool
+  byRow x b = pick (named x) true (pick b true (namedLater (namings rows start k) x))
+
+  one-more : (next : ℕ) → next ≡ suc k → (x : ℕ) (b : Bool) → names (rowNames rows (start + k)) x ≡ b → namedWith rows start next named x ≡ byRow x b
+  one-more next en x b e = rw (en, last-row rows start k x, e)
+
+  -- A box names nothing, and the set stays.
+  pub named-box : (next : ℕ) → next ≡ suc k → (kind : ℕ) → kind ≡ fieldAt rows (start + k) 0 → kind ≡ 7 → (x : ℕ) → all x ≡ namedWith rows start next named x
+  unfolding names
+  named-box next en kind ek q x = so-far x ∙ sym (one-more next en x false (rw (← ek, box-none kind (fieldAt rows (start + k) 1) (fieldAt rows (start + k) 3) q)))
+
+  -- A let and an assign name one variable.
+  pub named-other : (next : ℕ) → next ≡ suc k → (kind y : ℕ) → kind ≡ fieldAt rows (start + k) 0 → y ≡ fieldAt rows (start + k) 1 → wrapsOf (fieldAt rows (start + k) 0) ≡ true → (kind ≡ 7 → ⊥)
+      → (more one : ℕ → Bool) → ((x : ℕ) → more x ≡ pick (all x) true (one x)) → ((x : ℕ) → one x ≡ eqb y x) → (x : ℕ) → more x ≡ namedWith rows start next named x
+  named-other next en kind y ek ey w n more one me oe x =
+      me x
+      ∙ rw (so-far x, oe x) (go (named x) (eqb y x) (namedLater (namings rows start k) x))
+      ∙ sym (one-more next en x (eqb y x) (rw (← ek, names-one kind (fieldAt rows (start + k) 1) (fieldAt rows (start + k) 3) (wrap-one kind (rw ek w) n), ← ey) (named-one y x)))
+    where
+      go : (a b c : Bool) → pick (pick a true c) true b ≡ pick a true (pick b true c)
+      go true b c = refl
+      go false true true = refl
+      go false true false = refl
+      go false false true = refl
+      go false false false = refl
