@@ -21,7 +21,8 @@ use crate::{Limits, Refusal};
 /// - 30: the number of a let is taken;
 /// - 31: the root of a place is not in scope; 32: its chain is not long
 ///   enough; 33: something is moved away on the path or of the value;
-/// - 34: reading the root is barred; 35: writing it is barred;
+/// - 34: reading the root is barred by an exclusive borrow; 35: writing it is
+///   barred by a borrow; only a borrow that a variable in use holds bars (3.34);
 /// - 36: a shared link is passed where only box and exclusive links may be;
 /// - 37: a copy of neither a number nor a shared borrow; 38: a move passes a
 ///   borrow link;
