@@ -127,5 +127,5 @@ pub use generate::{small_choices, Generator};
 pub use limits::Limits;
 pub use line::roomcheck;
 pub use machine::{run_unchecked, Ran};
-pub use ownership::check;
+pub use ownership::{check, check_by_scope};
 pub use refusal::Refusal;

@@ -12,6 +12,7 @@ use super::through_shared::LINKS;
 use super::versions;
 use super::Generator;
 use crate::form::MAX_COUNT;
+use crate::ownership::uses::Uses;
 use crate::random::Random;
 
 /// With at most so many terms, as many as there may be are not rare.
@@ -73,7 +74,7 @@ impl Generator {
         Author {
             random: &mut self.random,
             terms: &mut self.terms,
-            environment: State::new(),
+            environment: State::new(Uses::UNENDING),
             habits,
             version,
             variables: self.limits.variables,

@@ -3,6 +3,7 @@
 
 use super::chain::Chain;
 use super::roots::Roots;
+use super::uses::Uses;
 
 /// A variable and the links to follow from it.
 #[derive(Clone, Copy, Debug, PartialEq, Eq)]
@@ -71,10 +72,8 @@ pub(super) struct Variable {
     /// variables in scope, one lives in the block of the other or in one
     /// around it exactly if its level is not the higher one.
     level: u8,
-    /// How many variables hold a borrow of a place with this root, and how
-    /// many of these borrows are exclusive.
-    borrows: u8,
-    exclusive_borrows: u8,
+    /// The variables that hold a borrow of a place with this root.
+    holders: Roots,
 }
 
 impl Variable {
@@ -86,8 +85,7 @@ impl Variable {
         },
         chain: Chain::NUMBER,
         level: FREE,
-        borrows: 0,
-        exclusive_borrows: 0,
+        holders: Roots::NONE,
     };
 }
 
@@ -100,15 +98,20 @@ pub(crate) struct Environment<const VARIABLES: usize> {
     order: [u8; VARIABLES],
     count: usize,
     level: u8,
+    /// The variables whose first borrow link is exclusive.
+    exclusive: Roots,
+    pub(super) uses: Uses<VARIABLES>,
 }
 
 impl<const VARIABLES: usize> Environment<VARIABLES> {
-    pub(crate) fn new() -> Self {
+    pub(crate) fn new(uses: Uses<VARIABLES>) -> Self {
         Environment {
             variables: [Variable::UNUSED; VARIABLES],
             order: [0; VARIABLES],
             count: 0,
             level: 0,
+            exclusive: Roots::NONE,
+            uses,
         }
     }
 
@@ -156,14 +159,16 @@ impl<const VARIABLES: usize> Environment<VARIABLES> {
         })
     }
 
+    /// The variables that hold a borrow of a place with this root.
     #[inline]
-    pub(crate) fn reading_barred(&self, root: u8) -> bool {
-        self.variable(root).exclusive_borrows > 0
+    pub(super) fn holders(&self, root: u8) -> Roots {
+        self.variable(root).holders
     }
 
+    /// Those of them that hold an exclusive one.
     #[inline]
-    pub(crate) fn writing_barred(&self, root: u8) -> bool {
-        self.variable(root).borrows > 0
+    pub(super) fn exclusive_holders(&self, root: u8) -> Roots {
+        self.holders(root).within(self.exclusive)
     }
 
     /// Whether each of these roots lives in the block of each of the variables
@@ -183,32 +188,43 @@ impl<const VARIABLES: usize> Environment<VARIABLES> {
         roots.any(|root| self.variable(root).level == self.level)
     }
 
-    /// The borrow that a variable holds, if it holds one, is counted (`by` 1)
-    /// or no longer counted (`by` -1), at each root that it may be of.
+    /// The roots of the places that a variable holds borrows of.
     #[inline]
-    fn count_borrow(&mut self, variable: u8, by: i8) {
-        let Variable {
-            condition, chain, ..
-        } = *self.variable(variable);
+    fn held(&self, variable: u8) -> Roots {
+        let condition = self.variable(variable).condition;
         // A move passes no borrow link, so it always takes the first one along.
-        if condition.moved != NOTHING {
-            return;
+        match condition.moved {
+            NOTHING => condition.borrowed,
+            _ => Roots::NONE,
         }
-        for root in condition.borrowed {
+    }
+
+    /// A variable is entered with each root that it holds a borrow of.
+    #[inline]
+    fn hold(&mut self, variable: u8) {
+        let holder = Roots::one(variable);
+        for root in self.held(variable) {
             let root = &mut self.variables[root as usize];
-            root.borrows = root.borrows.wrapping_add_signed(by);
-            if chain.borrows_exclusively() {
-                root.exclusive_borrows = root.exclusive_borrows.wrapping_add_signed(by);
-            }
+            root.holders = root.holders.with(holder);
+        }
+    }
+
+    /// It is entered there no longer.
+    #[inline]
+    fn release(&mut self, variable: u8) {
+        let holder = Roots::one(variable);
+        for root in self.held(variable) {
+            let root = &mut self.variables[root as usize];
+            root.holders = root.holders.without(holder);
         }
     }
 
     /// Changes the condition of a variable, and what it holds with it.
     #[inline]
     fn change(&mut self, variable: u8, condition: Condition) {
-        self.count_borrow(variable, -1);
+        self.release(variable);
         self.variables[variable as usize].condition = condition;
-        self.count_borrow(variable, 1);
+        self.hold(variable);
     }
 
     pub(crate) fn declare(&mut self, variable: u8, value: Value) {
@@ -221,7 +237,10 @@ impl<const VARIABLES: usize> Environment<VARIABLES> {
         };
         self.order[self.count] = variable;
         self.count += 1;
-        self.count_borrow(variable, 1);
+        if value.chain.borrows_exclusively() {
+            self.exclusive = self.exclusive.with(Roots::one(variable));
+        }
+        self.hold(variable);
     }
 
     /// Moves away from a variable's link on.
@@ -295,7 +314,7 @@ impl<const VARIABLES: usize> Environment<VARIABLES> {
         while self.count > entered {
             self.count -= 1;
             let variable = self.order[self.count];
-            self.count_borrow(variable, -1);
+            self.release(variable);
             self.variables[variable as usize].level = TAKEN;
         }
         self.level -= 1;

@@ -6,12 +6,14 @@ pub(crate) mod environment;
 mod following;
 mod places;
 pub(crate) mod roots;
+pub(crate) mod uses;
 
 use crate::form::*;
 use crate::limits::Limits;
 use crate::refusal::*;
 use chain::Link;
 use environment::{Environment, Place, Value};
+use uses::Uses;
 
 /// Judges term rows by 74, 2, then 12 to 19, then the ownership rules, and
 /// answers the number of terms of an accepted script.
@@ -22,23 +24,38 @@ pub fn check(limits: Limits, rows: &[u32]) -> Result<u32, Refusal> {
     Ok(judged.terms as u32)
 }
 
+/// The same by the rule before borrows ended at their last use: every variable
+/// in scope counts as one in use. For tests, which tell by it where the present
+/// rule decides: a bar that is asked of a root with a holder is 34 or 35 here,
+/// and up to there both rules go the same way.
+pub fn check_by_scope(limits: Limits, rows: &[u32]) -> Result<u32, Refusal> {
+    let rows = lent_rows(limits, rows)?;
+    let judged = judge_all(limits, NEWEST, rows)?;
+    let rows = &rows[..judged.terms];
+    check_terms::<{ Limits::LARGEST.variables as usize }>(rows, Uses::UNENDING)?;
+    Ok(judged.terms as u32)
+}
+
 /// Judges rows of a right form by the ownership rules.
 #[inline]
 pub(crate) fn check_judged(limits: Limits, rows: &[Row]) -> Result<(), Refusal> {
     // A small set has a small environment, which is set up with each call.
     if limits.variables <= Limits::BASE.variables {
-        check_terms::<{ Limits::BASE.variables as usize }>(rows)
+        check_terms::<{ Limits::BASE.variables as usize }>(rows, Uses::of(rows))
     } else {
-        check_terms::<{ Limits::LARGEST.variables as usize }>(rows)
+        check_terms::<{ Limits::LARGEST.variables as usize }>(rows, Uses::of(rows))
     }
 }
 
 /// Judges all terms in an environment of so many variables.
-fn check_terms<const VARIABLES: usize>(rows: &[Row]) -> Result<(), Refusal> {
+fn check_terms<const VARIABLES: usize>(
+    rows: &[Row],
+    uses: Uses<VARIABLES>,
+) -> Result<(), Refusal> {
     let mut judge = Judge::<VARIABLES> {
         rows,
         next: 0,
-        environment: Environment::new(),
+        environment: Environment::new(uses),
     };
     match judge.term()? {
         Some(answer) if answer.chain.is_number() => Ok(()),
@@ -70,6 +87,7 @@ impl<const VARIABLES: usize> Judge<'_, VARIABLES> {
         self.next += 1;
         let row = &self.rows[term];
         let environment = &mut self.environment;
+        environment.uses.go_to(term);
         let judged = match row[0] {
             NUMBER | READING => Ok(Value::NUMBER),
             COPY => environment.copy(place(row, 1)),
@@ -117,10 +135,16 @@ impl<const VARIABLES: usize> Judge<'_, VARIABLES> {
 
     fn assigned(&mut self, term: usize, place: Place) -> Result<(), Refusal> {
         // The right side goes first: it may move away what the place passes.
+        // The root is in use meanwhile, and what only the right side names is
+        // no longer.
+        let before = self.environment.uses.begin(place.root);
         let value = self.inner(term)?;
+        self.environment.uses.go_to(self.next);
         self.environment
             .assign(place, value)
-            .map_err(|number| Refusal::new(number, term))
+            .map_err(|number| Refusal::new(number, term))?;
+        self.environment.uses.finish(before);
+        Ok(())
     }
 
     fn block(&mut self, term: usize, count: u32) -> Result<Option<Value>, Refusal> {
@@ -136,16 +160,18 @@ impl<const VARIABLES: usize> Judge<'_, VARIABLES> {
         Ok(last)
     }
 
-    /// Judges both blocks of a choice from the state before them. Taken
-    /// numbers are no part of what is gone back to.
+    /// Judges both blocks of a choice from the state before them, with the root
+    /// of its place in use. Taken numbers are no part of what is gone back to.
     fn choice(&mut self, term: usize, place: Place) -> Result<Option<Value>, Refusal> {
         let refused = |number| Refusal::new(number, term);
         self.environment.number_at(place).map_err(refused)?;
+        let before = self.environment.uses.begin(place.root);
         let mut conditions = self.environment.conditions();
         let first = self.term()?;
         self.environment.exchange(&mut conditions);
         let second = self.term()?;
         self.environment.join(&conditions);
+        self.environment.uses.finish(before);
         match (first, second) {
             (None, None) => Ok(None),
             (Some(first), Some(second)) if first.chain == second.chain => {

@@ -31,6 +31,16 @@ impl Roots {
         Roots(self.0 & !other.0)
     }
 
+    #[inline]
+    pub(crate) fn within(self, other: Roots) -> Roots {
+        Roots(self.0 & other.0)
+    }
+
+    #[inline]
+    pub(crate) fn contains(self, root: u8) -> bool {
+        self.0 >> root & 1 != 0
+    }
+
     /// The only one there is, if it is one.
     #[inline]
     pub(crate) fn single(self) -> Option<u8> {
@@ -76,5 +86,8 @@ mod tests {
         assert_eq!(first.with(second), set(&[3, 5, 64, 70]));
         assert_eq!(first.without(second), set(&[3, 70]));
         assert_eq!(first.without(first), Roots::NONE);
+        assert_eq!(first.within(second), set(&[64]));
+        let found = (0..128).filter(|root| first.contains(*root));
+        assert_eq!(found.collect::<Vec<u8>>(), [3, 64, 70]);
     }
 }

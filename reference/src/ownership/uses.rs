@@ -1,0 +1,108 @@
+//! Until when variables are in use, and who bars reading and writing (LANGUAGE
+//! 3.11, 3.12): only holders that are in use do.
+//!
+//! A variable is in use until the last term that names it has finished, and
+//! for as long as one in use holds a borrow of a place with its root.
+
+use super::environment::Environment;
+use super::roots::Roots;
+use crate::form::*;
+
+/// Which variables are still to be named, told at the term that is judged. The
+/// terms not finished then are those from some row on, in the order of the
+/// rows, and those around it.
+#[derive(Clone)]
+pub(crate) struct Uses<const VARIABLES: usize> {
+    /// The row after the last that names it, of each variable.
+    ends: [u16; VARIABLES],
+    /// The first row of which no term has finished or is around.
+    from: u16,
+    /// The variables that the terms around name.
+    around: Roots,
+}
+
+impl<const VARIABLES: usize> Uses<VARIABLES> {
+    /// Every variable in use for good, so that all in scope bar.
+    pub(crate) const UNENDING: Self = Uses {
+        ends: [u16::MAX; VARIABLES],
+        from: 0,
+        around: Roots::NONE,
+    };
+
+    /// As these rows name variables.
+    pub(crate) fn of(rows: &[Row]) -> Self {
+        let mut ends = [0; VARIABLES];
+        for (term, row) in rows.iter().enumerate() {
+            let end = term as u16 + 1;
+            match row[0] {
+                COPY..=EXCLUSIVE | LET | ASSIGN | CHOICE => ends[row[1] as usize] = end,
+                BELOW | SUM => {
+                    ends[row[1] as usize] = end;
+                    ends[row[3] as usize] = end;
+                }
+                _ => {}
+            }
+        }
+        Uses {
+            ends,
+            ..Self::UNENDING
+        }
+    }
+
+    /// The terms from this row on have not finished.
+    #[inline]
+    pub(crate) fn go_to(&mut self, row: usize) {
+        self.from = row as u16;
+    }
+
+    /// A term that names a variable is now around what is judged. The answer
+    /// is for `finish`.
+    #[inline]
+    pub(crate) fn begin(&mut self, variable: u8) -> Roots {
+        let before = self.around;
+        self.around = before.with(Roots::one(variable));
+        before
+    }
+
+    /// The term of that `begin` has finished.
+    #[inline]
+    pub(crate) fn finish(&mut self, before: Roots) {
+        self.around = before;
+    }
+
+    /// Whether a term that has not finished names a variable.
+    #[inline]
+    fn names(&self, variable: u8) -> bool {
+        self.ends[variable as usize] > self.from || self.around.contains(variable)
+    }
+}
+
+impl<const VARIABLES: usize> Environment<VARIABLES> {
+    #[inline]
+    pub(crate) fn reading_barred(&self, root: u8) -> bool {
+        self.any_in_use(self.exclusive_holders(root))
+    }
+
+    #[inline]
+    pub(crate) fn writing_barred(&self, root: u8) -> bool {
+        self.any_in_use(self.holders(root))
+    }
+
+    /// Whether one of these variables is in use. From holder to holder it is
+    /// looked for one that is named: a circle of holders of which none is does
+    /// not keep itself in use.
+    #[inline]
+    fn any_in_use(&self, variables: Roots) -> bool {
+        let mut met = variables;
+        let mut waiting = variables;
+        while let Some(variable) = waiting.next() {
+            if self.uses.names(variable) {
+                return true;
+            }
+            let unmet = self.holders(variable).without(met);
+            met = met.with(unmet);
+            waiting = waiting.with(unmet);
+        }
+        false
+    }
+}
