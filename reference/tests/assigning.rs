@@ -8,7 +8,7 @@ use common::*;
 /// Like v0 = 1, v1 = 2 and the given terms.
 fn with_two(terms: &[Term]) -> Result<(), reference::Refusal> {
     let first = [let_(0, number(1)), let_(1, number(2))];
-    judge(&[&first[..], terms, &[number(0)]].concat())
+    judge_in_use(&[&first[..], terms, &[number(0)]].concat())
 }
 
 #[test]

@@ -134,8 +134,13 @@ fn by_the_author() -> Vec<Refused> {
     let lent = || let_(1, shared((0, 0)));
     let inner = || block(&[let_(2, number(3)), shared((2, 0))]);
     let e3 = vec![a_box(), let_(1, mov((0, 0))), copy((0, 1))];
-    let barred = vec![one(), let_(1, exclusive((0, 0))), copy((0, 0))];
-    let held = vec![one(), lent(), assign((0, 0), number(2)), number(0)];
+    let held_and_used = vec![
+        one(),
+        let_(1, exclusive((0, 0))),
+        copy((0, 0)),
+        copy((1, 1)),
+    ];
+    let lent_and_used = vec![one(), lent(), assign((0, 0), number(2)), copy((1, 1))];
     let behind = vec![one(), lent(), assign((1, 1), number(2)), copy((0, 0))];
     let e9 = vec![a_box(), let_(1, copy((0, 0))), number(0)];
     let other = vec![one(), assign((0, 0), boxed(number(2))), number(0)];
@@ -146,8 +151,8 @@ fn by_the_author() -> Vec<Refused> {
         (vec![copy((0, 0))], 31, 1, refused(60, 1)),
         (vec![one(), copy((0, 1))], 32, 3, refused(61, 3)),
         (e3, 33, 6, refused(60, 6)),
-        (barred, 34, 5, ran(1, 0)),
-        (held, 35, 5, ran(0, 0)),
+        (held_and_used, 34, 5, ran(1, 0)),
+        (lent_and_used, 35, 5, ran(2, 0)),
         (behind, 36, 5, ran(2, 0)),
         (e9, 37, 5, refused(63, 0)),
         (vec![a_box(), lent(), mov((1, 2))], 38, 6, ran(1, 1)),

@@ -33,7 +33,7 @@ fn the_place_is_judged_as_in_below() {
         let compared = below(place, (0, 0));
         for term in [chosen, compared] {
             let terms = [&before[..], &[term]].concat();
-            assert_eq!(judge(&terms), refused(number, 17));
+            assert_eq!(judge_in_use(&terms), refused(number, 17));
         }
     }
     for place in [(0, 0), (1, 1), (3, 1)] {

@@ -71,7 +71,9 @@ fn e1() {
 #[test]
 fn e2() {
     let terms = [let_(0, number(5)), let_(1, exclusive((0, 0))), copy((0, 0))];
-    refused_by_both(&terms, 34, 5);
+    accepted(&terms, 6, 5, 0);
+    // The borrow is used again after the copy of v0.
+    refused_by_both(&[&terms[..], &[copy((1, 1))]].concat(), 34, 5);
 }
 
 #[test]

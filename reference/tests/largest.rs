@@ -68,7 +68,10 @@ fn each_variable_is_one_of_its_own() {
         let (_, rows) = read_full(&moved);
         let answer = check(LARGEST, &rows);
         assert_eq!(answer.map_err(|refusal| refusal.number), Err(33));
-        let held = [&terms[..], &[mov((variable, 0)), assign((8, 8), number(1))]].concat();
+        // Any other one that is used again.
+        let used = copy((9 + (variable - 8) % 119, 1));
+        let written = [mov((variable, 0)), assign((8, 8), number(1)), used];
+        let held = [&terms[..], &written].concat();
         let (_, rows) = read_full(&held);
         let answer = check(LARGEST, &rows);
         assert_eq!(answer.map_err(|refusal| refusal.number), Err(35));

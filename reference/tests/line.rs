@@ -27,7 +27,14 @@ fn lines_of_the_scope_document() {
         "accepted 8 call 0 cells 0"
     );
     let e2 = script(&[let_(0, number(5)), let_(1, exclusive((0, 0))), copy((0, 0))]);
-    assert_eq!(line([0; 8], &e2), "refused 34 at 5");
+    assert_eq!(line([0; 8], &e2), "accepted 6 call 5 cells 0");
+    let used_again = script(&[
+        let_(0, number(5)),
+        let_(1, exclusive((0, 0))),
+        copy((0, 0)),
+        copy((1, 1)),
+    ]);
+    assert_eq!(line([0; 8], &used_again), "refused 34 at 5");
 }
 
 #[test]

@@ -4,7 +4,7 @@
 #[path = "literal_check/judge.rs"]
 mod judge;
 
-use judge::{check_recording, literal_check, Recording, Seen};
+use judge::{check_by, literal_check, Recording, Seen, Using};
 use reference::{check, small_choices, Generator, Limits};
 
 type Make = fn(&mut Generator, &mut Vec<u32>);
@@ -92,7 +92,7 @@ fn decided(seed: u64, count: usize, make: Make, other: Recording) -> [[usize; 2]
     for _ in 0..count {
         make(&mut generator, &mut rows);
         let [rule, other] = [Recording::Rule, other].map(|recording| {
-            let answer = check_recording(recording, Limits::BASE, &rows);
+            let answer = check_by(recording, Using::Rule, Limits::BASE, &rows);
             answer.map(|(terms, _)| terms)
         });
         let counts = &mut counts[usize::from(rule.is_err())];
@@ -187,5 +187,5 @@ fn the_check_agrees_on_all_small_choices() {
         rows.resize(limits.row_numbers(), 0);
         accepted += u32::from(agree(limits, &rows).is_some());
     });
-    assert_eq!((count, accepted), (980_452, 55_431));
+    assert_eq!((count, accepted), (980_452, 234_018));
 }

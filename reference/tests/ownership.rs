@@ -94,10 +94,10 @@ fn a_copied_borrow_borrows_the_same_place() {
             number(0),
         ]
     };
-    assert_eq!(judge(&terms(assign((0, 0), number(2)))), refused(35, 9));
+    assert_eq!(judge_in_use(&terms(assign((0, 0), number(2)))), refused(35, 9));
     // v3 holds v0, not v2, so that v2 can be moved away.
-    assert_eq!(judge(&terms(mov((2, 0)))), Ok(()));
-    assert_eq!(judge(&terms(mov((1, 0)))), refused(35, 9));
+    assert_eq!(judge_in_use(&terms(mov((2, 0)))), Ok(()));
+    assert_eq!(judge_in_use(&terms(mov((1, 0)))), refused(35, 9));
 }
 
 #[test]
@@ -132,7 +132,7 @@ fn move_passes_boxes_only() {
         mov((0, 0)),
         number(0),
     ];
-    assert_eq!(judge(&held), refused(35, 6));
+    assert_eq!(judge_in_use(&held), refused(35, 6));
 }
 
 #[test]
@@ -143,7 +143,7 @@ fn a_moved_borrow_is_held_by_its_new_variable_only() {
             let_(1, exclusive((0, 0))),
             let_(2, mov((1, 0))),
         ];
-        judge(&[&first[..], last].concat())
+        judge_in_use(&[&first[..], last].concat())
     };
     assert_eq!(terms(&[copy((0, 0))]), refused(34, 7));
     assert_eq!(terms(&[mov((2, 0)), copy((0, 0))]), Ok(()));
@@ -159,7 +159,7 @@ fn shared_borrows() {
         shared((0, 0)),
         number(0),
     ];
-    assert_eq!(judge(&barred), refused(34, 5));
+    assert_eq!(judge_in_use(&barred), refused(34, 5));
     let twice = [
         let_(0, number(1)),
         let_(1, shared((0, 0))),
@@ -190,7 +190,7 @@ fn exclusive_borrows() {
         exclusive((0, 0)),
         number(0),
     ];
-    assert_eq!(judge(&held), refused(35, 5));
+    assert_eq!(judge_in_use(&held), refused(35, 5));
     let full = [let_(0, boxes(8, number(1))), exclusive((0, 0)), number(0)];
     assert_eq!(judge(&full), refused(42, 11));
     // An exclusive borrow through an exclusive one holds the latter.
@@ -202,10 +202,10 @@ fn exclusive_borrows() {
             last,
         ]
     };
-    assert_eq!(judge(&through(copy((2, 1)))), Ok(()));
-    assert_eq!(judge(&through(copy((1, 1)))), refused(34, 7));
-    assert_eq!(judge(&through(copy((0, 0)))), refused(34, 7));
-    assert_eq!(judge(&through(exclusive((1, 1)))), refused(35, 7));
+    assert_eq!(judge_in_use(&through(copy((2, 1)))), Ok(()));
+    assert_eq!(judge_in_use(&through(copy((1, 1)))), refused(34, 7));
+    assert_eq!(judge_in_use(&through(copy((0, 0)))), refused(34, 7));
+    assert_eq!(judge_in_use(&through(exclusive((1, 1)))), refused(35, 7));
     // The links passed are judged before what is held.
     let both = [
         let_(0, number(1)),
@@ -260,5 +260,5 @@ fn below_compares_numbers() {
         let_(1, exclusive((0, 0))),
         below((0, 0), (0, 0)),
     ];
-    assert_eq!(judge(&barred), refused(34, 6));
+    assert_eq!(judge_in_use(&barred), refused(34, 6));
 }

@@ -133,7 +133,7 @@ fn small_choices_run_by_both_ways_if_accepted() {
             assert_tidy_ways(&rows, &[1; 8]);
         }
     });
-    assert_eq!(accepted, 55_431);
+    assert_eq!(accepted, 234_018);
 }
 
 #[test]

@@ -164,7 +164,16 @@ fn judge_both(before: &[Term], first: Place, second: Place) -> Result<(), Refusa
         answer
     });
     assert_eq!(compared, added);
-    added.map(|_| ())
+    in_use(before, first, second).map_or(added.map(|_| ()), Err)
+}
+
+/// Why both are refused while every variable is in use.
+fn in_use(before: &[Term], first: Place, second: Place) -> Option<Refusal> {
+    let kinds: [OfTwo; 2] = [below, sum];
+    let [compared, added] =
+        kinds.map(|of_two| refused_in_use(&[before, &[of_two(first, second)]].concat()));
+    assert_eq!(compared, added);
+    added
 }
 
 #[test]

@@ -167,15 +167,41 @@ pub fn tidy_under(limits: Limits, cells: u32) -> Vec<u32> {
     store
 }
 
-/// What the check says of these terms and a number after them, counted from
-/// the first of those that come then.
-pub fn behind(before: &[Term], then: &[Term]) -> Result<(), Refusal> {
+/// How many terms a script of these terms has.
+fn count(terms: &[Term]) -> u32 {
     let mut rows = vec![0; ROWS_LEN];
-    let read = read(LIMITS, NEWEST, &script_of(2, before), &mut rows).expect("a script");
-    safe(&[before, then, &[number(1)]].concat()).map_err(|refusal| Refusal {
+    let read = read(LIMITS, NEWEST, &script_of(NEWEST, terms), &mut rows);
+    read.expect("a script").terms
+}
+
+/// Why the check refuses these terms, if it does, while every variable is in
+/// use: after them all are named. What it says of those names does not count.
+pub fn refused_in_use(terms: &[Term]) -> Option<Refusal> {
+    let names = (0..LIMITS.variables as u8).map(|variable| copy((variable, 0)));
+    let named: Vec<Term> = terms.iter().cloned().chain(names).collect();
+    let refusal = judge(&named).err()?;
+    (refusal.place < count(terms)).then_some(refusal)
+}
+
+/// What the check says of these terms while every variable is in use, so that
+/// each holder in scope bars.
+pub fn judge_in_use(terms: &[Term]) -> Result<(), Refusal> {
+    refused_in_use(terms).map_or(judge(terms), Err)
+}
+
+/// The same; what the check accepts must run by both ways.
+pub fn safe_in_use(terms: &[Term]) -> Result<(), Refusal> {
+    refused_in_use(terms).map_or(safe(terms), Err)
+}
+
+/// What the check says of these terms and a number after them, while every
+/// variable is in use, counted from the first of those that come then.
+pub fn behind(before: &[Term], then: &[Term]) -> Result<(), Refusal> {
+    let earlier = count(before);
+    safe_in_use(&[before, then, &[number(1)]].concat()).map_err(|refusal| Refusal {
         place: refusal
             .place
-            .checked_sub(read.terms)
+            .checked_sub(earlier)
             .expect("refused after what stands before"),
         ..refusal
     })

@@ -3,10 +3,13 @@
 //! about borrows answered by looking at every variable.
 
 mod state;
+mod uses;
 
 use reference::{judge_rows, Limits};
 use state::Link::*;
 use state::{Link, Place, Places, Value, Variable};
+use std::collections::BTreeSet;
+pub use uses::Using;
 
 pub type Refused = (u32, u32);
 
@@ -42,6 +45,8 @@ pub struct Seen {
     pub through_several: u32,
     pub follows_remain: u32,
     pub recorded_several: u32,
+    /// A bar that was asked of a root with holders who would bar if in use.
+    pub asked_of_held: u32,
 }
 
 struct Judge<'a> {
@@ -52,6 +57,12 @@ struct Judge<'a> {
     /// The terms of the blocks around, outermost first.
     blocks: Vec<usize>,
     recording: Recording,
+    using: Using,
+    /// All terms in the order in which they finish, each with what it names.
+    order: Vec<(usize, Vec<u32>)>,
+    finished: BTreeSet<usize>,
+    /// The term that is judged.
+    judged: usize,
     seen: Seen,
 }
 
@@ -130,14 +141,24 @@ impl Judge<'_> {
         })
     }
 
-    fn reading_barred(&self, root: u32) -> bool {
-        let mut holders = self.in_scope.iter();
-        holders.any(|holder| holder.holds(root) == Some(Exclusive))
+    fn reading_barred(&mut self, root: u32) -> bool {
+        self.barred(root, &[Exclusive])
     }
 
-    fn writing_barred(&self, root: u32) -> bool {
-        let mut holders = self.in_scope.iter();
-        holders.any(|holder| holder.holds(root).is_some())
+    fn writing_barred(&mut self, root: u32) -> bool {
+        self.barred(root, &[Shared, Exclusive])
+    }
+
+    /// Whether one in use holds a borrow of these kinds of a place with a root.
+    fn barred(&mut self, root: u32, kinds: &[Link]) -> bool {
+        let mut holders = self.in_scope.clone();
+        holders.retain(|holder| holder.holds(root).is_some_and(|link| kinds.contains(&link)));
+        if holders.is_empty() {
+            return false;
+        }
+        self.seen.asked_of_held += 1;
+        let in_use = self.in_use(self.judged);
+        holders.iter().any(|holder| in_use.contains(&holder.number))
     }
 
     fn reachable(&self, place: Place) -> Result<(), u32> {
@@ -261,8 +282,15 @@ impl Judge<'_> {
 
     fn term(&mut self) -> Result<Option<Value>, Refused> {
         let term = self.next;
-        let row = self.rows[term];
         self.next += 1;
+        self.judged = term;
+        let value = self.kind_of_term(term)?;
+        self.finished.insert(term);
+        Ok(value)
+    }
+
+    fn kind_of_term(&mut self, term: usize) -> Result<Option<Value>, Refused> {
+        let row = self.rows[term];
         let first = (row[1], row[2] as usize);
         let second = (row[3], row[4] as usize);
         let at = |number: u32| (number, term as u32);
@@ -285,6 +313,7 @@ impl Judge<'_> {
             8 => self.declare(term, row[1]).map(|()| None),
             9 => {
                 let value = self.term()?.ok_or(at(41))?;
+                self.judged = term;
                 self.assign(first, value).map(|()| None).map_err(at)
             }
             10 | 13 => {
@@ -356,23 +385,30 @@ impl Judge<'_> {
 
 /// The number of terms, with what was seen before that.
 pub fn literal_check(limits: Limits, rows: &[u32]) -> Result<(u32, Seen), Refused> {
-    check_recording(Recording::Rule, limits, rows)
+    check_by(Recording::Rule, Using::Rule, limits, rows)
 }
 
-/// The same with shared borrows recorded in a way that may not be the rule's.
-pub fn check_recording(
+/// The same with shared borrows recorded, or variables in use, in a way that may
+/// not be the rule's.
+pub fn check_by(
     recording: Recording,
+    using: Using,
     limits: Limits,
     rows: &[u32],
 ) -> Result<(u32, Seen), Refused> {
     let terms = judge_rows(limits, rows).map_err(|refusal| (refusal.number, refusal.place))?;
+    let rows: Vec<&[u32]> = rows.chunks(5).collect();
     let mut judge = Judge {
-        rows: rows.chunks(5).collect(),
+        order: uses::finishing_order(using, &rows),
+        rows,
         next: 0,
         taken: vec![],
         in_scope: vec![],
         blocks: vec![],
         recording,
+        using,
+        finished: BTreeSet::new(),
+        judged: 0,
         seen: Seen::default(),
     };
     match judge.term()? {

@@ -7,15 +7,15 @@
 mod judge;
 
 use super::common::*;
-use judge::{check_recording, Recording};
+use judge::{check_by, Recording, Using};
 
-/// What the check answers, and what a check would answer that records
-/// otherwise, each the number of a refusal or 0.
+/// What the check answers while every variable is in use, and what a check
+/// would answer that records otherwise, each the number of a refusal or 0.
 fn numbers(terms: &[Term]) -> (u32, [u32; 3]) {
     let terms = [terms, &[number(0)]].concat();
-    let answer = safe(&terms).map_or_else(|refusal| refusal.number, |()| 0);
+    let answer = safe_in_use(&terms).map_or_else(|refusal| refusal.number, |()| 0);
     let rows = rows_of(&script_of(2, &terms));
-    let literal = |recording| match check_recording(recording, LIMITS, &rows) {
+    let literal = |recording| match check_by(recording, Using::Scope, LIMITS, &rows) {
         Ok(_) => 0,
         Err((number, _)) => number,
     };
