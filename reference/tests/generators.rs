@@ -5,7 +5,7 @@ mod common;
 
 use common::{levels, LIMITS, ROWS_LEN};
 use reference::form::MAX_BYTES;
-use reference::{judge_rows, read, write, Generator, NEWEST};
+use reference::{check, check_by_scope, judge_rows, read, write, Generator, NEWEST};
 use std::collections::BTreeMap;
 
 const SAMPLE: usize = 20_000;
@@ -40,10 +40,10 @@ fn sums(seed: u64) -> [u64; 4] {
 #[test]
 fn one_seed_gives_one_sequence() {
     let expected = [
-        0x9D31_6F31_5F8D_72F8,
-        0x736C_562D_917A_23A3,
-        0x3015_D8B4_90F4_0E95,
-        0x4094_42FA_D0AC_BE0B,
+        0x81E7_6671_50EE_BE5E,
+        0x6F4F_F020_161B_E9BF,
+        0x2A43_E01F_159A_4563,
+        0xD7E0_5C69_C739_E8DB,
     ];
     assert_eq!(sums(1), expected);
     assert_ne!(sums(2), expected);
@@ -228,5 +228,39 @@ fn versions_for_reader_and_writer() {
     for number in [1, 2] {
         assert!(versions[&number] > SAMPLE / 5, "{versions:?}");
         assert!(newest[&number] > SAMPLE / 5, "{newest:?}");
+    }
+}
+
+/// Of so many scripts, on how many the last uses decide, since a bar is asked
+/// of a root with a holder, and how many get another answer than they would by
+/// scope.
+fn decided(seed: u64, make: fn(&mut Generator, &mut Vec<u32>)) -> [usize; 2] {
+    let mut generator = Generator::new(seed);
+    let mut rows = Vec::new();
+    let mut counts = [0; 2];
+    for _ in 0..SAMPLE {
+        make(&mut generator, &mut rows);
+        let by_scope = check_by_scope(LIMITS, &rows);
+        let asked = by_scope.is_err_and(|refusal| [34, 35].contains(&refusal.number));
+        let differs = check(LIMITS, &rows) != by_scope;
+        assert!(asked || !differs, "{by_scope:?}");
+        counts[0] += usize::from(asked);
+        counts[1] += usize::from(differs);
+    }
+    counts
+}
+
+#[test]
+fn last_uses_decide() {
+    let [asked, differ] = decided(11, Generator::last_uses_rows);
+    assert!(asked > SAMPLE * 4 / 5, "{asked}");
+    // These are accepted, so that each bar that is asked makes a difference.
+    assert_eq!(differ, asked);
+    let [asked, differ] = decided(12, Generator::near_last_uses_rows);
+    assert!(asked > SAMPLE * 4 / 5, "{asked}");
+    assert!(differ > SAMPLE / 2, "{differ}");
+    // Scripts of other kinds are accepted by scope already.
+    for make in [Generator::accepted_rows, Generator::joined_rows] {
+        assert_eq!(decided(13, make), [0, 0]);
     }
 }

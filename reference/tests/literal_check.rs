@@ -67,6 +67,8 @@ fn the_check_agrees_under_any_set() {
         agrees_under(limits, seed, 60, Generator::mixed_rows);
         agrees_under(limits, seed, 20, Generator::through_shared_rows);
         agrees_under(limits, seed, 40, Generator::near_through_shared_rows);
+        agrees_under(limits, seed, 20, Generator::last_uses_rows);
+        agrees_under(limits, seed, 40, Generator::near_last_uses_rows);
     }
 }
 
@@ -82,17 +84,26 @@ fn the_check_agrees_on_rows_through_shared_links() {
     agrees(30, 30_000, Generator::near_through_shared_rows);
 }
 
+#[test]
+fn the_check_agrees_on_rows_about_last_uses() {
+    agrees(39, 15_000, Generator::last_uses_rows);
+    agrees(40, 40_000, Generator::near_last_uses_rows);
+}
+
+/// The rules read in another way.
+type Other = (Recording, Using);
+
 /// How many of these scripts are accepted and how many refused, and how many of
-/// each a check that records shared borrows in another way would answer
-/// otherwise.
-fn decided(seed: u64, count: usize, make: Make, other: Recording) -> [[usize; 2]; 2] {
+/// each a check that reads the rules in another way would answer otherwise.
+fn decided(seed: u64, count: usize, make: Make, other: Other) -> [[usize; 2]; 2] {
     let mut generator = Generator::new(seed);
     let mut rows = Vec::new();
     let mut counts = [[0; 2]; 2];
     for _ in 0..count {
         make(&mut generator, &mut rows);
-        let [rule, other] = [Recording::Rule, other].map(|recording| {
-            let answer = check_by(recording, Using::Rule, Limits::BASE, &rows);
+        let rule = (Recording::Rule, Using::Rule);
+        let [rule, other] = [rule, other].map(|(recording, using)| {
+            let answer = check_by(recording, using, Limits::BASE, &rows);
             answer.map(|(terms, _)| terms)
         });
         let counts = &mut counts[usize::from(rule.is_err())];
@@ -110,6 +121,7 @@ fn what_is_recorded_decides() {
     let count = 5_000;
     for (other, share) in [(Recording::Named, 70), (Recording::FirstLink, 30)] {
         let due = |all: usize| all * share / 100;
+        let other = (other, Using::Rule);
         let [accepted, refused] = decided(31, count, Generator::through_shared_rows, other);
         assert_eq!((accepted[0], refused[0]), (count, 0));
         assert!(accepted[1] > due(count), "{other:?}: {accepted:?}");
@@ -118,6 +130,34 @@ fn what_is_recorded_decides() {
         for [all, decided] in [accepted, refused] {
             assert!(all > count / 10, "{other:?}: {accepted:?}, {refused:?}");
             assert!(decided > due(all), "{other:?}: {accepted:?}, {refused:?}");
+        }
+    }
+}
+
+/// Of the scripts about last uses, so many in a thousand accepted ones and in a
+/// thousand near ones are answered otherwise where the rule is misread.
+#[test]
+fn what_is_in_use_decides() {
+    let count = 6_000;
+    for (using, due) in [
+        (Using::Scope, [850, 700]),
+        (Using::NamedOnly, [0, 60]),
+        (Using::OneHolder, [0, 10]),
+        (Using::Circles, [25, 25]),
+        (Using::RowOrder, [100, 100]),
+        (Using::OthersOnly, [0, 15]),
+        (Using::LetsNameNothing, [0, 15]),
+    ] {
+        let other = (Recording::Rule, using);
+        let [accepted, refused] = decided(41, count, Generator::last_uses_rows, other);
+        assert_eq!((accepted[0], refused[0]), (count, 0));
+        let near = decided(42, count, Generator::near_last_uses_rows, other);
+        let near = near[0][1] + near[1][1];
+        for (decided, due) in [accepted[1], near].into_iter().zip(due) {
+            assert!(
+                1_000 * decided >= due * count,
+                "{using:?}: {accepted:?}, {near}"
+            );
         }
     }
 }

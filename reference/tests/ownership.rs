@@ -94,7 +94,10 @@ fn a_copied_borrow_borrows_the_same_place() {
             number(0),
         ]
     };
-    assert_eq!(judge_in_use(&terms(assign((0, 0), number(2)))), refused(35, 9));
+    assert_eq!(
+        judge_in_use(&terms(assign((0, 0), number(2)))),
+        refused(35, 9)
+    );
     // v3 holds v0, not v2, so that v2 can be moved away.
     assert_eq!(judge_in_use(&terms(mov((2, 0)))), Ok(()));
     assert_eq!(judge_in_use(&terms(mov((1, 0)))), refused(35, 9));

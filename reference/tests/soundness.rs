@@ -120,6 +120,35 @@ fn near_through_shared_rows_run_by_all_ways_if_accepted() {
     assert!(accepted > SAMPLE / 10, "{accepted}");
 }
 
+/// With all readings 0, all other than 0, and any.
+#[test]
+fn last_uses_rows_are_accepted_and_run_by_all_ways() {
+    let mut generator = Generator::new(39);
+    let mut rows = Vec::new();
+    for _ in 0..SAMPLE {
+        generator.last_uses_rows(&mut rows);
+        assert!(check(LIMITS, &rows).is_ok());
+        for readings in [[0; 8], [1; 8], generator.readings()] {
+            assert_tidy_ways(&rows, &readings);
+        }
+    }
+}
+
+#[test]
+fn near_last_uses_rows_run_by_all_ways_if_accepted() {
+    let mut generator = Generator::new(40);
+    let mut rows = Vec::new();
+    let mut accepted = 0;
+    for _ in 0..3 * SAMPLE {
+        generator.near_last_uses_rows(&mut rows);
+        if check(LIMITS, &rows).is_ok() {
+            accepted += 1;
+            assert_tidy_ways(&rows, &generator.readings());
+        }
+    }
+    assert!(accepted > SAMPLE, "{accepted}");
+}
+
 #[test]
 fn small_choices_run_by_both_ways_if_accepted() {
     let mut rows = vec![0; ROWS_LEN];

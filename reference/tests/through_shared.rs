@@ -69,7 +69,8 @@ fn what_is_seen_through_it_afterwards() {
     assert_eq!(judge(&bound), Ok(()));
     assert_eq!(fault(&bound), ran(3, 0));
     // Written while v3 borrows it.
-    assert_eq!(judge(&[&terms[..], &[number(0)]].concat()), refused(35, 13));
+    let written = judge_in_use(&[&terms[..], &[number(0)]].concat());
+    assert_eq!(written, refused(35, 13));
 }
 
 /// `let v3=BLOCK; copy *v3`, or one follow more for each link more.

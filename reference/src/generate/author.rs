@@ -67,6 +67,12 @@ pub(super) struct Habits {
     /// Whether the last statement is one that is refused most often, for what
     /// such borrows are recorded against.
     pub(super) against_record: bool,
+    /// How often, in a hundred, a statement is one about borrows that end at
+    /// their last use.
+    pub(super) ending: u32,
+    /// Whether the last statement is one that is refused most often, as a
+    /// borrow is used again.
+    pub(super) used_again: bool,
 }
 
 /// What a term gives, or nothing if the author gives the term up. What was
@@ -104,7 +110,8 @@ impl Author<'_> {
         let recent = variables.len().saturating_sub(4);
         let from = if self.random.percent(50) { recent } else { 0 };
         let count = variables.len() - from;
-        (count > 0).then(|| variables[from + self.random.index(count)])
+        let found = (count > 0).then(|| variables[from + self.random.index(count)]);
+        found.filter(|variable| self.environment.may_be_named(*variable))
     }
 
     /// A place whose chain is long enough, of a careless author not always.
@@ -125,7 +132,7 @@ impl Author<'_> {
     pub(super) fn place_like(&mut self, chain: Chain) -> Option<Place> {
         let mut found = None;
         let mut count = 0;
-        for &root in self.environment.variables_in_scope() {
+        for root in self.environment.variables_to_name() {
             let whole = self.environment.chain(root);
             let Some(follows) = whole.links().checked_sub(chain.links()) else {
                 continue;

@@ -45,6 +45,7 @@ impl Author<'_> {
             return None;
         }
         self.push(row_at(CHOICE, place))?;
+        let before = self.environment.uses.begin(place.root);
         let mut conditions = self.environment.conditions();
         // The second block and a term in it.
         self.owed += 2;
@@ -59,6 +60,7 @@ impl Author<'_> {
         };
         let second = self.branch(levels - 1, alike)?;
         self.environment.join(&conditions);
+        self.environment.uses.finish(before);
         Some(if first.chain == second.chain {
             first.or(second)
         } else {
@@ -132,7 +134,7 @@ impl Author<'_> {
     pub(super) fn variable_with(&mut self, wanted: impl Fn(Chain) -> bool) -> Option<u8> {
         let mut found = None;
         let mut count = 0;
-        for &variable in self.environment.variables_in_scope() {
+        for variable in self.environment.variables_to_name() {
             if wanted(self.environment.chain(variable)) {
                 count += 1;
                 if self.random.below(count) == 0 {
@@ -180,7 +182,7 @@ impl Author<'_> {
     }
 
     /// A use of what is at the end of a reference.
-    fn look_through(&mut self) -> Option<()> {
+    pub(super) fn look_through(&mut self) -> Option<()> {
         let root = self.variable_with(Chain::has_borrow)?;
         let follows = self.environment.chain(root).links() as u8;
         let kind = self.random.pick(&[COPY, COPY, SHARED, EXCLUSIVE]);

@@ -6,6 +6,7 @@ mod author;
 mod bytes;
 mod choices;
 mod edits;
+mod last_uses;
 mod limits;
 mod operands;
 mod ownership;
@@ -16,6 +17,7 @@ mod shape;
 mod small;
 mod statements;
 mod through_shared;
+mod used_again;
 mod versions;
 
 use crate::form::Row;

@@ -4,6 +4,7 @@ use super::author::{Author, Habits, State};
 use super::bytes::write_unjudged;
 use super::choices::OPENING;
 use super::edits;
+use super::last_uses::HOLDERS;
 use super::operands;
 use super::plan::MIDDLING;
 use super::rows::flatten;
@@ -70,6 +71,21 @@ impl Generator {
         self.author_with(habits, 2);
     }
 
+    /// Writes terms of version 2 about borrows that end at their last use.
+    fn ending_author(&mut self, used_again: bool) {
+        let habits = Habits {
+            statements: HOLDERS + self.random.between(2, 8),
+            patience: 1_500,
+            boxing: 5,
+            nesting: 3,
+            choosing: 5,
+            ending: 85,
+            used_again,
+            ..self.habits(0)
+        };
+        self.author_with(habits, 2);
+    }
+
     fn author_with(&mut self, habits: Habits, version: u32) {
         Author {
             random: &mut self.random,
@@ -108,6 +124,8 @@ impl Generator {
             joining: 0,
             passing: 0,
             against_record: false,
+            ending: 0,
+            used_again: false,
         };
         let often = if terms <= SMALL { 20 } else { 1 };
         match random.below(200) {
@@ -200,11 +218,30 @@ impl Generator {
         flatten(self.limits, &self.terms, out);
     }
 
+    /// Rows of a script that the check accepts, with borrows that are not used
+    /// again and uses of what they are of.
+    pub fn last_uses_rows(&mut self, out: &mut Vec<u32>) {
+        self.ending_author(false);
+        flatten(self.limits, &self.terms, out);
+    }
+
+    /// Such rows with a last statement that is refused most often as a borrow
+    /// is used again, or after an edit.
+    pub fn near_last_uses_rows(&mut self, out: &mut Vec<u32>) {
+        let edited = self.random.percent(30);
+        let used_again = !edited || self.random.percent(50);
+        self.ending_author(used_again);
+        self.edit(2, edited as u32);
+        flatten(self.limits, &self.terms, out);
+    }
+
     /// Rows for check and machine: every answer of both occurs.
     pub fn mixed_rows(&mut self, out: &mut Vec<u32>) {
         match self.random.below(100) {
             0..=24 => self.accepted_rows(out),
-            25..=44 => self.near_miss_rows(out),
+            25..=40 => self.near_miss_rows(out),
+            41 | 42 => self.last_uses_rows(out),
+            43 | 44 => self.near_last_uses_rows(out),
             45 | 46 => self.through_shared_rows(out),
             47..=49 => self.near_through_shared_rows(out),
             50..=54 => self.joined_rows(out),
@@ -235,7 +272,8 @@ impl Generator {
     pub fn input(&mut self, out: &mut Vec<u8>) {
         match self.random.below(100) {
             0..=29 => self.accepted(),
-            30..=36 => self.joining_author(0),
+            30..=34 => self.joining_author(0),
+            35 | 36 => self.ending_author(false),
             37..=39 => self.passing_author(false),
             40..=69 => self.near_miss(),
             70..=84 => self.wild(),

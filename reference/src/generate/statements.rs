@@ -3,6 +3,7 @@
 
 use super::author::{row_at, Author, Written};
 use super::choices::OPENING;
+use super::last_uses::HOLDERS;
 use super::through_shared::LINKS;
 use crate::form::*;
 use crate::ownership::chain::Chain;
@@ -36,6 +37,9 @@ impl Author<'_> {
             self.outermost_statement(levels);
             self.terms[0][1] += 1;
         }
+        if self.habits.joining > 0 || self.habits.passing > 0 {
+            self.used_at_the_end();
+        }
         self.owed = 0;
         self.answer(levels);
         self.environment.leave(entered);
@@ -56,6 +60,12 @@ impl Author<'_> {
         }
         if self.habits.passing > 0 && index <= LINKS {
             return self.or_number(|author| author.links(index, levels));
+        }
+        if self.habits.ending > 0 && index <= HOLDERS {
+            return self.or_number(|author| author.holders_or_round(index, levels));
+        }
+        if self.habits.used_again && index == self.habits.statements {
+            return self.or_number(|author| author.used_again(levels));
         }
         if self.habits.against_record && index == self.habits.statements {
             return self.or_number(|author| author.against_record(levels));
@@ -96,7 +106,11 @@ impl Author<'_> {
 
     /// Tries to write a term so many times, if there is patience for it. What
     /// was written of a term given up is taken back.
-    fn tried(&mut self, times: u32, mut write: impl FnMut(&mut Self) -> Option<()>) -> Option<()> {
+    pub(super) fn tried(
+        &mut self,
+        times: u32,
+        mut write: impl FnMut(&mut Self) -> Option<()>,
+    ) -> Option<()> {
         for _ in 0..times {
             if self.given_up > self.habits.patience {
                 break;
@@ -131,6 +145,9 @@ impl Author<'_> {
             }
             if author.habits.passing > 0 && author.random.percent(author.habits.passing) {
                 return author.passing_statement(levels);
+            }
+            if author.habits.ending > 0 && author.random.percent(author.habits.ending) {
+                return author.ending_statement(levels);
             }
             match author.random.below(100) {
                 choice if choice < lets => author.declare(levels),
@@ -201,14 +218,16 @@ impl Author<'_> {
         }
         self.push(row_at(ASSIGN, place))?;
         let chain = self.environment.chain(place.root).after(place.follows);
+        let around = self.environment.uses.begin(place.root);
         let value = write(self, chain)?;
         let before = self.environment.clone();
-        if self.environment.assign(place, value).is_err() {
-            // A refused assign may have been carried out already.
+        let refused = self.environment.assign(place, value).is_err();
+        if refused {
+            // It may have been carried out already.
             self.environment = before;
-            return self.careless().then_some(());
         }
-        Some(())
+        self.environment.uses.finish(around);
+        (!refused || self.careless()).then_some(())
     }
 
     /// The last term of a block that is too long to be given up for it.

@@ -96,7 +96,7 @@ impl Author<'_> {
     fn place_through(&mut self, like: Option<Chain>) -> Option<Place> {
         let mut found = None;
         let mut count = 0;
-        for &root in self.environment.variables_in_scope() {
+        for root in self.environment.variables_to_name() {
             let chain = self.environment.chain(root);
             for follows in 1..=chain.links() as u8 {
                 let wanted = like.is_none_or(|like| chain.after(follows) == like);

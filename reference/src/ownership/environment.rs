@@ -100,7 +100,7 @@ pub(crate) struct Environment<const VARIABLES: usize> {
     level: u8,
     /// The variables whose first borrow link is exclusive.
     exclusive: Roots,
-    pub(super) uses: Uses<VARIABLES>,
+    pub(crate) uses: Uses<VARIABLES>,
 }
 
 impl<const VARIABLES: usize> Environment<VARIABLES> {
@@ -161,7 +161,7 @@ impl<const VARIABLES: usize> Environment<VARIABLES> {
 
     /// The variables that hold a borrow of a place with this root.
     #[inline]
-    pub(super) fn holders(&self, root: u8) -> Roots {
+    pub(crate) fn holders(&self, root: u8) -> Roots {
         self.variable(root).holders
     }
 

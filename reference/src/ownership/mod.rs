@@ -48,10 +48,7 @@ pub(crate) fn check_judged(limits: Limits, rows: &[Row]) -> Result<(), Refusal> 
 }
 
 /// Judges all terms in an environment of so many variables.
-fn check_terms<const VARIABLES: usize>(
-    rows: &[Row],
-    uses: Uses<VARIABLES>,
-) -> Result<(), Refusal> {
+fn check_terms<const VARIABLES: usize>(rows: &[Row], uses: Uses<VARIABLES>) -> Result<(), Refusal> {
     let mut judge = Judge::<VARIABLES> {
         rows,
         next: 0,

@@ -88,6 +88,35 @@ impl<const VARIABLES: usize> Environment<VARIABLES> {
         self.any_in_use(self.holders(root))
     }
 
+    /// The variables that may still be named, in scope and not given up.
+    pub(crate) fn variables_to_name(&self) -> impl Iterator<Item = u8> + '_ {
+        let scope = self.variables_in_scope().iter().copied();
+        scope.filter(|variable| self.may_be_named(*variable))
+    }
+
+    pub(crate) fn may_be_named(&self, variable: u8) -> bool {
+        self.uses.names(variable)
+    }
+
+    /// From here on a variable is named no more.
+    pub(crate) fn give_up(&mut self, variable: u8) {
+        self.uses.ends[variable as usize] = 0;
+    }
+
+    /// The holders of a root that may still be named, and those of its holders,
+    /// and so on.
+    pub(crate) fn keepers(&self, root: u8) -> Roots {
+        let mut met = self.holders(root);
+        let mut waiting = met;
+        while let Some(variable) = waiting.next() {
+            let unmet = self.holders(variable).without(met);
+            met = met.with(unmet);
+            waiting = waiting.with(unmet);
+        }
+        let named = met.filter(|variable| self.uses.names(*variable));
+        named.fold(Roots::NONE, |all, one| all.with(Roots::one(one)))
+    }
+
     /// Whether one of these variables is in use. From holder to holder it is
     /// looked for one that is named: a circle of holders of which none is does
     /// not keep itself in use.

@@ -2,52 +2,20 @@
 //! text of the rules instead of speed: chains as lists, and every question
 //! about borrows answered by looking at every variable.
 
+mod recording;
+mod seen;
 mod state;
 mod uses;
 
+pub use recording::Recording;
 use reference::{judge_rows, Limits};
+pub use seen::Seen;
 use state::Link::*;
 use state::{Link, Place, Places, Value, Variable};
 use std::collections::BTreeSet;
 pub use uses::Using;
 
 pub type Refused = (u32, u32);
-
-/// What a shared borrow is recorded against: by the rule, or as it could be
-/// misread.
-#[derive(Clone, Copy, Debug, PartialEq, Eq)]
-pub enum Recording {
-    /// What the last shared link passed borrows, with the follows that remain.
-    Rule,
-    /// The place that is named, as exclusive borrows are.
-    Named,
-    /// What the first shared link passed borrows, with the follows that remain.
-    FirstLink,
-    /// What the last shared link passed borrows, without any more follows.
-    WithoutFollows,
-}
-
-/// How often something happened.
-#[derive(Default, Debug)]
-pub struct Seen {
-    /// A variable moved away after one block, not after the other.
-    pub moved_in_one: u32,
-    /// A borrow link that stands for other places after each block.
-    pub borrowed_otherwise: u32,
-    /// An assign that may land in several variables, and one with a borrow.
-    pub several_written: u32,
-    pub several_written_borrows: u32,
-    /// A place met again while following.
-    pub met_again: u32,
-    /// A shared borrow through shared links, and one through several of them,
-    /// one with follows that remain, one recorded against several places.
-    pub through_shared: u32,
-    pub through_several: u32,
-    pub follows_remain: u32,
-    pub recorded_several: u32,
-    /// A bar that was asked of a root with holders who would bar if in use.
-    pub asked_of_held: u32,
-}
 
 struct Judge<'a> {
     rows: Vec<&'a [u32]>,
@@ -196,39 +164,6 @@ impl Judge<'_> {
         let borrowed = self.variable(place.0).borrowed.clone();
         self.variable_mut(place.0).moved = Some(place.1);
         Ok(Value { chain, borrowed })
-    }
-
-    /// The places that a shared borrow of a whole place is recorded against.
-    /// Going along the named place link by link, a shared link puts what it
-    /// borrows in the stead of all that was before it, and every other link is
-    /// one more to follow.
-    fn recorded(&mut self, named: Place) -> Places {
-        let passed = self.passed(named);
-        let mut recorded = Places::from([(named.0, 0)]);
-        let mut met = 0;
-        for (at, link) in passed.iter().enumerate() {
-            let counts = match self.recording {
-                Recording::Named => false,
-                Recording::FirstLink => met == 0,
-                _ => true,
-            };
-            met += u32::from(*link == Shared);
-            recorded = if *link == Shared && counts {
-                let ends = self.follow((named.0, at)).expect("a whole place");
-                let borrowed = ends.iter().map(|(root, _)| &self.variable(*root).borrowed);
-                borrowed.flatten().copied().collect()
-            } else {
-                let forgotten = met > 0 && self.recording == Recording::WithoutFollows;
-                let more = usize::from(!forgotten);
-                let places = recorded.into_iter();
-                places.map(|(root, at)| (root, at + more)).collect()
-            };
-        }
-        self.seen.through_shared += u32::from(met > 0);
-        self.seen.through_several += u32::from(met > 1);
-        self.seen.follows_remain += u32::from(met > 0 && passed.last() != Some(&Shared));
-        self.seen.recorded_several += u32::from(recorded.len() > 1);
-        recorded
     }
 
     fn borrow(&mut self, place: Place, link: Link) -> Result<Value, u32> {
