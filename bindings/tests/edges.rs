@@ -32,16 +32,22 @@ mod examples;
 mod extremes;
 #[path = "edges/faults.rs"]
 mod faults;
+#[path = "edges/finishing.rs"]
+mod finishing;
 #[path = "edges/full.rs"]
 mod full;
 #[path = "edges/given.rs"]
 mod given;
 #[path = "edges/hand.rs"]
 mod hand;
+#[path = "edges/in_use.rs"]
+mod in_use;
 #[path = "edges/joins.rs"]
 mod joins;
 #[path = "edges/larger.rs"]
 mod larger;
+#[path = "edges/last_uses.rs"]
+mod last_uses;
 #[path = "edges/lengths.rs"]
 mod lengths;
 #[path = "edges/limits.rs"]
@@ -60,12 +66,16 @@ mod ranges;
 mod reading;
 #[path = "edges/rewriting.rs"]
 mod rewriting;
+#[path = "edges/round.rs"]
+mod round;
 #[path = "edges/rows.rs"]
 mod rows;
 #[path = "edges/running.rs"]
 mod running;
 #[path = "edges/scope.rs"]
 mod scope;
+#[path = "edges/stale.rs"]
+mod stale;
 #[path = "edges/sums.rs"]
 mod sums;
 #[path = "edges/through_several.rs"]

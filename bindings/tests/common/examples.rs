@@ -15,6 +15,11 @@ pub fn e2() -> Vec<Term> {
     vec![let_(0, number(5)), let_(1, exclusive((0, 0))), copy((0, 0))]
 }
 
+/// E2 with its borrow used again after the copy of v0.
+pub fn e2_used_again() -> Vec<Term> {
+    [e2(), vec![copy((1, 1))]].concat()
+}
+
 /// Also E8, where it runs unchecked.
 pub fn e3() -> Vec<Term> {
     vec![

@@ -29,7 +29,7 @@ fn example(name: impl Into<String>, script: &[u8], line: &'static str) -> Exampl
 pub fn listed() -> Vec<Example> {
     let scripts = [
         (e1(), "accepted 8 call 1 cells 0"),
-        (e2(), "refused 34 at 5"),
+        (e2(), "accepted 6 call 5 cells 0"),
         (e3(), "refused 33 at 6"),
         (e4(), "accepted 9 call 8 cells 1"),
         (e5(), "refused 40 at 4"),
@@ -46,6 +46,8 @@ pub fn listed() -> Vec<Example> {
         .map(|(number, (terms, line))| example(format!("e{number}"), &script_of(&terms), line))
         .collect();
     listed[0].input = input_of([185, 200, 0, 0, 0, 0, 0, 0], &script_of(&e1()));
+    let again = script_of(&e2_used_again());
+    listed.push(example("e2-used-again", &again, "refused 34 at 5"));
     let eight = script_of(&e10(8));
     listed.push(example("e10-eight", &eight, "accepted 12 call 0 cells 8"));
     listed

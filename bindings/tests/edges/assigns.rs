@@ -1,15 +1,16 @@
 //! Assigns (LANGUAGE 3.25): their order, links (39) and lives (40), and what is
-//! held in the new state (35).
+//! held in the new state (35). All variables are in use here.
 
 use crate::common::terms::*;
 use crate::common::{ran, refused};
 use crate::hand::*;
+use crate::in_use::{accepts_in_use, checks_in_use};
 
 /// `let v0=1; let v1=2`, the terms given, and a number.
 #[track_caller]
 fn with_two(terms: &[Term]) -> Result<(), roomscript::Refusal> {
     let first = [let_(0, number(1)), let_(1, number(2))];
-    accepts(&[&first[..], terms, &[number(0)]].concat())
+    accepts_in_use(&[&first[..], terms, &[number(0)]].concat())
 }
 
 /// The same with `let v2=&v0` at 5.
@@ -101,7 +102,7 @@ fn below_and_sum_are_of_numbers() {
             let_(1, exclusive((0, 0))),
             of_two((0, 0), (0, 0)),
         ];
-        assert_eq!(checks(&barred), refused(34, 6));
+        assert_eq!(checks_in_use(&barred), refused(34, 6));
     }
 }
 

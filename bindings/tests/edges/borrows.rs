@@ -1,15 +1,17 @@
 //! Borrows that are held (LANGUAGE 3.10): reading barred (34; 3.11), writing
-//! barred (35; 3.12), and what stands behind a shared borrow (36; 3.22).
+//! barred (35; 3.12), and what stands behind a shared borrow (36; 3.22). All
+//! variables are in use here.
 
 use crate::common::refused;
 use crate::common::terms::*;
 use crate::hand::*;
+use crate::in_use::accepts_in_use;
 
 /// `let v0=1; let v1=` a borrow of v0, the terms given, and a number.
 #[track_caller]
 fn with(borrow: fn(Place) -> Term, terms: &[Term]) -> Result<(), roomscript::Refusal> {
     let first = [let_(0, number(1)), let_(1, borrow((0, 0)))];
-    accepts(&[&first[..], terms, &[number(0)]].concat())
+    accepts_in_use(&[&first[..], terms, &[number(0)]].concat())
 }
 
 #[test]
@@ -47,7 +49,7 @@ fn writing_is_barred_by_all_borrows() {
 fn the_root_is_judged_and_not_the_place() {
     // v1 borrows the inside of v0.
     let then = |borrow: fn(Place) -> Term, term: Term| {
-        accepts(&[
+        accepts_in_use(&[
             let_(0, boxed(number(1))),
             let_(1, borrow((0, 1))),
             term,
@@ -85,7 +87,7 @@ fn a_borrow_through_a_borrow_bars_the_latter() {
 fn a_borrow_inside_a_box_is_held() {
     let then = |terms: &[Term]| {
         let first = [let_(0, number(1)), let_(1, boxed(exclusive((0, 0))))];
-        accepts(&[&first[..], terms, &[number(0)]].concat())
+        accepts_in_use(&[&first[..], terms, &[number(0)]].concat())
     };
     assert_eq!(then(&[copy((0, 0))]), refused(34, 6));
     assert_eq!(then(&[mov((1, 1)), copy((0, 0))]), Ok(()));

@@ -81,15 +81,16 @@ fn by_the_author() -> Vec<ByAuthor> {
     let one = || let_(0, number(1));
     let borrowed = || let_(1, shared((0, 0)));
     let twice = vec![one(), let_(0, number(2)), number(0)];
-    let barred = vec![one(), borrowed(), assign((0, 0), number(2)), number(0)];
+    let write = assign((0, 0), number(2));
+    let barred = vec![one(), borrowed(), write, copy((1, 1))];
     let other = vec![one(), assign((0, 0), boxed(number(2))), number(0)];
     vec![
         (30, 3, fault(62, 3), twice),
         (31, 1, fault(60, 1), vec![copy((0, 0)), number(0)]),
         (32, 3, fault(61, 3), vec![one(), copy((0, 1))]),
         (33, 6, fault(60, 6), e3()),
-        (34, 5, ran(5, 0), e2()),
-        (35, 5, ran(0, 0), barred),
+        (34, 5, ran(5, 0), e2_used_again()),
+        (35, 5, ran(2, 0), barred),
         (36, 7, ran(0, 0), e7()),
         (37, 5, fault(63, 0), e9()),
         (38, 5, ran(1, 0), vec![one(), borrowed(), mov((1, 1))]),
@@ -131,6 +132,7 @@ fn refused_whatever_the_readings() {
         let_(1, reading(1)),
         let_(2, exclusive((0, 0))),
         below((0, 0), (1, 0)),
+        copy((2, 1)),
     ];
     for readings in [READINGS, [0; 8], [i32::MIN; 8], [i32::MAX; 8]] {
         let mut store = Guarded::junk(STORE, 72);

@@ -6,6 +6,7 @@ use crate::common::store::{cell, store_of, StoreRow};
 use crate::common::terms::*;
 use crate::common::{fault, ran, refused, RunAnswer, UncheckedAnswer};
 use crate::hand::*;
+use crate::in_use::{accepts_in_use, checks_in_use};
 use roomscript::Refusal;
 
 /// What a run answers where the first reading is not 0, and where it is.
@@ -56,7 +57,7 @@ fn through_boxes_and_borrows() {
 /// what it answers of a below of that place.
 #[track_caller]
 fn judges_place(before: &[Term], place: Place) -> Result<(), Refusal> {
-    let with = |term: Term| accepts(&[before, &[term]].concat());
+    let with = |term: Term| accepts_in_use(&[before, &[term]].concat());
     let chosen = with(choice(place, &[number(1)], &[number(2)]));
     assert_eq!(with(below(place, (0, 0))), chosen);
     chosen
@@ -89,7 +90,7 @@ fn the_place_is_judged_as_in_below_and_first() {
         // Before anything in the branches, and before their values.
         let chosen = choice(place, &[copy((8, 0))], &[boxed(reading(0))]);
         let terms = [&before[..], &[chosen]].concat();
-        assert_eq!(checks(&terms), refused(number, 17));
+        assert_eq!(checks_in_use(&terms), refused(number, 17));
     }
     for place in [(0, 0), (1, 1), (3, 1)] {
         assert_eq!(judges_place(&before, place), Ok(()));

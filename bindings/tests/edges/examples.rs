@@ -34,8 +34,9 @@ fn e1_is_accepted() {
 }
 
 #[test]
-fn e2_reads_what_is_held_exclusively() {
-    refuses(&e2(), 34, 5);
+fn e2_reads_what_was_held_exclusively() {
+    accepted(&e2(), 6, 5, 0);
+    refuses(&e2_used_again(), 34, 5);
 }
 
 #[test]

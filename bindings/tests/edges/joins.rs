@@ -5,6 +5,7 @@ use crate::choosing::by_reading;
 use crate::common::refused;
 use crate::common::terms::*;
 use crate::hand::*;
+use crate::in_use::accepts_in_use;
 use crate::listed_choices::{choose, gives, one, refuses, then, two_boxes, two_numbers};
 use roomscript::Refusal;
 
@@ -48,8 +49,8 @@ fn each_lives_long_enough() {
 }
 
 /// What the check answers of a choice on v0 with these terms and a 1 in its
-/// branches, and of terms after it. Where these are refused the term is counted
-/// from the first of them. Both orders of the branches are answered alike.
+/// branches, and of terms after it, while every variable is in use. Where these
+/// are refused the term is counted from the first of them. Both orders of the branches are answered alike.
 #[track_caller]
 fn after(before: &[Term], branches: [&[Term]; 2], more: &[Term]) -> Result<(), Refusal> {
     let [first, second] = branches.map(|terms| then(terms, &[one()]));
@@ -57,7 +58,7 @@ fn after(before: &[Term], branches: [&[Term]; 2], more: &[Term]) -> Result<(), R
         let until = by_reading(&then(before, &[choice]));
         let count = block(&until).len() as u32;
         let all = [&until[..], more, &[one()]].concat();
-        accepts(&all).map_err(|Refusal { number, place }| Refusal {
+        accepts_in_use(&all).map_err(|Refusal { number, place }| Refusal {
             number,
             place: place.checked_sub(count).expect("after the choice"),
         })
@@ -269,7 +270,7 @@ fn as_many_borrowed_places_as_variables() {
         let until = block(&by_reading(&terms)).len() as u32;
         for root in [0, 2, count - 1] {
             let write = assign((root, 0), one());
-            refuses(&then(&terms, &[write, one()]), 35, until);
+            refuses(&then(&terms, &[write, copy((1, 1))]), 35, until);
         }
         // One of them moved away in a branch.
         let moved = choose(&[mov((1, 0)), mov((count - 1, 0)), one()], &[one()]);

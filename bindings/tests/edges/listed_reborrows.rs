@@ -44,8 +44,11 @@ fn listed_blocks_that_give_a_borrow() {
 #[test]
 fn listed_roots() {
     let of_v0 = || let_(1, shared((0, 0)));
-    let barred = [of_v0(), let_(2, exclusive((1, 0))), shared((1, 1)), one()];
+    let held = [of_v0(), let_(2, exclusive((1, 0))), shared((1, 1))];
+    let barred = then(&held, &[copy((2, 2))]);
     assert_eq!(runs(&after_one(&barred)), refused(34, 7));
+    // v2 is not used again.
+    assert_eq!(runs(&after_one(&then(&held, &[one()]))), ran(1, 0));
     let passed = [of_v0(), let_(2, shared((1, 1))), mov((1, 0))];
     let free = then(&passed, &[copy((2, 1))]);
     assert_eq!(runs(&after_one(&free)), ran(1, 0));
@@ -65,14 +68,14 @@ fn listed_roots() {
         let_(3, shared((2, 2))),
         mov((2, 0)),
         mov((1, 0)),
-        number(0),
+        copy((3, 1)),
     ];
     assert_eq!(runs(&after_one(&behind)), refused(35, 10));
     let too_long = [
         let_(0, boxes(8, one())),
         let_(1, exclusive((0, 1))),
         shared((0, 0)),
-        number(0),
+        copy((1, 8)),
     ];
     assert_eq!(runs(&too_long), refused(34, 13));
 }
@@ -143,7 +146,7 @@ fn listed_met_again() {
         let_(12, shared((5, 2))),
         v5(11),
         mov((9, 0)),
-        number(0),
+        copy((12, 1)),
     ];
     refuses(&[&two_numbers()[..], &holders, &through].concat(), 35, 50);
 }

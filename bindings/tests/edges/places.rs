@@ -4,11 +4,13 @@
 use crate::common::refused;
 use crate::common::terms::*;
 use crate::hand::*;
+use crate::in_use::accepts_in_use;
 
-/// The terms given, and then a number as the answer.
+/// The terms given, and then a number as the answer, while every variable is in
+/// use.
 #[track_caller]
 fn checks_first(terms: &[Term]) -> Result<(), roomscript::Refusal> {
-    accepts(&[terms, &[number(0)]].concat())
+    accepts_in_use(&[terms, &[number(0)]].concat())
 }
 
 #[test]

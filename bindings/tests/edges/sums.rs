@@ -5,6 +5,7 @@ use crate::common::store::{cell, store_of};
 use crate::common::terms::*;
 use crate::common::{fault, ran, refused, UncheckedAnswer};
 use crate::hand::*;
+use crate::in_use::accepts_in_use;
 use roomscript::Refusal;
 
 const MIN: i32 = i32::MIN;
@@ -140,7 +141,7 @@ fn its_value_is_a_number() {
 fn judges_both(before: &[Term], first: Place, second: Place) -> Result<(), Refusal> {
     let of_two = |kind: fn(Place, Place) -> Term| {
         let terms = [before, &[kind(first, second)]].concat();
-        accepts(&terms)
+        accepts_in_use(&terms)
     };
     assert_eq!(of_two(below), of_two(sum));
     of_two(sum)

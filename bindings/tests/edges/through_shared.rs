@@ -5,8 +5,8 @@
 use crate::choosing::by_reading;
 use crate::common::refused;
 use crate::common::terms::*;
-use crate::hand::*;
-use crate::listed_choices::{choose, gives, one, refuses, then, two_numbers};
+use crate::in_use::{accepts_in_use, checks_in_use};
+use crate::listed_choices::{choose, gives, one, then, two_numbers};
 use roomscript::Refusal;
 
 /// `let v0=reading 0; let v1=1; let v2=2` and these terms.
@@ -14,13 +14,14 @@ pub fn opening(terms: &[Term]) -> Vec<Term> {
     by_reading(&then(&two_numbers(), terms))
 }
 
-/// What the check answers of these terms, others after them and a number. Where
-/// the others are refused the term is counted from the first of them.
+/// What the check answers of these terms, others after them and a number, while
+/// every variable is in use. Where the others are refused the term is counted
+/// from the first of them.
 #[track_caller]
 pub fn behind(before: &[Term], more: &[Term]) -> Result<(), Refusal> {
     let count = block(before).len() as u32;
     let all = [before, more, &[one()]].concat();
-    accepts(&all).map_err(|Refusal { number, place }| Refusal {
+    accepts_in_use(&all).map_err(|Refusal { number, place }| Refusal {
         number,
         place: place.checked_sub(count).expect("after what stands before"),
     })
@@ -83,7 +84,8 @@ fn what_it_shows_afterwards() {
     let shown = then(&two_numbers(), &terms[..3]);
     gives(&then(&shown, &[copy((4, 1))]), [1, 1], 0);
     gives(&then(&shown, &[sum((3, 1), (4, 1))]), [3, 3], 0);
-    refuses(&then(&then(&two_numbers(), &terms), &[one()]), 35, 13);
+    let written = [&by_reading(&two_numbers())[..], &terms, &[one()]].concat();
+    assert_eq!(checks_in_use(&written), refused(35, 13));
     // Through itself, and by way of an exclusive borrow of itself.
     let own = [let_(3, shared((1, 0))), assign((3, 0), shared((3, 1)))];
     gives(
