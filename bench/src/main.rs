@@ -8,6 +8,7 @@
 
 mod choices;
 mod large;
+mod last_uses;
 mod measure;
 mod operations;
 mod reborrows;

@@ -2,6 +2,7 @@
 
 use crate::choices;
 use crate::large;
+use crate::last_uses;
 use crate::measure::{measure, Measured, BATCH, PAIRS};
 use crate::operations::{Stage, OPERATIONS};
 use crate::reborrows;
@@ -26,10 +27,11 @@ pub fn conditions() -> String {
 }
 
 /// Three scripts from small to full under the language's own set, a mixture of
-/// all terms under the largest, two scripts with sums and two with borrows
-/// through shared borrows, as large as the second and the third, and such
-/// scripts with choices: small, as large as the second
-/// and the third, nested, and with many variables that borrow.
+/// all terms under the largest, two scripts with sums, two with borrows through
+/// shared borrows and two with borrows that end at their last use, as large as
+/// the second and the third, two with all variables holding each other, and
+/// such scripts with choices: small, as large as the second and the third,
+/// nested, and with many variables that borrow.
 fn scripts() -> Vec<(&'static str, Limits, Vec<u8>)> {
     vec![
         ("small", Limits::BASE, E1.to_vec()),
@@ -40,6 +42,18 @@ fn scripts() -> Vec<(&'static str, Limits, Vec<u8>)> {
         ("sums, full", Limits::BASE, with_sums(512)),
         ("reborrows, middling", Limits::BASE, reborrows::mixed(60)),
         ("reborrows, full", Limits::BASE, reborrows::mixed(512)),
+        ("last uses, middling", Limits::BASE, last_uses::mixed(60)),
+        ("last uses, full", Limits::BASE, last_uses::mixed(512)),
+        (
+            "last uses, 61 holders",
+            Limits::BASE,
+            last_uses::round(Limits::BASE),
+        ),
+        (
+            "last uses, 125 holders",
+            Limits::LARGEST,
+            last_uses::round(Limits::LARGEST),
+        ),
         ("choice, small", Limits::BASE, choices::small()),
         ("choices, middling", Limits::BASE, choices::mixed(60)),
         ("choices, full", Limits::BASE, choices::mixed(512)),

@@ -12,10 +12,11 @@
 //! and of scripts that all have a choice whose branches leave variables
 //! differently, with readings for both branches; of scripts made for shared
 //! borrows through shared links, and for what such borrows are recorded
-//! against; full scripts of the largest set; all small scripts over a small
-//! alphabet, all small ones with a choice, and all short sequences of rows with
-//! choices. Of some scripts with sums and choices plain arithmetic tells the
-//! answer too. It also compares the library with itself: a run with the check
+//! against; of scripts made for borrows that end at their last use or are used
+//! again, of which it decides on 400,000 or more; full scripts of the largest
+//! set; all small scripts over a small alphabet, all small ones with a choice,
+//! and all short sequences of rows with choices. Of some scripts with sums and
+//! choices plain arithmetic tells the answer too. It also compares the library with itself: a run with the check
 //! and the unchecked run, a call with read and then run, one set with a larger
 //! one, sums with belows, a choice with the branch that runs, and with its
 //! branches in the other order. A longer run, or one with other cases, takes
@@ -48,6 +49,8 @@ mod calling;
 #[path = "comparison/choices.rs"]
 mod choices;
 mod common;
+#[path = "comparison/each_layer.rs"]
+mod each_layer;
 #[path = "comparison/exhaustive.rs"]
 mod exhaustive;
 #[path = "comparison/generated.rs"]
@@ -56,6 +59,8 @@ mod generated;
 mod joins;
 #[path = "comparison/larger.rs"]
 mod larger;
+#[path = "comparison/last_uses.rs"]
+mod last_uses;
 #[path = "comparison/layers.rs"]
 mod layers;
 #[path = "comparison/outlines.rs"]

@@ -1,18 +1,12 @@
 //! Scripts made for shared borrows through shared links, and for what is done
 //! afterwards with the variables that are passed and with those that are
-//! recorded: read, judged, written, checked, run and called by both programs,
-//! with readings of which many are 0 and with others.
+//! recorded.
 
-use crate::choices::two_readings;
-use crate::common::case::{Case, Input};
 use crate::common::settings::Settings;
-use crate::layers::{Layers, Room, AUTHOR, FAULTS};
+use crate::each_layer::{compare, Make, Scripts};
+use crate::layers::{AUTHOR, FAULTS};
 use crate::sets::Sets;
-use crate::whole::Whole;
-use reference::random::Random;
 use reference::Generator;
-
-type Make = fn(&mut Generator, &mut Vec<u32>);
 
 /// A part of the cases that others have, as each is run with two readings, and
 /// called: of both kinds together more under the language's own set.
@@ -25,46 +19,19 @@ fn settings(sets: Sets) -> Settings {
     Settings::from_environment().share(percent)
 }
 
-/// Both programs are given each script with either readings, and its bytes with
-/// the last.
-fn compare(name: &str, make: Make, sets: Sets, (expected, rare): (&[u32], &[u32])) -> Layers {
-    let settings = settings(sets);
-    let mut layers = Layers::new(&format!("{name}, {}", sets.name()));
-    let mut whole = Whole::new();
-    let mut generator = Generator::new(settings.seed);
-    let mut random = Random::new(!settings.seed);
-    let mut rows = Vec::new();
-    for number in 0..settings.cases {
-        let limits = sets.next(&mut generator);
-        make(&mut generator, &mut rows);
-        let readings = two_readings(&mut random);
-        let case = Case {
-            seed: Some(settings.seed),
-            number,
-            limits,
-            input: Input::Run(&rows, &readings[1]),
-        };
-        let room = Room {
-            length: limits.store_numbers(),
-            junk: random.bits() as u32,
-        };
-        for given in &readings {
-            layers.check_and_run(&case, &rows, given, room);
-        }
-        let called = whole.call(&case, &rows, &readings[1], room.junk);
-        let called = called.map(|called| called.terms);
-        let checked = roomscript::check(limits, &rows);
-        case.equal(called, checked, "answer of call beside check");
+fn scripts(name: &'static str, make: Make, sets: Sets) -> Scripts<'static> {
+    Scripts {
+        name,
+        make,
+        sets,
+        settings: settings(sets),
     }
-    for tally in [&layers.checked, &layers.ran] {
-        tally.report_with(&settings, expected, rare);
-    }
-    layers
 }
 
 fn accepted(sets: Sets) {
     let make: Make = Generator::through_shared_rows;
-    let layers = compare("through shared links", make, sets, (&[0], &[]));
+    let scripts = scripts("through shared links", make, sets);
+    let layers = compare(scripts, (&[0], &[]), |_, _| ());
     layers.ran_unchecked.report(&settings(sets), &[0]);
 }
 
@@ -79,8 +46,8 @@ fn nearly_accepted(sets: Sets) {
     };
     let mut expected = AUTHOR.to_vec();
     expected.retain(|number| !rare.contains(number));
-    let name = "nearly through shared links";
-    let layers = compare(name, make, sets, (&expected, rare));
+    let scripts = scripts("nearly through shared links", make, sets);
+    let layers = compare(scripts, (&expected, rare), |_, _| ());
     layers.ran_unchecked.report(&settings(sets), &FAULTS);
 }
 
