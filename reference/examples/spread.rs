@@ -25,7 +25,7 @@ fn count(name: &str, limits: Limits, mut next: impl FnMut(&mut Generator) -> Res
 
 type Make = fn(&mut Generator, &mut Vec<u32>);
 
-const KINDS: [(&str, Make); 8] = [
+const KINDS: [(&str, Make); 10] = [
     ("accepted_rows", Generator::accepted_rows),
     ("near_miss_rows", Generator::near_miss_rows),
     ("joined_rows", Generator::joined_rows),
@@ -35,6 +35,8 @@ const KINDS: [(&str, Make); 8] = [
         "near_through_shared_rows",
         Generator::near_through_shared_rows,
     ),
+    ("last_uses_rows", Generator::last_uses_rows),
+    ("near_last_uses_rows", Generator::near_last_uses_rows),
     ("wild_rows", Generator::wild_rows),
     ("mixed_rows", Generator::mixed_rows),
 ];

@@ -12,7 +12,7 @@ use crate::ownership::roots::Roots;
 use crate::random::Random;
 
 /// What an author knows of all variables, under every set.
-pub(super) type State = Environment<{ Limits::LARGEST.variables as usize }>;
+pub(super) type State = Environment<'static, { Limits::LARGEST.variables as usize }>;
 
 pub(super) struct Author<'a> {
     pub(super) random: &'a mut Random,

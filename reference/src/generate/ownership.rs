@@ -90,7 +90,7 @@ impl Generator {
         Author {
             random: &mut self.random,
             terms: &mut self.terms,
-            environment: State::new(Uses::UNENDING),
+            environment: State::new(Uses::unending()),
             habits,
             version,
             variables: self.limits.variables,

@@ -66,7 +66,10 @@ impl Condition {
 
 #[derive(Clone, Copy)]
 pub(super) struct Variable {
-    pub(super) condition: Condition,
+    /// The two parts of its condition. They stand apart, as a variable takes
+    /// less room so.
+    borrowed: Roots,
+    moved: u8,
     pub(super) chain: Chain,
     /// The level of the block it lives in, while it is in scope. Of two
     /// variables in scope, one lives in the block of the other or in one
@@ -79,20 +82,26 @@ pub(super) struct Variable {
 impl Variable {
     /// Of a number that no let was judged of yet.
     const UNUSED: Variable = Variable {
-        condition: Condition {
-            moved: 0,
-            borrowed: Roots::NONE,
-        },
+        borrowed: Roots::NONE,
+        moved: 0,
         chain: Chain::NUMBER,
         level: FREE,
         holders: Roots::NONE,
     };
+
+    #[inline]
+    pub(super) fn condition(&self) -> Condition {
+        Condition {
+            moved: self.moved,
+            borrowed: self.borrowed,
+        }
+    }
 }
 
 /// Of so many variables, or fewer. The generators keep one of their own and go
 /// back to earlier copies of it.
 #[derive(Clone)]
-pub(crate) struct Environment<const VARIABLES: usize> {
+pub(crate) struct Environment<'a, const VARIABLES: usize> {
     variables: [Variable; VARIABLES],
     /// The variables in scope, in the order of their lets.
     order: [u8; VARIABLES],
@@ -100,11 +109,12 @@ pub(crate) struct Environment<const VARIABLES: usize> {
     level: u8,
     /// The variables whose first borrow link is exclusive.
     exclusive: Roots,
-    pub(crate) uses: Uses<VARIABLES>,
+    pub(crate) uses: Uses<'a, VARIABLES>,
 }
 
-impl<const VARIABLES: usize> Environment<VARIABLES> {
-    pub(crate) fn new(uses: Uses<VARIABLES>) -> Self {
+impl<'a, const VARIABLES: usize> Environment<'a, VARIABLES> {
+    #[inline]
+    pub(crate) fn new(uses: Uses<'a, VARIABLES>) -> Self {
         Environment {
             variables: [Variable::UNUSED; VARIABLES],
             order: [0; VARIABLES],
@@ -155,7 +165,7 @@ impl<const VARIABLES: usize> Environment<VARIABLES> {
     #[inline]
     pub(crate) fn borrowed(&self, variables: Roots) -> Roots {
         variables.fold(Roots::NONE, |borrowed, variable| {
-            borrowed.with(self.variable(variable).condition.borrowed)
+            borrowed.with(self.variable(variable).borrowed)
         })
     }
 
@@ -191,7 +201,7 @@ impl<const VARIABLES: usize> Environment<VARIABLES> {
     /// The roots of the places that a variable holds borrows of.
     #[inline]
     fn held(&self, variable: u8) -> Roots {
-        let condition = self.variable(variable).condition;
+        let condition = self.variable(variable).condition();
         // A move passes no borrow link, so it always takes the first one along.
         match condition.moved {
             NOTHING => condition.borrowed,
@@ -223,14 +233,17 @@ impl<const VARIABLES: usize> Environment<VARIABLES> {
     #[inline]
     fn change(&mut self, variable: u8, condition: Condition) {
         self.release(variable);
-        self.variables[variable as usize].condition = condition;
+        let Condition { moved, borrowed } = condition;
+        let of = &mut self.variables[variable as usize];
+        (of.moved, of.borrowed) = (moved, borrowed);
         self.hold(variable);
     }
 
     pub(crate) fn declare(&mut self, variable: u8, value: Value) {
         // Nothing borrows from it yet.
         self.variables[variable as usize] = Variable {
-            condition: Condition::whole(value.borrowed),
+            borrowed: value.borrowed,
+            moved: NOTHING,
             chain: value.chain,
             level: self.level,
             ..Variable::UNUSED
@@ -246,7 +259,7 @@ impl<const VARIABLES: usize> Environment<VARIABLES> {
     /// Moves away from a variable's link on.
     pub(crate) fn move_away(&mut self, place: Place) {
         let moved = place.follows;
-        let condition = self.variable(place.root).condition;
+        let condition = self.variable(place.root).condition();
         self.change(place.root, Condition { moved, ..condition });
     }
 
@@ -258,7 +271,7 @@ impl<const VARIABLES: usize> Environment<VARIABLES> {
             return self.change(variable, Condition::whole(value.borrowed));
         }
         for variable in written {
-            let mut condition = self.variable(variable).condition;
+            let mut condition = self.variable(variable).condition();
             condition.borrowed = condition.borrowed.with(value.borrowed);
             self.change(variable, condition);
         }
@@ -268,7 +281,7 @@ impl<const VARIABLES: usize> Environment<VARIABLES> {
     pub(crate) fn conditions(&self) -> Vec<Condition> {
         let conditions = self.variables_in_scope().iter();
         conditions
-            .map(|variable| self.variable(*variable).condition)
+            .map(|variable| self.variable(*variable).condition())
             .collect()
     }
 
@@ -277,7 +290,7 @@ impl<const VARIABLES: usize> Environment<VARIABLES> {
     pub(crate) fn exchange(&mut self, conditions: &mut [Condition]) {
         for (index, other) in conditions.iter_mut().enumerate() {
             let variable = self.order[index];
-            let present = self.variable(variable).condition;
+            let present = self.variable(variable).condition();
             if present != *other {
                 self.change(variable, *other);
                 *other = present;
@@ -291,7 +304,7 @@ impl<const VARIABLES: usize> Environment<VARIABLES> {
     pub(crate) fn join(&mut self, conditions: &[Condition]) {
         for (index, other) in conditions.iter().enumerate() {
             let variable = self.order[index];
-            let present = self.variable(variable).condition;
+            let present = self.variable(variable).condition();
             if present != *other {
                 let joined = Condition {
                     moved: present.moved.min(other.moved),

@@ -6,7 +6,7 @@
 use super::environment::{Environment, Place, NOTHING};
 use super::roots::Roots;
 
-impl<const VARIABLES: usize> Environment<VARIABLES> {
+impl<const VARIABLES: usize> Environment<'_, VARIABLES> {
     /// The variables of which one finally owns what is at a place with a long
     /// enough chain. Nothing if something is moved away on the own path of a
     /// place that is met.
@@ -21,7 +21,7 @@ impl<const VARIABLES: usize> Environment<VARIABLES> {
         while let Some(root) = waiting.next() {
             let variable = self.variable(root);
             let follows = (variable.chain.links() - links) as u8;
-            let condition = variable.condition;
+            let condition = variable.condition();
             if variable.chain.passes_borrow(follows) {
                 // The first borrow link is moved away with whatever is.
                 if condition.moved != NOTHING {
@@ -47,7 +47,7 @@ impl<const VARIABLES: usize> Environment<VARIABLES> {
         let mut met = Roots::one(root);
         let mut waiting = met;
         while let Some(root) = waiting.next() {
-            let condition = self.variable(root).condition;
+            let condition = self.variable(root).condition();
             if condition.moved != NOTHING {
                 return false;
             }

@@ -32,7 +32,7 @@ pub fn check_by_scope(limits: Limits, rows: &[u32]) -> Result<u32, Refusal> {
     let rows = lent_rows(limits, rows)?;
     let judged = judge_all(limits, NEWEST, rows)?;
     let rows = &rows[..judged.terms];
-    check_terms::<{ Limits::LARGEST.variables as usize }>(rows, Uses::UNENDING)?;
+    check_terms::<{ Limits::LARGEST.variables as usize }>(rows, Uses::unending())?;
     Ok(judged.terms as u32)
 }
 
@@ -48,7 +48,10 @@ pub(crate) fn check_judged(limits: Limits, rows: &[Row]) -> Result<(), Refusal> 
 }
 
 /// Judges all terms in an environment of so many variables.
-fn check_terms<const VARIABLES: usize>(rows: &[Row], uses: Uses<VARIABLES>) -> Result<(), Refusal> {
+fn check_terms<'a, const VARIABLES: usize>(
+    rows: &'a [Row],
+    uses: Uses<'a, VARIABLES>,
+) -> Result<(), Refusal> {
     let mut judge = Judge::<VARIABLES> {
         rows,
         next: 0,
@@ -64,7 +67,7 @@ struct Judge<'a, const VARIABLES: usize> {
     rows: &'a [Row],
     /// The term that is judged next.
     next: usize,
-    environment: Environment<VARIABLES>,
+    environment: Environment<'a, VARIABLES>,
 }
 
 /// The place in a row's operands from `field` on.

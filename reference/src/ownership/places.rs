@@ -7,7 +7,7 @@ use super::environment::{Environment, Place, Value};
 use super::roots::Roots;
 use crate::refusal::*;
 
-impl<const VARIABLES: usize> Environment<VARIABLES> {
+impl<const VARIABLES: usize> Environment<'_, VARIABLES> {
     /// Root in scope and long enough chain.
     #[inline]
     fn reachable(&self, place: Place) -> Result<(), u32> {

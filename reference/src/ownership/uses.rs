@@ -7,45 +7,57 @@
 use super::environment::Environment;
 use super::roots::Roots;
 use crate::form::*;
+use std::cell::OnceCell;
 
 /// Which variables are still to be named, told at the term that is judged. The
 /// terms not finished then are those from some row on, in the order of the
 /// rows, and those around it.
 #[derive(Clone)]
-pub(crate) struct Uses<const VARIABLES: usize> {
-    /// The row after the last that names it, of each variable.
-    ends: [u16; VARIABLES],
+pub(crate) struct Uses<'a, const VARIABLES: usize> {
+    rows: &'a [Row],
+    /// The row after the last that names it, of each variable. Only looked for
+    /// once it is asked.
+    ends: OnceCell<[u16; VARIABLES]>,
     /// The first row of which no term has finished or is around.
     from: u16,
     /// The variables that the terms around name.
     around: Roots,
 }
 
-impl<const VARIABLES: usize> Uses<VARIABLES> {
-    /// Every variable in use for good, so that all in scope bar.
-    pub(crate) const UNENDING: Self = Uses {
-        ends: [u16::MAX; VARIABLES],
-        from: 0,
-        around: Roots::NONE,
-    };
-
-    /// As these rows name variables.
-    pub(crate) fn of(rows: &[Row]) -> Self {
-        let mut ends = [0; VARIABLES];
-        for (term, row) in rows.iter().enumerate() {
-            let end = term as u16 + 1;
-            match row[0] {
-                COPY..=EXCLUSIVE | LET | ASSIGN | CHOICE => ends[row[1] as usize] = end,
-                BELOW | SUM => {
-                    ends[row[1] as usize] = end;
-                    ends[row[3] as usize] = end;
-                }
-                _ => {}
+/// The row after the last that names a variable, of each, 0 if there is none.
+fn ends_of<const VARIABLES: usize>(rows: &[Row]) -> [u16; VARIABLES] {
+    let mut ends = [0; VARIABLES];
+    for (term, row) in rows.iter().enumerate() {
+        let end = term as u16 + 1;
+        match row[0] {
+            COPY..=EXCLUSIVE | LET | ASSIGN | CHOICE => ends[row[1] as usize] = end,
+            BELOW | SUM => {
+                ends[row[1] as usize] = end;
+                ends[row[3] as usize] = end;
             }
+            _ => {}
         }
+    }
+    ends
+}
+
+impl<'a, const VARIABLES: usize> Uses<'a, VARIABLES> {
+    /// As these rows name variables.
+    #[inline]
+    pub(crate) fn of(rows: &'a [Row]) -> Self {
         Uses {
-            ends,
-            ..Self::UNENDING
+            rows,
+            ends: OnceCell::new(),
+            from: 0,
+            around: Roots::NONE,
+        }
+    }
+
+    /// Every variable in use for good, so that all in scope bar.
+    pub(crate) fn unending() -> Self {
+        Uses {
+            ends: OnceCell::from([u16::MAX; VARIABLES]),
+            ..Self::of(&[])
         }
     }
 
@@ -73,11 +85,12 @@ impl<const VARIABLES: usize> Uses<VARIABLES> {
     /// Whether a term that has not finished names a variable.
     #[inline]
     fn names(&self, variable: u8) -> bool {
-        self.ends[variable as usize] > self.from || self.around.contains(variable)
+        let ends = self.ends.get_or_init(|| ends_of(self.rows));
+        ends[variable as usize] > self.from || self.around.contains(variable)
     }
 }
 
-impl<const VARIABLES: usize> Environment<VARIABLES> {
+impl<const VARIABLES: usize> Environment<'_, VARIABLES> {
     #[inline]
     pub(crate) fn reading_barred(&self, root: u8) -> bool {
         self.any_in_use(self.exclusive_holders(root))
@@ -100,7 +113,8 @@ impl<const VARIABLES: usize> Environment<VARIABLES> {
 
     /// From here on a variable is named no more.
     pub(crate) fn give_up(&mut self, variable: u8) {
-        self.uses.ends[variable as usize] = 0;
+        let ends = self.uses.ends.get_mut().expect("an author's");
+        ends[variable as usize] = 0;
     }
 
     /// The holders of a root that may still be named, and those of its holders,
