@@ -51,49 +51,60 @@
 //! `joined_rows` makes accepted scripts whose choices leave variables behind
 //! differently: moved away in one block, borrowing from other places after
 //! each. `near_joined_rows` makes such scripts with edits. [`small_choices`]
-//! shows all small ones, 980,452 in number, of which 55,431 are accepted.
+//! shows all small ones, 980,452 in number, of which 234,018 are accepted.
 //!
 //! `through_shared_rows` makes accepted scripts with shared borrows through
-//! shared links, of which 89 in a hundred would be refused if such a borrow
+//! shared links, of which 88 in a hundred would be refused if such a borrow
 //! were recorded against the variable that it names.
 //! `near_through_shared_rows` makes such scripts that are mostly refused for
 //! what these borrows are recorded against; 79 in a hundred would get another
 //! answer.
 //!
-//! Checking rows (those of `mixed_rows` also meet 12 to 19, 3,233 times):
+//! `last_uses_rows` makes accepted scripts with borrows that end at their last
+//! use, of which 91 in a hundred would be refused if every variable in scope
+//! were in use. `near_last_uses_rows` makes such scripts that are mostly refused
+//! as a borrow is used again; 88 in a hundred ask about a variable with a holder
+//! in scope, and 77 would get another answer. [`check_by_scope`] tells both.
+//!
+//! Checking rows (those of `mixed_rows` also meet 12 to 19, 3,223 times):
 //!
 //! | | 0 | 30 | 31 | 32 | 33 | 34 | 35 | 36 |
 //! |---|---|---|---|---|---|---|---|---|
 //! | `accepted_rows` | 100,000 | | | | | | | |
 //! | `joined_rows` | 100,000 | | | | | | | |
 //! | `through_shared_rows` | 100,000 | | | | | | | |
-//! | `near_miss_rows` | 57,006 | 5,535 | 12,736 | 8,550 | 2,664 | 1,003 | 1,628 | 847 |
-//! | `near_joined_rows` | 28,827 | 7,486 | 10,741 | 9,333 | 3,324 | 6,246 | 13,746 | 5,438 |
-//! | `near_through_shared_rows` | 11,903 | 2,255 | 3,397 | 2,583 | 4,378 | 4,017 | 51,180 | 9,686 |
-//! | `wild_rows` | 26,290 | 4,916 | 5,954 | 12,554 | 9,515 | 4,825 | 9,194 | 3,631 |
-//! | `mixed_rows` | 53,520 | 3,215 | 11,648 | 5,752 | 3,384 | 2,186 | 5,642 | 1,902 |
+//! | `last_uses_rows` | 100,000 | | | | | | | |
+//! | `near_miss_rows` | 57,773 | 5,541 | 12,753 | 8,579 | 2,707 | 614 | 1,069 | 850 |
+//! | `near_joined_rows` | 29,402 | 6,975 | 10,233 | 9,488 | 3,486 | 6,370 | 13,531 | 5,665 |
+//! | `near_through_shared_rows` | 23,403 | 2,110 | 3,126 | 2,634 | 5,783 | 273 | 42,389 | 9,860 |
+//! | `near_last_uses_rows` | 42,497 | 2,824 | 2,923 | 2,388 | 848 | 17,291 | 26,748 | 1,529 |
+//! | `wild_rows` | 27,546 | 4,990 | 6,028 | 12,754 | 9,895 | 3,818 | 7,075 | 3,685 |
+//! | `mixed_rows` | 54,860 | 3,013 | 11,204 | 5,628 | 3,463 | 2,070 | 5,198 | 1,949 |
 //!
 //! | | 37 | 38 | 39 | 40 | 41 | 42 | 43 |
 //! |---|---|---|---|---|---|---|---|
-//! | `near_miss_rows` | 1,443 | 901 | 5,279 | 1,108 | 531 | 25 | 744 |
-//! | `near_joined_rows` | 3,026 | 2,897 | 8,164 | 533 | 28 | 14 | 197 |
-//! | `near_through_shared_rows` | 910 | 828 | 1,422 | 7,261 | 132 | 1 | 47 |
-//! | `wild_rows` | 2,811 | 2,212 | 10,882 | 5,093 | 176 | 958 | 989 |
-//! | `mixed_rows` | 1,342 | 1,049 | 4,465 | 1,713 | 202 | 279 | 468 |
+//! | `near_miss_rows` | 1,458 | 901 | 5,311 | 1,135 | 531 | 26 | 752 |
+//! | `near_joined_rows` | 3,135 | 3,057 | 8,082 | 419 | 48 | 19 | 90 |
+//! | `near_through_shared_rows` | 857 | 891 | 1,393 | 7,097 | 171 | 1 | 12 |
+//! | `near_last_uses_rows` | 1,196 | 524 | 1,037 | 104 | 9 | 0 | 82 |
+//! | `wild_rows` | 2,896 | 2,269 | 11,250 | 5,545 | 179 | 987 | 1,083 |
+//! | `mixed_rows` | 1,296 | 1,037 | 4,470 | 1,718 | 173 | 279 | 419 |
 //!
 //! Running rows with [`run_unchecked`], each time with readings of their own
-//! (those of `mixed_rows` also meet 12 to 19, 3,282 times):
+//! (those of `mixed_rows` also meet 12 to 19, 3,187 times):
 //!
 //! | | 0 | 60 | 61 | 62 | 63 |
 //! |---|---|---|---|---|---|
 //! | `accepted_rows` | 100,000 | | | | |
 //! | `joined_rows` | 100,000 | | | | |
 //! | `through_shared_rows` | 100,000 | | | | |
+//! | `last_uses_rows` | 100,000 | | | | |
 //! | `near_miss_rows` | 66,093 | 16,338 | 12,575 | 4,549 | 445 |
-//! | `near_joined_rows` | 57,292 | 19,985 | 14,695 | 7,183 | 845 |
-//! | `near_through_shared_rows` | 79,741 | 14,827 | 3,410 | 1,801 | 221 |
+//! | `near_joined_rows` | 54,805 | 22,456 | 15,264 | 6,699 | 776 |
+//! | `near_through_shared_rows` | 68,296 | 26,195 | 3,796 | 1,607 | 106 |
+//! | `near_last_uses_rows` | 79,369 | 9,692 | 3,378 | 7,098 | 463 |
 //! | `wild_rows` | 37,787 | 25,236 | 30,016 | 5,334 | 1,627 |
-//! | `mixed_rows` | 62,721 | 18,590 | 11,758 | 3,063 | 586 |
+//! | `mixed_rows` | 63,090 | 18,949 | 11,347 | 2,862 | 565 |
 //!
 //! Running the same rows with [`run`], which never meets 60 to 63:
 //!
@@ -102,11 +113,13 @@
 //! | `accepted_rows` | 100,000 | | |
 //! | `joined_rows` | 100,000 | | |
 //! | `through_shared_rows` | 100,000 | | |
-//! | `near_miss_rows` | 57,421 | | 42,579 |
-//! | `near_joined_rows` | 29,168 | | 70,832 |
-//! | `near_through_shared_rows` | 11,953 | | 88,047 |
-//! | `wild_rows` | 26,418 | | 73,582 |
-//! | `mixed_rows` | 53,490 | 3,282 | 43,228 |
+//! | `last_uses_rows` | 100,000 | | |
+//! | `near_miss_rows` | 58,163 | | 41,837 |
+//! | `near_joined_rows` | 29,490 | | 70,510 |
+//! | `near_through_shared_rows` | 23,332 | | 76,668 |
+//! | `near_last_uses_rows` | 42,423 | | 57,577 |
+//! | `wild_rows` | 27,686 | | 72,314 |
+//! | `mixed_rows` | 54,626 | 3,187 | 42,187 |
 //!
 //! `limits_within`, `limits_above` and `limits_outside` make sets themselves;
 //! the last ones are refused with 74.

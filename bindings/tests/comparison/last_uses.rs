@@ -27,7 +27,7 @@ fn settings(sets: Sets) -> Settings {
 /// variables of the small set there is less to hold.
 fn share(sets: Sets) -> u64 {
     match sets {
-        Sets::SMALL => 30,
+        Sets::SMALL => 75,
         _ => 84,
     }
 }
