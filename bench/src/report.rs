@@ -26,14 +26,14 @@ pub fn conditions() -> String {
     )
 }
 
+/// What is timed: its name, its set and its bytes.
+type Timed = (&'static str, Limits, Vec<u8>);
+
 /// Three scripts from small to full under the language's own set, a mixture of
-/// all terms under the largest, two scripts with sums, two with borrows through
-/// shared borrows and two with borrows that end at their last use, as large as
-/// the second and the third, two with all variables holding each other, and
-/// such scripts with choices: small, as large as the second and the third,
-/// nested, and with many variables that borrow.
-fn scripts() -> Vec<(&'static str, Limits, Vec<u8>)> {
-    vec![
+/// all terms under the largest, two scripts with sums and two with borrows
+/// through shared borrows, as large as the second and the third.
+fn scripts() -> Vec<Timed> {
+    let mut scripts = vec![
         ("small", Limits::BASE, E1.to_vec()),
         ("middling", Limits::BASE, mixed(60)),
         ("full", Limits::BASE, full()),
@@ -42,41 +42,36 @@ fn scripts() -> Vec<(&'static str, Limits, Vec<u8>)> {
         ("sums, full", Limits::BASE, with_sums(512)),
         ("reborrows, middling", Limits::BASE, reborrows::mixed(60)),
         ("reborrows, full", Limits::BASE, reborrows::mixed(512)),
-        ("last uses, middling", Limits::BASE, last_uses::mixed(60)),
-        ("last uses, full", Limits::BASE, last_uses::mixed(512)),
-        (
-            "last uses, 61 holders",
-            Limits::BASE,
-            last_uses::round(Limits::BASE),
-        ),
-        (
-            "last uses, 125 holders",
-            Limits::LARGEST,
-            last_uses::round(Limits::LARGEST),
-        ),
-        ("choice, small", Limits::BASE, choices::small()),
-        ("choices, middling", Limits::BASE, choices::mixed(60)),
-        ("choices, full", Limits::BASE, choices::mixed(512)),
-        (
-            "choices, nested",
-            Limits::BASE,
-            choices::nested(Limits::BASE),
-        ),
-        (
-            "choices, 4 borrowers",
-            Limits::LARGEST,
-            choices::borrowers(4),
-        ),
-        (
-            "choices, 60 borrowers",
-            Limits::LARGEST,
-            choices::borrowers(60),
-        ),
-        (
-            "choices, 120 borrowers",
-            Limits::LARGEST,
-            choices::borrowers(120),
-        ),
+    ];
+    scripts.extend(with_last_uses());
+    scripts.extend(with_choices());
+    scripts
+}
+
+/// With borrows that end at their last use, as large as the second and the
+/// third, and with all variables of a set holding each other.
+fn with_last_uses() -> [Timed; 4] {
+    let (base, largest) = (Limits::BASE, Limits::LARGEST);
+    [
+        ("last uses, middling", base, last_uses::mixed(60)),
+        ("last uses, full", base, last_uses::mixed(512)),
+        ("last uses, 61 holders", base, last_uses::round(base)),
+        ("last uses, 125 holders", largest, last_uses::round(largest)),
+    ]
+}
+
+/// With choices: small, as large as the second and the third, nested, and with
+/// many variables that borrow.
+fn with_choices() -> [Timed; 7] {
+    let (base, largest) = (Limits::BASE, Limits::LARGEST);
+    [
+        ("choice, small", base, choices::small()),
+        ("choices, middling", base, choices::mixed(60)),
+        ("choices, full", base, choices::mixed(512)),
+        ("choices, nested", base, choices::nested(base)),
+        ("choices, 4 borrowers", largest, choices::borrowers(4)),
+        ("choices, 60 borrowers", largest, choices::borrowers(60)),
+        ("choices, 120 borrowers", largest, choices::borrowers(120)),
     ]
 }
 
