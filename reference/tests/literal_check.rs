@@ -162,6 +162,32 @@ fn what_is_in_use_decides() {
     }
 }
 
+/// Only a choice brings about that variables hold each other: without one it
+/// makes no difference whether such keep themselves in use.
+#[test]
+fn without_a_choice_none_hold_each_other() {
+    let makes: [Make; 3] = [
+        Generator::last_uses_rows,
+        Generator::near_last_uses_rows,
+        Generator::wild_rows,
+    ];
+    let mut generator = Generator::new(43);
+    let mut rows = Vec::new();
+    let mut compared = 0;
+    for make in makes.into_iter().cycle().take(30_000) {
+        make(&mut generator, &mut rows);
+        if rows.chunks(5).all(|row| row[0] != 12) {
+            compared += 1;
+            let [rule, circles] = [Using::Rule, Using::Circles].map(|using| {
+                let answer = check_by(Recording::Rule, using, Limits::BASE, &rows);
+                answer.map(|(terms, _)| terms)
+            });
+            assert_eq!(rule, circles, "{:?}", &rows[..200]);
+        }
+    }
+    assert!(compared > 10_000, "{compared}");
+}
+
 /// What is passed, and what is recorded, in accepted scripts of this kind.
 #[test]
 fn what_is_passed_shows() {

@@ -101,6 +101,28 @@ impl<const VARIABLES: usize> Environment<'_, VARIABLES> {
         self.any_in_use(self.holders(root))
     }
 
+    /// Whether one of these variables is in use. From holder to holder it is
+    /// looked for one that is named: a circle of holders of which none is does
+    /// not keep itself in use.
+    #[inline]
+    fn any_in_use(&self, variables: Roots) -> bool {
+        let mut met = variables;
+        let mut waiting = variables;
+        while let Some(variable) = waiting.next() {
+            if self.uses.names(variable) {
+                return true;
+            }
+            let unmet = self.holders(variable).without(met);
+            met = met.with(unmet);
+            waiting = waiting.with(unmet);
+        }
+        false
+    }
+}
+
+/// What authors of scripts go by, who do not know the rows to come: every
+/// variable is in use until they give it up.
+impl<const VARIABLES: usize> Environment<'_, VARIABLES> {
     /// The variables that may still be named, in scope and not given up.
     pub(crate) fn variables_to_name(&self) -> impl Iterator<Item = u8> + '_ {
         let scope = self.variables_in_scope().iter().copied();
@@ -129,23 +151,5 @@ impl<const VARIABLES: usize> Environment<'_, VARIABLES> {
         }
         let named = met.filter(|variable| self.uses.names(*variable));
         named.fold(Roots::NONE, |all, one| all.with(Roots::one(one)))
-    }
-
-    /// Whether one of these variables is in use. From holder to holder it is
-    /// looked for one that is named: a circle of holders of which none is does
-    /// not keep itself in use.
-    #[inline]
-    fn any_in_use(&self, variables: Roots) -> bool {
-        let mut met = variables;
-        let mut waiting = variables;
-        while let Some(variable) = waiting.next() {
-            if self.uses.names(variable) {
-                return true;
-            }
-            let unmet = self.holders(variable).without(met);
-            met = met.with(unmet);
-            waiting = waiting.with(unmet);
-        }
-        false
     }
 }
