@@ -6,6 +6,7 @@ use crate::branches::{directly_in, nested, swapped};
 use crate::common::case::{Case, Input};
 use crate::common::settings::Settings;
 use crate::common::Answer;
+use crate::last_uses::decide;
 use crate::layers::{Layers, Room, FAULTS};
 use crate::sets::{author_under, Sets};
 use crate::whole::Whole;
@@ -147,15 +148,17 @@ fn compare(name: &str, make: Make, sets: Sets, (expected, rare): (&[u32], &[u32]
         };
         let junk = random.bits() as u32;
         let checked = compared.script(&case(&rows), &rows, &readings, junk);
-        // Neither branch comes before the other: in the other order a script
-        // is accepted where it was.
+        // Only last uses tell which branch comes before the other: where they
+        // do not decide, a script is accepted in the other order where it was.
         let other = swapped(&rows);
         let answer = compared.script(&case(&other), &other, &readings[..1], !junk);
-        case(&other).equal(
-            answer.is_ok(),
-            checked.is_ok(),
-            "check with the branches in the other order",
-        );
+        if !decide(limits, &rows) && !decide(limits, &other) {
+            case(&other).equal(
+                answer.is_ok(),
+                checked.is_ok(),
+                "check with the branches in the other order",
+            );
+        }
     }
     let Compared { layers, places, .. } = compared;
     for tally in [&layers.checked, &layers.ran] {

@@ -35,7 +35,7 @@ fn share(sets: Sets) -> u64 {
 /// Whether the last uses decide: a bar is asked of a variable that has a holder
 /// in scope. By scope such a bar is 34 or 35, and up to there the check goes the
 /// same way.
-fn decide(limits: Limits, rows: &[u32]) -> bool {
+pub fn decide(limits: Limits, rows: &[u32]) -> bool {
     let by_scope = reference::check_by_scope(due::set(limits), rows);
     by_scope.is_err_and(|refusal| [34, 35].contains(&refusal.number))
 }
