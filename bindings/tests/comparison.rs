@@ -18,9 +18,10 @@
 //! and all short sequences of rows with choices. Of some scripts with sums and
 //! choices plain arithmetic tells the answer too. It also compares the library with itself: a run with the check
 //! and the unchecked run, a call with read and then run, one set with a larger
-//! one, sums with belows, a choice with the branch that runs, and with its
-//! branches in the other order. A longer run, or one with other cases, takes
-//! its seed and its number of cases from the environment:
+//! one, sums with belows, a choice with the branch that runs, and, where last
+//! uses do not decide, with its branches in the other order. A longer run, or
+//! one with other cases, takes its seed and its number of cases from the
+//! environment:
 //!
 //! ```text
 //! ROOMSCRIPT_SEED=7 ROOMSCRIPT_CASES=5000000 \
