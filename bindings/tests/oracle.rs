@@ -56,6 +56,8 @@ mod limits;
 mod listed;
 #[path = "edges/listed_choices.rs"]
 mod listed_choices;
+#[path = "edges/listed_last_uses.rs"]
+mod listed_last_uses;
 #[path = "edges/listed_reborrows.rs"]
 mod listed_reborrows;
 #[path = "edges/places.rs"]

@@ -73,6 +73,7 @@ fn listed_moves() {
         let_(3, exclusive((1, 0))),
         choose(&[mov((3, 0)), one()], &[one()]),
         mov((1, 0)),
+        assign((3, 0), exclusive((2, 0))),
         one(),
     ];
     gives(&holder, [1, 1], 0);

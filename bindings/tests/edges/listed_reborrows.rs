@@ -118,9 +118,9 @@ fn listed_recorded_root() {
     let named = [
         choose(&to_v1(4, shared), &to_v1(5, exclusive)),
         shared((4, 1)),
-        number(0),
+        copy((5, 1)),
     ];
-    gives(&[&two_numbers()[..], &holders, &named].concat(), [0, 0], 0);
+    gives(&[&two_numbers()[..], &holders, &named].concat(), [3, 1], 0);
 }
 
 /// v5 may borrow v3, v9 or v8, and v9 through v3: a place that is met again

@@ -23,7 +23,7 @@ use Rattle.rules.specs.Rules.{Judged, judgeBox, judgeLet, judgeAssign}
 use Rattle.rules.specs.Judge.{judge}
 use Rattle.rules.specs.Table.{environmentOf}
 use Rattle.rules.specs.Verdicts.{begun, asValue, verdictOf}
-use Rattle.ownership.specs.declared.judge.JudgedTerm.{JudgedTerm}
+use Rattle.ownership.specs.declared.terms.JudgedTerm.{JudgedTerm}
 use Rattle.ownership.specs.RowUses.{rowNames}
 use Rattle.ownership.specs.JudgeRows.{atRow, ended, judgedAt, judgeAt, Wraps, AllWrap, beginAt, ruleAfter, afterAt}
 use Rattle.rules.proofs.Finishing.{left-after}

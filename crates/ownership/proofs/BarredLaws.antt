@@ -10,7 +10,8 @@ use Rattle.reader.specs.Kinds.{wrapsOf}
 use Rattle.reader.specs.RowParts.{fieldAt}
 use Rattle.rules.specs.declared.roots.Roots.{Roots}
 use Rattle.rules.specs.Uses.{Unfinished, names, namedLater}
-use Rattle.rules.specs.Bars.{heldBy, held}
+use Rattle.rules.specs.Environment.{Environment}
+use Rattle.rules.specs.Bars.{heldBy, held, readBarred}
 use Rattle.rules.specs.Masks.{has, isEmpty}
 use Rattle.rules.specs.Table.{environmentOf, borrowsBy, MayHold}
 use Rattle.rules.specs.Verdicts.{LaterIs}
@@ -29,6 +30,10 @@ nobody-holds env any root s may e these (suc n) = go (heldBy (borrowsBy any) (en
         → elim b [ true ↦ elim (these n) [ true ↦ true | false ↦ held (borrowsBy any) these n (environmentOf env) root ] | false ↦ held (borrowsBy any) these n (environmentOf env) root ] ≡ false
     go true k ih = absurd (false≢true (sym (none-in s e n) ∙ may n k))
     go false k ih = ih
+
+-- What is barred goes by the root's number, however the code has it.
+pub read-at-root : (nv : ℕ) (ns : Unfinished) (Γ : Environment) {barred : Bool} {x y : ℕ} → x ≡ y → barred ≡ readBarred nv ns Γ x → barred ≡ readBarred nv ns Γ y
+read-at-root nv ns Γ e told = told ∙ ap (λ (x : ℕ). readBarred nv ns Γ x) e
 
 -- The set has what the terms around name.
 pub later-has : (nv : ℕ) (uses : List ℕ) (from : ℕ) (s : Roots) (named : ℕ → Bool) (ns : Unfinished) → ((x : ℕ) → has s x ≡ named x) → LaterIs nv uses from named ns → LaterIs nv uses from (has s) ns

@@ -15,7 +15,7 @@ use Rattle.rules.specs.Uses.{Unfinished, finishing, finishingAll}
 use Rattle.rules.specs.Judge.{judge, judges}
 use Rattle.rules.specs.Table.{environmentOf}
 use Rattle.rules.specs.Verdicts.{asValue, verdictOf}
-use Rattle.ownership.specs.declared.judge.JudgedTerm.{JudgedTerm}
+use Rattle.ownership.specs.declared.terms.JudgedTerm.{JudgedTerm}
 use Rattle.ownership.specs.JudgeRows.{ended, judgedAt, judgeAt, judgesAt, restAt}
 use Rattle.rules.proofs.Finishing.{left-after}
 use Rattle.rules.proofs.SameLater.{judged-alike}

@@ -18,7 +18,7 @@ use Rattle.rules.specs.Judge.{judge, judges}
 use Rattle.rules.specs.Neat.{Neat, LetsBelow}
 use Rattle.rules.specs.Table.{environmentOf}
 use Rattle.rules.specs.Verdicts.{asValue, verdictOf}
-use Rattle.ownership.specs.declared.judge.JudgedTerm.{JudgedTerm}
+use Rattle.ownership.specs.declared.terms.JudgedTerm.{JudgedTerm}
 use Rattle.ownership.specs.JudgeRows.{atRow, ended, judgedAt, judgeAt, judgesAt, restAt}
 use Rattle.rules.proofs.SameLater.{SameLater, all-judged-alike}
 use Rattle.ownership.proofs.JudgeLaws.{fine-is, inner-refused, inner-fine}

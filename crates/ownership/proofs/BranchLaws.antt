@@ -16,7 +16,7 @@ use Rattle.rules.specs.declared.rules.Readable.the-variants as readable
 use Rattle.rules.specs.declared.verdicts.Told.{Told}
 use Rattle.rules.specs.declared.verdicts.Value.{Value}
 use Rattle.rules.specs.declared.verdicts.Verdict.the-variants as verdict
-use Rattle.ownership.specs.declared.judge.JudgedTerm.{JudgedTerm}
+use Rattle.ownership.specs.declared.terms.JudgedTerm.{JudgedTerm}
 use Rattle.rules.specs.Links.{Link}
 use Rattle.rules.specs.Environment.{Environment}
 use Rattle.rules.specs.Choice.{carried, joined}

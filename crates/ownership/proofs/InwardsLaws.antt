@@ -16,7 +16,7 @@ use Rattle.reader.proofs.KindBytes.{wrapping}
 use Rattle.reader.proofs.RowTreeLaws.{wrapped-inner}
 use Rattle.rules.specs.declared.verdicts.Value.{Value}
 use Rattle.rules.specs.declared.verdicts.Verdict.the-variants as verdict
-use Rattle.ownership.specs.declared.judge.JudgedTerm.{JudgedTerm}
+use Rattle.ownership.specs.declared.terms.JudgedTerm.{JudgedTerm}
 use Rattle.rules.specs.Environment.{used, Environment, update, isFree}
 use Rattle.rules.specs.Uses.{Unfinished}
 use Rattle.rules.specs.Rules.{Judged}

@@ -12,7 +12,7 @@ use Rattle.rules.specs.declared.verdicts.Verdict.the-variants as verdict
 use Rattle.rules.specs.Table.{environmentOf}
 use Rattle.rules.specs.Rules.{Judged, Out}
 use Rattle.rules.specs.Verdicts.{asValue, verdictOf, answeredAs, answered}
-use Rattle.ownership.specs.declared.judge.JudgedTerm.{JudgedTerm}
+use Rattle.ownership.specs.declared.terms.JudgedTerm.{JudgedTerm}
 use Rattle.ownership.specs.JudgeRows.{atRow, ended, judgedAt}
 
 -- The code's answer, by its case.

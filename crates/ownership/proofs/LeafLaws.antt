@@ -19,7 +19,7 @@ use Rattle.rules.specs.Uses.{Unfinished, finishing, names}
 use Rattle.rules.specs.Rules.{numberTy}
 use Rattle.rules.specs.Judge.{judge}
 use Rattle.rules.specs.Table.{asPlace}
-use Rattle.ownership.specs.declared.judge.JudgedTerm.{JudgedTerm}
+use Rattle.ownership.specs.declared.terms.JudgedTerm.{JudgedTerm}
 use Rattle.ownership.specs.RowUses.{namesOf}
 use Rattle.ownership.specs.JudgeRows.{rowPlace, atRow, ended, judgedAt, judgeAt, judgeLeaf}
 use Rattle.ownership.proofs.TreeNames.{row-below}

@@ -9,8 +9,10 @@ use mathlib.Core.List.{List}
 use lib.Dec.{leb}
 use borrow.Author.Tests.{le-leb, lt-leb}
 use Rattle.reader.specs.Result.{pick}
+use Rattle.rules.specs.declared.roots.Roots.{Roots}
 use Rattle.rules.specs.Environment.{Variable, live, Ty}
 use Rattle.rules.specs.Neat.{Neat}
+use Rattle.rules.specs.Masks.{has}
 use Rattle.rules.specs.Table.{entryWord, rootsAt, variableAt, environmentOf, Around, TableFor}
 use Rattle.rules.proofs.EntryLaws.{status-live, live-status}
 use Rattle.rules.proofs.NeatSteps.{Fine}
@@ -40,8 +42,8 @@ module _ (nv level : ℕ) (env₀ env : List ℕ) (T : TableFor env₀ nv) (N : 
             let s = live-status env₀ y (k .0) (k .1) .0 in
             absurd (omega arith)
 
-  pub scope-around : Around env (rootsAt env₀ (suc nv)) level
-  scope-around y = T .2 .scope y ∙ go (decLt (entryWord env₀ y 0) 2)
+  pub scope-around : (before : Roots) → before ≡ rootsAt env₀ (suc nv) → Around env before level
+  scope-around before e y = ap (λ (s : Roots). has s y) e ∙ T .2 .scope y ∙ go (decLt (entryWord env₀ y 0) 2)
     where
       go : Dec (entryWord env₀ y 0 < 2) → leb 2 (entryWord env₀ y 0) ≡ pick (leb 2 (entryWord env y 0)) (leb (entryWord env y 5) level) false
       go (yes h) = new y h (decLt (entryWord env y 0) 2)

@@ -14,7 +14,7 @@ use Rattle.rules.specs.Environment.{Environment}
 use Rattle.rules.specs.Uses.{Unfinished, finishing}
 use Rattle.rules.specs.Judge.{judge, nothingTaken, judgeScript}
 use Rattle.rules.specs.Verdicts.{asRequirement, judgeAnswer, asValue, verdictOf}
-use Rattle.ownership.specs.declared.judge.JudgedTerm.{JudgedTerm}
+use Rattle.ownership.specs.declared.terms.JudgedTerm.{JudgedTerm}
 use Rattle.ownership.specs.RowUses.{UsesFor, laterAt}
 use Rattle.ownership.specs.JudgeRows.{ended, judgedAt, judgeAt, restAt, NothingAfter, scriptAt}
 use Rattle.rules.proofs.SameLater.{SameLater, judged-alike}

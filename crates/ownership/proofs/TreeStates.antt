@@ -7,7 +7,7 @@ use Rattle.reader.specs.Script.{Term}
 use Rattle.reader.specs.RowTrees.{RowTree, IsTree, treeAt}
 use Rattle.rules.specs.declared.verdicts.Value.{Value}
 use Rattle.rules.specs.declared.verdicts.Verdict.the-variants as verdict
-use Rattle.ownership.specs.declared.judge.JudgedTerm.{JudgedTerm}
+use Rattle.ownership.specs.declared.terms.JudgedTerm.{JudgedTerm}
 use Rattle.rules.specs.Environment.{Environment}
 use Rattle.rules.specs.Uses.{Unfinished, finishing}
 use Rattle.rules.specs.Judge.{judge}

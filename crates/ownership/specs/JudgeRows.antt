@@ -23,7 +23,7 @@ use Rattle.rules.specs.Neat.{Neat, NeatValue}
 use Rattle.rules.specs.Met.{judgeBranch}
 use Rattle.rules.specs.Table.{environmentOf}
 use Rattle.rules.specs.Verdicts.{verdictOf, beginLet, asValue, answered}
-use Rattle.ownership.specs.declared.judge.JudgedTerm.{JudgedTerm}
+use Rattle.ownership.specs.declared.terms.JudgedTerm.{JudgedTerm}
 use Rattle.ownership.specs.RowUses.{rowNames}
 
 -- The place in fields k and k + 1 of row i, as the code has it.

@@ -15,18 +15,11 @@
 --   beyond-shared: the place recorded to which the borrowed one leads in the end;
 --   every-place, every-holder: one of several places recorded, or those of one of several variables;
 --   named-barred, recorded-held: 34 judged of the recorded root, in place of the named one or besides.
--- Of last uses (3.32 to 3.34):
---   ended, used-again: every holder in scope in use, or none;
---   held-in-turn, each-other: a holder that is held itself not in use, or a circle of holders in use;
---   acting: the names of the judged term itself not counted;
---   right-side, inside-assign: an assign judged before the uses in its right side, or the right side without the assign around it;
---   second-branch, first-branch: the branches of a choice in the order of one run only;
---   chosen: the place of a choice not named inside its branches;
---   scope-ends: how long variables live taken from their last use.
+-- Those about last uses are in LastUseScripts.
 use Prim.Native.Nat.{ℕ}
 use mathlib.Core.Path.{_≡_, refl}
 use Rattle.reader.specs.Result.{ok, err, need, _>>=_}
-use Rattle.reader.specs.Script.{Place, Term, Terms, number, reading, copy, move, borrowShared, borrowExclusive, box, declare, assign, block, choice, sum, last, more}
+use Rattle.reader.specs.Script.{Place, Term, Terms, number, reading, copy, move, borrowShared, borrowExclusive, box, declare, assign, block, choice, last, more}
 use Rattle.rules.specs.Links
 use Rattle.rules.specs.Places
 use Rattle.rules.specs.Environment
@@ -142,57 +135,6 @@ recorded-held =
     (more (choice 13 (v 0 0) 14 (more (assign 15 (v 4 0) (borrowShared 16 (v 1 0))) (last (number 17 1))) 18 (more (assign 19 (v 5 0) (borrowExclusive 20 (v 1 0))) (last (number 21 1))))
     (more (borrowShared 22 (v 4 1)) (last (copy 23 (v 5 1))))))))
 
--- `let v1=&mut v0; ..`, after `let v0=1`.
-abbrev after-borrow : Terms → Term
-after-borrow ts = after-one (more (declare 3 1 (borrowExclusive 4 (v 0 0))) ts)
-
--- E2 (LANGUAGE 8.4), `copy v0`: v1 is named no more. And with `copy *v1` after it.
-abbrev ended : Term
-ended = after-borrow (last (copy 5 (v 0 0)))
-
-abbrev used-again : Term
-used-again = after-borrow (more (copy 5 (v 0 0)) (last (copy 6 (v 1 1))))
-
--- `let v2=&mut v1; copy v0; copy **v2`: v1 is named no more, but v2 is, and holds it.
-abbrev held-in-turn : Term
-held-in-turn = after-borrow (more (declare 5 2 (borrowExclusive 6 (v 1 0))) (more (copy 7 (v 0 0)) (last (copy 8 (v 2 2)))))
-
--- `let v3=&mut v1; let v4=&mut v2; choice v0 {v3=&mut *v4; 1} {v4=&mut *v3; 1}; copy v1`: v3 and v4 hold each other, and nobody names them.
-abbrev each-other : Term
-each-other =
-    after-two (more (declare 7 3 (borrowExclusive 8 (v 1 0))) (more (declare 9 4 (borrowExclusive 10 (v 2 0)))
-    (more (choice 11 (v 0 0) 12 (more (assign 13 (v 3 0) (borrowExclusive 14 (v 4 1))) (last (number 15 1))) 16 (more (assign 17 (v 4 0) (borrowExclusive 18 (v 3 1))) (last (number 19 1))))
-    (last (copy 20 (v 1 0))))))
-
--- `sum v0, *v1`: the sum itself names v1.
-abbrev acting : Term
-acting = after-borrow (last (sum 5 (v 0 0) (v 1 1)))
-
--- `v0=copy *v1; 0`: the right side, which names v1 last, has finished when the assign is judged.
-abbrev right-side : Term
-right-side = after-borrow (more (assign 5 (v 0 0) (copy 6 (v 1 1))) (last (number 7 0)))
-
--- `*v1=copy v0; 0`: the assign around the copy names v1, and has not finished.
-abbrev inside-assign : Term
-inside-assign = after-borrow (more (assign 5 (v 1 1) (copy 6 (v 0 0))) (last (number 7 0)))
-
--- `let v3=&mut v1; choice v0 {copy v1} {copy *v3}`: the second branch finishes after the first. With the branches the other way round v3 is named no more.
-abbrev second-branch : Term
-second-branch = after-two (more (declare 7 3 (borrowExclusive 8 (v 1 0))) (last (choice 9 (v 0 0) 10 (last (copy 11 (v 1 0))) 12 (last (copy 13 (v 3 1))))))
-
-abbrev first-branch : Term
-first-branch = after-two (more (declare 7 3 (borrowExclusive 8 (v 1 0))) (last (choice 9 (v 0 0) 10 (last (copy 11 (v 3 1))) 12 (last (copy 13 (v 1 0))))))
-
--- `choice *v1 {copy v0} {0}`: the choice finishes after its branches.
-abbrev chosen : Term
-chosen = after-borrow (last (choice 5 (v 1 1) 6 (last (copy 7 (v 0 0))) 8 (last (number 9 0))))
-
--- `let v1=&v0; {let v2=3; v1=&v2; 0}; 0`: v1 is named no more, but outlives v2.
-abbrev scope-ends : Term
-scope-ends =
-    after-one (more (declare 3 1 (borrowShared 4 (v 0 0)))
-    (more (block 5 (more (declare 6 2 (number 7 3)) (more (assign 8 (v 1 0) (borrowShared 9 (v 2 0))) (last (number 10 0))))) (last (number 11 0))))
-
 -- With seven variables; under every larger set it is the same (LANGUAGE 7.7).
 pub scripts-judged :
     (judgeScript 7 moving ≡ err (33, 4))
@@ -213,17 +155,6 @@ pub scripts-judged :
     × (judgeScript 7 (every-holder 2) ≡ err (35, 22))
     × (judgeScript 7 named-barred ≡ err (34, 7))
     × (judgeScript 7 recorded-held ≡ ok tt)
-    × (judgeScript 7 ended ≡ ok tt)
-    × (judgeScript 7 used-again ≡ err (34, 5))
-    × (judgeScript 7 held-in-turn ≡ err (34, 7))
-    × (judgeScript 7 each-other ≡ ok tt)
-    × (judgeScript 7 acting ≡ err (34, 5))
-    × (judgeScript 7 right-side ≡ ok tt)
-    × (judgeScript 7 inside-assign ≡ err (34, 6))
-    × (judgeScript 7 second-branch ≡ err (34, 11))
-    × (judgeScript 7 first-branch ≡ ok tt)
-    × (judgeScript 7 chosen ≡ err (34, 7))
-    × (judgeScript 7 scope-ends ≡ err (40, 8))
 unfolding
     judgeScript judge need _>>=_
     Links.leadingBoxes Links.maxLinks Links.noShared Links.lastSharedWith Links.lastShared Links.isNumber Links.copies Links.sameLink Links.sameLinks
@@ -233,5 +164,5 @@ unfolding
     Measures.size Uses.finishing Uses.names Uses.namedLater
     Bars.borrowsAny Bars.borrowsExclusive Bars.heldBy Bars.held Bars.spread Bars.inUse
     Choice.carried Choice.earlier Choice.joined Choice.agreeing
-    Rules.inScope Rules.reached Rules.valued Rules.judgePlace Rules.judgeReadable Rules.judgeCopy Rules.judgeMove Rules.recordedPlaces Rules.judgeShared Rules.judgeExclusive Rules.judgeBox Rules.judgeLet Rules.judgeWrite Rules.judgeAssign Rules.judgeNumber Rules.judgeBelow Rules.judgeBlockEnd Rules.judgeChoice
-scripts-judged = (refl, refl, refl, refl, refl, refl, refl, refl, refl, refl, refl, refl, refl, refl, refl, refl, refl, refl, refl, refl, refl, refl, refl, refl, refl, refl, refl, refl, refl)
+    Rules.inScope Rules.reached Rules.valued Rules.judgePlace Rules.judgeReadable Rules.judgeCopy Rules.judgeMove Rules.recordedPlaces Rules.judgeShared Rules.judgeExclusive Rules.judgeBox Rules.judgeLet Rules.judgeWrite Rules.judgeAssign Rules.judgeNumber Rules.judgeBlockEnd Rules.judgeChoice
+scripts-judged = (refl, refl, refl, refl, refl, refl, refl, refl, refl, refl, refl, refl, refl, refl, refl, refl, refl, refl)

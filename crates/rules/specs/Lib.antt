@@ -10,6 +10,7 @@ pub mod Choice
 pub mod Rules
 pub mod Judge
 pub mod ErrorScripts
+pub mod LastUseScripts
 pub mod Neat
 pub mod Met
 pub mod Closure

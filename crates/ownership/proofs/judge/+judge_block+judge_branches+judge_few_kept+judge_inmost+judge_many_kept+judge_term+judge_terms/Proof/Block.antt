@@ -113,7 +113,7 @@ judge-block-judge-block-end-requires t c κs =
     let j = at-terms t (c .before) in
     let p = start t j .pre .1 in
     let inside = block-inside _ _ _ _ (p .0) _ (later t j) _ (same t j) _ (p .1) _ (at-count t j .index-at .ensures) _ _ _ (j .judge-terms .ensures .0) _ (fine t (c .before)) (p .3) in
-    (j .judge-terms .ensures .1, rw (j .before .before .before .in-scope .ensures) (scope-around _ _ _ _ (p .2) (p .3) _ inside))
+    (j .judge-terms .ensures .1, scope-around _ _ _ _ (p .2) (p .3) _ inside _ (j .before .before .before .in-scope .ensures))
 
 pub judge-block-judged-term-requires : (t : ℕ) → judge-block-lts.Need-judged-term-requires (judge-block-claims t) (judge-block-at t) judge-block.Post
 judge-block-judged-term-requires t c κs = search needs

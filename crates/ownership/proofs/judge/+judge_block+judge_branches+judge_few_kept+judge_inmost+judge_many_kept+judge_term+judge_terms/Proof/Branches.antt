@@ -16,7 +16,7 @@ use Rattle.rules.specs.Neat.{Neat}
 use Rattle.rules.specs.Table.{environmentOf}
 use Rattle.rules.specs.Kept.{KeepsAll, Stays}
 use Rattle.rules.specs.Verdicts.{verdictOf}
-use Rattle.ownership.specs.declared.judge.JudgedTerm.{JudgedTerm}
+use Rattle.ownership.specs.declared.terms.JudgedTerm.{JudgedTerm}
 use Rattle.ownership.specs.RowUses.{laterAt}
 use Rattle.ownership.specs.JudgeRows.{ended, judgeAt}
 use Rattle.ownership.proofs.LaterLaws.{Follows, tree-follows}

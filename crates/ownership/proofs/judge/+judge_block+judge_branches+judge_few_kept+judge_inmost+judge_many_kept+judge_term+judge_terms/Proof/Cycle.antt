@@ -45,10 +45,10 @@ use Rattle.rules.proofs.judge_either.Reads as judge-either-reads
 use Rattle.rules.proofs.keep.Reads as keep-reads
 use Rattle.rules.proofs.numbers_taken.Reads as numbers-taken-reads
 use Rattle.rules.proofs.in_scope.Reads as in-scope-reads
-use Rattle.ownership.proofs.judge.judge_after.Reads as judge-after-reads
-use Rattle.ownership.proofs.judge.judge_before.Reads as judge-before-reads
-use Rattle.ownership.proofs.judge.judge_leaf.Reads as judge-leaf-reads
-use Rattle.ownership.proofs.judge.judged_term.Reads as judged-term-reads
+use Rattle.ownership.proofs.terms.judge_after.Reads as judge-after-reads
+use Rattle.ownership.proofs.terms.judge_before.Reads as judge-before-reads
+use Rattle.ownership.proofs.terms.judge_leaf.Reads as judge-leaf-reads
+use Rattle.ownership.proofs.terms.judged_term.Reads as judged-term-reads
 use Rattle.rules.proofs.only.Reads as only-reads
 use Rattle.rules.proofs.unite.Reads as unite-reads
 use Rattle.ownership.proofs.row.place_at.Reads as place-at-reads

@@ -21,7 +21,7 @@ use Rattle.rules.specs.Rules.{judgeNumber}
 use Rattle.rules.specs.Masks.{has}
 use Rattle.rules.specs.Table.{environmentOf, asPlace}
 use Rattle.rules.specs.Verdicts.{NumberIs}
-use Rattle.ownership.specs.declared.judge.JudgedTerm.{JudgedTerm}
+use Rattle.ownership.specs.declared.terms.JudgedTerm.{JudgedTerm}
 use Rattle.ownership.specs.RowUses.{laterAt, laterIn, namedWith}
 use Rattle.ownership.specs.JudgeRows.{ended, judgeAt, branchesAt}
 use Rattle.rules.proofs.SameLater.{SameLater}

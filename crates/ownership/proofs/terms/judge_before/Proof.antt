@@ -1,11 +1,11 @@
--- `ownership::judge::judge_before` meets its contract. Assumes nothing.
+-- `ownership::terms::judge_before` meets its contract. Assumes nothing.
 use native.Mathlib.Omega.{arith}
 use borrow.Author.Tests.{eq-eqb, ne-eqb}
 use Rattle.rules.specs.Verdicts.{begun}
 use Rattle.ownership.specs.JudgeRows.{beginAt}
 use borrow.Author.Needs.{needs}
-use Rattle.ownership.proofs.judge.judge_before.Statement.{statement}
-use Rattle.ownership.proofs.judge.judge_before.Tie as tie
+use Rattle.ownership.proofs.terms.judge_before.Statement.{statement}
+use Rattle.ownership.proofs.terms.judge_before.Tie as tie
 
 field-at-requires : tie.Need-field-at-requires
 field-at-requires c κs = (c .before .before .pre .0 .room, omega arith)

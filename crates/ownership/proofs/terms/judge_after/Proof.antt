@@ -1,4 +1,4 @@
--- `ownership::judge::judge_after` meets its contract. Assumes nothing.
+-- `ownership::terms::judge_after` meets its contract. Assumes nothing.
 use Prim.Native.Nat.{ℕ, _-_}
 use native.Mathlib.Omega.{arith}
 use mathlib.Core.Path.{sym, _∙_}
@@ -10,8 +10,8 @@ use Rattle.ownership.specs.JudgeRows.{Wraps}
 use Rattle.ownership.proofs.LaterLaws.{after-later}
 use Rattle.ownership.proofs.JudgeLaws.{told-ended}
 use Rattle.ownership.proofs.AroundLaws.{after-refused, after-box, after-let, after-assign, last-wraps}
-use Rattle.ownership.proofs.judge.judge_after.Statement.{statement}
-use Rattle.ownership.proofs.judge.judge_after.Tie as tie
+use Rattle.ownership.proofs.terms.judge_after.Statement.{statement}
+use Rattle.ownership.proofs.terms.judge_after.Tie as tie
 
 -- What has not finished once the term has.
 abbrev later : tie.Start → ℕ → Unfinished

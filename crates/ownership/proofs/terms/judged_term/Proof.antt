@@ -1,11 +1,11 @@
--- `ownership::judge::judged_term` meets its contract. Assumes nothing.
+-- `ownership::terms::judged_term` meets its contract. Assumes nothing.
 use mathlib.Core.Path.{sym, _∙_}
 use borrow.Author.Needs.{needs}
 use Rattle.reader.specs.Result.{_>>=_}
 use Rattle.rules.specs.Verdicts.{answeredAs}
 use Rattle.ownership.specs.JudgeRows.{ended}
-use Rattle.ownership.proofs.judge.judged_term.Statement.{statement}
-use Rattle.ownership.proofs.judge.judged_term.Tie as tie
+use Rattle.ownership.proofs.terms.judged_term.Statement.{statement}
+use Rattle.ownership.proofs.terms.judged_term.Tie as tie
 
 verdict-of-requires : tie.Need-verdict-of-requires
 verdict-of-requires c κs = search needs

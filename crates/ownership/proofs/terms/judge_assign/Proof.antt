@@ -1,12 +1,12 @@
--- `ownership::judge::judge_assign` meets its contract. Assumes nothing.
+-- `ownership::terms::judge_assign` meets its contract. Assumes nothing.
 use Prim.Native.Nat.{_-_}
 use native.Mathlib.Omega.{arith}
 use mathlib.Core.Path.{sym, ap, _∙_}
 use borrow.Author.Needs.{needs}
 use Rattle.rules.specs.declared.table.Place.{Place}
 use Rattle.ownership.proofs.WrittenLaws.{assign-refused, assign-fine}
-use Rattle.ownership.proofs.judge.judge_assign.Statement.{statement}
-use Rattle.ownership.proofs.judge.judge_assign.Tie as tie
+use Rattle.ownership.proofs.terms.judge_assign.Statement.{statement}
+use Rattle.ownership.proofs.terms.judge_assign.Tie as tie
 
 place-at-requires : tie.Need-place-at-requires
 place-at-requires c κs =

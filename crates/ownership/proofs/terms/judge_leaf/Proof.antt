@@ -1,4 +1,4 @@
--- `ownership::judge::judge_leaf` meets its contract. Assumes nothing.
+-- `ownership::terms::judge_leaf` meets its contract. Assumes nothing.
 use native.Mathlib.Omega.{arith}
 use mathlib.Core.Path.{sym, _∙_}
 use mathlib.Core.Logic.{inl, inr, ⊎-elim}
@@ -6,9 +6,10 @@ use borrow.Author.Needs.{needs}
 use Rattle.reader.specs.Kinds.{newest, kindOf, among, kinds, byteOf}
 use Rattle.ownership.specs.JudgeRows.{judgeLeaf}
 use Rattle.ownership.proofs.FoundUses.{one-in, two-in}
+use Rattle.ownership.proofs.BarredLaws.{read-at-root}
 use Rattle.ownership.proofs.LeafLaws.{leaf-number}
-use Rattle.ownership.proofs.judge.judge_leaf.Statement.{statement}
-use Rattle.ownership.proofs.judge.judge_leaf.Tie as tie
+use Rattle.ownership.proofs.terms.judge_leaf.Statement.{statement}
+use Rattle.ownership.proofs.terms.judge_leaf.Tie as tie
 
 index-of-requires : tie.Need-index-of-requires
 index-of-requires c κs = search needs
@@ -114,7 +115,7 @@ returns-5 c =
       λ ns later.
           let one = c .before .before .before .before .before .read-barred3 .ensures ns later in
           let other = c .before .before .read-barred4 .ensures ns later in
-          let judged = c .judge-below .ensures _ ns (rw (← c .before .before .before .before .before .before .before .before .index-of .ensures) one) (rw (← c .before .before .before .before .index-of2 .ensures) other) in
+          let judged = c .judge-below .ensures _ ns (read-at-root _ ns _ (c .before .before .before .before .before .before .before .before .index-of .ensures) one) (read-at-root _ ns _ (c .before .before .before .before .index-of2 .ensures) other) in
           ⊎-elim (λ k. rw k judged) (λ k. rw k judged) (c .before .before .before .before .before .before .before .match .keys5),
       start .pre .0 .0,
     )
