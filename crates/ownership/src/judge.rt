@@ -13,7 +13,7 @@ ghost use Rattle.rules.specs.Judge.{nothingTaken};
 ghost use Rattle.rules.specs.Masks.{has};
 ghost use Rattle.rules.specs.Neat.{Neat};
 ghost use Rattle.rules.specs.Table.{TableFor, environmentOf, noteAt};
-ghost use Rattle.rules.specs.Verdicts.{asRequirement, begun};
+ghost use Rattle.rules.specs.Verdicts.{asRequirement};
 ghost use Rattle.ownership.specs.RowUses.{UsesFor, laterAt, laterIn};
 ghost use Rattle.ownership.specs.JudgeRows.{ended, judgeAt, AllWrap, restAt, branchesAt, NothingAfter, scriptAt};
 use crate::row::place_at;

@@ -8,7 +8,7 @@ ghost use Rattle.ownership.specs.Answers.{toldChecked, checkOf};
 
 mod row; // row.rt: the places in a term row
 mod uses; // uses.rt: the last uses of the variables, and what is barred
-mod terms; // terms.rt: what is judged of one term beside those in it
+mod terms; // terms.rt: what is judged of one term apart from those in it
 mod judge; // judge.rt: terms, blocks and the whole script
 mod tables; // tables.rt: the tables of the variables, in two sizes
 

@@ -1,6 +1,6 @@
-// The table of the variables in which a script is judged, and that of their last uses, all 0 at first. There are two sizes, so that a set of no more
-// variables than the language's (LANGUAGE 2.8) does not pay for clearing the largest tables. The parts that are lent
-// are what the set's number of variables takes.
+// The table of the variables in which a script is judged, and that of their last uses, all 0 at first. There are two
+// sizes, so that a set of no more variables than the language's (LANGUAGE 2.8) does not pay for clearing the largest
+// tables. The parts that are lent are what the set's number of variables takes.
 ghost use mathlib.Core.Path.{_≡_};
 ghost use Prim.Native.Nat.{_<_, _≤_};
 ghost use Rattle.reader.specs.RowTrees.{treeAt};
@@ -27,7 +27,7 @@ const MANY: usize = limits::MOST_VARIABLES as usize;
 
 const LARGER: usize = MANY * ENTRY + NOTES;
 
-// The script (LANGUAGE 3.29) in the smaller table.
+// The script (LANGUAGE 3.29) with the smaller tables.
 fn judge_few(rows: &[u32], levels: usize, variables: usize, terms: usize) -> Requirement
     requires { ⌜ EndsAt (treeAt variables levels (now rows) 0) terms × NamesBelow variables (now rows) terms × (terms < 4294967295) × (variables ≤ 64) × (levels < 4294967296) ⌝ }
     ensures { λ r. ⌜ asRequirement r ≡ scriptAt variables (treeAt variables levels (now (rows .entry)) 0) ⌝ }
@@ -45,7 +45,7 @@ fn judge_few(rows: &[u32], levels: usize, variables: usize, terms: usize) -> Req
     )
 }
 
-// The script (LANGUAGE 3.29) in the larger table.
+// The script (LANGUAGE 3.29) with the larger tables.
 fn judge_many(rows: &[u32], levels: usize, variables: usize, terms: usize) -> Requirement
     requires { ⌜ EndsAt (treeAt variables levels (now rows) 0) terms × NamesBelow variables (now rows) terms × (terms < 4294967295) × (variables ≤ 128) × (levels < 4294967296) ⌝ }
     ensures { λ r. ⌜ asRequirement r ≡ scriptAt variables (treeAt variables levels (now (rows .entry)) 0) ⌝ }

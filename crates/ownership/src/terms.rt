@@ -1,6 +1,6 @@
-// What judging a term says (LANGUAGE 3.1), and what is judged of one term beside the terms in it: a term with no inner
-// term, and a box, let or assign before and after its inner term. Rows from `start` to that of the term stand around one
-// another; what they name has not finished, nor has what names the set `named` (3.33).
+// What judging a term says (LANGUAGE 3.1), and what is judged of one term apart from the terms in it: a term with no
+// inner term, and a box, let or assign before and after its inner term. The terms from row `start` to that of the term
+// stand around one another. They have not finished, nor have terms around these, which name the set `named` (3.34).
 ghost use mathlib.Core.Path.{_≡_};
 ghost use mathlib.Core.Bool.{true};
 ghost use mathlib.Core.List.{List};
@@ -40,7 +40,6 @@ use rules::judge_shared;
 use rules::judge_write;
 use rules::judge_written;
 use rules::number_value;
-use rules::refused;
 use rules::verdict_of;
 
 // What judging told, and the row after the term; after a refusal, the term that is refused (LANGUAGE 3.17).
@@ -66,8 +65,7 @@ pub fn judged_term(i: usize, next: usize, told: Told) -> JudgedTerm
     }
 }
 
-// The terms that have no inner term: the rule of each kind (LANGUAGE 3.18 to 3.22, 3.27). Rows from `start` to i stand
-// around the term at row i.
+// The terms that have no inner term: the rule of each kind (LANGUAGE 3.18 to 3.22, 3.27).
 pub fn judge_leaf(
     rows: &[u32],
     start: usize,
@@ -136,8 +134,8 @@ pub fn judge_before(rows: &[u32], i: usize, env: &mut [u64], variables: usize) -
     begin_let(env, variables, i, x)
 }
 
-// The rest of the rule of the assign at row i (LANGUAGE 3.25), after its right side, which ends before row `next`. Rows
-// from `start` to i stand around it.
+// The rest of the rule of the assign at row i (LANGUAGE 3.25), after its right side, which ends before row
+// `next`.
 fn judge_assign(
     rows: &[u32],
     start: usize,
@@ -173,8 +171,8 @@ fn judge_assign(
     judge_written(barred)
 }
 
-// What follows it: the rest of the rule (LANGUAGE 3.23 to 3.25). An inner term's refusal is the script's (3.17). Rows from
-// `start` to i stand around it.
+// What follows the inner term of a box, let or assign: the rest of the rule (LANGUAGE 3.23 to 3.25). An inner term's
+// refusal is the script's (3.17).
 pub fn judge_after(
     rows: &[u32],
     start: usize,

@@ -2,8 +2,7 @@
 // row from the present one on, or around it: so for each variable the last row that names it is enough, and a set of
 // what the terms around name, which is handed down.
 ghost use mathlib.Core.Path.{_≡_};
-ghost use mathlib.Core.Bool.{false};
-ghost use Prim.Native.Nat.{ℕ, _<_, _≤_, _+_};
+ghost use Prim.Native.Nat.{ℕ, _<_, _≤_};
 ghost use lib.ListN.{length, getD};
 ghost use Rattle.rules.specs.Uses.{Unfinished};
 ghost use Rattle.rules.specs.Bars.{readBarred, writeBarred};
@@ -55,8 +54,8 @@ pub fn find_uses(rows: &[u32], terms: usize, uses: &mut [u32])
     }
 }
 
-// The set, and what count terms name that stand around one another from row `start` on (LANGUAGE 3.33): a let and an assign name
-// a variable, a box none.
+// The set, and what count terms name that stand around one another from row `start` on (LANGUAGE 3.33): a let and an
+// assign name a variable, a box none.
 pub fn with_named(rows: &[u32], start: usize, count: usize, variables: usize, named: Roots) -> Roots
     requires { ⌜ AllWrap variables (now rows) start count × (variables ≤ 128) ⌝ }
     ensures { λ r. ⌜ ((x : ℕ) → has r x ≡ namedWith (now (rows .entry)) start count (has named) x) ⌝ }

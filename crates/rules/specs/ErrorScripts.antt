@@ -124,11 +124,11 @@ every-holder x =
     (more (declare 17 6 (borrowShared 18 (v 5 2)))
     (more (move 19 (v 5 0)) (more (move 20 (v 3 0)) (more (move 21 (v 4 0)) (more (assign 22 (v x 0) (number 23 7)) (last (copy 24 (v 6 1)))))))))))
 
--- `let v1=&v0; let v2=&mut v1; &*v1; copy **v2`: v2 holds the named root v1 exclusively; nobody holds v0 so, which would be recorded.
+-- `let v1=&v0; let v2=&mut v1; &*v1; copy **v2`: v2 holds the named root v1 exclusively; no variable holds v0 so, which would be recorded.
 abbrev named-barred : Term
 named-barred = after-one (more (declare 3 1 (borrowShared 4 (v 0 0))) (more (declare 5 2 (borrowExclusive 6 (v 1 0))) (more (borrowShared 7 (v 1 1)) (last (copy 8 (v 2 2))))))
 
--- `let v3=3; let v4=&v2; let v5=&mut v3; choice v0 {v4=&v1; 1} {v5=&mut v1; 1}; &*v4; copy *v5`: v5 may hold v1 exclusively, which is recorded, and nobody the named root v4.
+-- `let v3=3; let v4=&v2; let v5=&mut v3; choice v0 {v4=&v1; 1} {v5=&mut v1; 1}; &*v4; copy *v5`: v5 may hold v1 exclusively, which is recorded, and no variable holds the named root v4.
 abbrev recorded-held : Term
 recorded-held =
     after-two (more (declare 7 3 (number 8 3)) (more (declare 9 4 (borrowShared 10 (v 2 0))) (more (declare 11 5 (borrowExclusive 12 (v 3 0)))

@@ -46,8 +46,8 @@ unfoldable pub namedLater : Unfinished → ℕ → Bool
 namedLater [] x = false
 namedLater (xs ∷ ns) x = elim (names xs x) [ true ↦ true | false ↦ namedLater ns x ]
 
--- The last of the terms that names the variable, counted from 1 in the order in which they finish; 0 where none does (LANGUAGE 3.33). That one
--- which has not finished names it is that this one has not: proofs/LastUse.
+-- The last of the terms that names the variable, counted from 1 in the order in which they finish; 0 where none does (LANGUAGE 3.33). A
+-- variable is named later exactly while this term has not finished: proofs/LastUse.
 unfoldable pub lastNaming : Unfinished → ℕ → ℕ
 lastNaming [] x = 0
 lastNaming (xs ∷ ns) x = elim (lastNaming ns x) [ zero ↦ pick (names xs x) 1 0 | suc k ↦ suc (suc k) ]

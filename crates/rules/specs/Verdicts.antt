@@ -111,7 +111,7 @@ abbrev pub ReadableIs : (nv : ℕ) → Unfinished → Environment → ℕ → sc
 ReadableIs nv ns Γ i p (readable.Rest rest) = Read nv ns Γ i p rest
 ReadableIs nv ns Γ i p (readable.Refused n) = rules.judgeReadable nv ns Γ i p ≡ err (n, i)
 
--- What such an answer says whether or not it was told rightly of bars: the place is named, and its value whole.
+-- What such an answer says whatever `barred` was: the place is named, and its value whole.
 abbrev pub WholeIs : (nv : ℕ) → Environment → script.Place → Readable → Type 0
 WholeIs nv Γ p (readable.Rest rest) = (named : Named Γ p rest) × (valueWhole nv Γ (p .root) (named .variable) ≡ true)
 WholeIs nv Γ p (readable.Refused n) = Unit {0}

@@ -1,6 +1,5 @@
-// What the borrows that are held bar (LANGUAGE 3.10 to 3.12, 3.34): the note of the root tells who may hold one. Who of
-// them is in use is asked only where there is one: a holder that is named later, or that is held, by one or by several
-// in a row, by a variable that is.
+// What the borrows that are held bar (LANGUAGE 3.10 to 3.12, 3.34): the note of the root tells who may hold one. Where
+// there is one, it is asked whether it is in use: a term that has not finished names it, or a variable in use holds it.
 ghost use mathlib.Core.Path.{_≡_};
 ghost use mathlib.Core.Bool.{true, false};
 ghost use Prim.Native.Nat.{ℕ, _<_};
@@ -28,8 +27,8 @@ use crate::table::holders_at;
 use crate::table::load;
 use crate::table::roots_at;
 
-// The terms that have not finished (LANGUAGE 3.32): those at rows from one on, and the terms around them, which name
-// these variables.
+// The terms that have not finished (LANGUAGE 3.34): those at row `from` and after it, and terms around them, which name
+// the variables `named`.
 pub struct Later {
     pub from: usize,
     pub named: Roots,
@@ -90,7 +89,8 @@ fn holders_among(env: &[u64], variables: usize, root: usize, any: bool, may: Roo
 }
 
 // A variable in use (LANGUAGE 3.34) holds a borrow of a place with the root; any, or an exclusive one. The search goes
-// from holders to those that hold them, and looks at each variable once at most.
+// from holders to those that hold them: it takes up each variable once at most, and tests for it those not met yet that
+// may hold it.
 pub fn is_held(
     env: &[u64],
     variables: usize,
