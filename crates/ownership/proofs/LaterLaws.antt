@@ -15,7 +15,8 @@ use Rattle.reader.specs.RowTrees.{RowTree, severalAt, treeAt}
 use Rattle.rules.specs.Uses.{Unfinished, finishing, finishingAll, names, namedLater}
 use Rattle.rules.specs.Verdicts.{LaterIs}
 use Rattle.ownership.specs.RowUses.{rowNames, namings, UsesFor, laterAt, laterIn, namedWith}
-use Rattle.rules.proofs.SameLater.{SameLater, named-either, same-append}
+use Rattle.rules.proofs.Finishing.{named-either}
+use Rattle.rules.proofs.SameLater.{SameLater, same-append}
 use Rattle.ownership.proofs.RowUseLaws.{named-later-at, named-in, used-from}
 use Rattle.ownership.proofs.TreeNames.{tree-names, several-names}
 

@@ -21,7 +21,7 @@ use Rattle.reader.proofs.RowTreeLaws.{only-if, around-inner}
 use Rattle.reader.proofs.ChoiceRows.{BlockRows, block-rows}
 use Rattle.rules.specs.Uses.{Unfinished, naming, finishing, finishingAll, names, namedLater}
 use Rattle.ownership.specs.RowUses.{namesOf, rowNames, namings}
-use Rattle.rules.proofs.SameLater.{named-either}
+use Rattle.rules.proofs.Finishing.{named-either}
 
 -- ---- rows one after the other
 

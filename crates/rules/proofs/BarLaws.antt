@@ -23,28 +23,28 @@ use Rattle.rules.proofs.SearchLaws.{Search, search-begins, search-round
 -- ---- those of a set that hold
 
 -- Of those that may hold, the ones that are still to be looked at, or that do.
-pub record Sifted (env : List ℕ) (any : Bool) (root : ℕ) (may left kept : Roots) : Type 0 where
+pub record Filtered (env : List ℕ) (any : Bool) (root : ℕ) (may left kept : Roots) : Type 0 where
   pub is : (y : ℕ) → has kept y ≡ pick (has may y) (pick (has left y) true (heldBy (borrowsBy any) (environmentOf env y) root)) false
 
 module _ (env : List ℕ) (any : Bool) (root : ℕ) (may : Roots) where
   abbrev holds : ℕ → Bool
   holds = λ y. heldBy (borrowsBy any) (environmentOf env y) root
 
-  pub sift-begins : Sifted env any root may may may
-  sift-begins = record { is = λ y. go (has may y) (holds y) }
+  pub filter-begins : Filtered env any root may may may
+  filter-begins = record { is = λ y. go (has may y) (holds y) }
     where
       go : (b h : Bool) → b ≡ pick b (pick b true h) false
       go true h = refl
       go false h = refl
 
-  module _ (left kept : Roots) (S : Sifted env any root may left kept) where
-    pub sift-over : ((y : ℕ) → has left y ≡ false) → (y : ℕ) → has kept y ≡ pick (has may y) (holds y) false
-    sift-over none y = S .is y ∙ ap (λ (b : Bool). pick (has may y) (pick b true (holds y)) false) (none y)
+  module _ (left kept : Roots) (S : Filtered env any root may left kept) where
+    pub filter-over : ((y : ℕ) → has left y ≡ false) → (y : ℕ) → has kept y ≡ pick (has may y) (holds y) false
+    filter-over none y = S .is y ∙ ap (λ (b : Bool). pick (has may y) (pick b true (holds y)) false) (none y)
 
     -- The variable x has been looked at: it is taken out if it does not hold.
-    pub sift-round : (left′ kept′ : Roots) (x : ℕ) (r : Bool) → r ≡ holds x → ((y : ℕ) → has left′ y ≡ pick (eqb x y) false (has left y))
-        → ((not r ≡ true) × ((y : ℕ) → has kept′ y ≡ pick (eqb x y) false (has kept y))) ⊎ ((not r ≡ false) × (kept′ ≡ kept)) → Sifted env any root may left′ kept′
-    sift-round left′ kept′ x r asked le ke = record { is = λ y. at y (eqb x y) refl ke ∙ ap (λ (b : Bool). pick (has may y) (pick b true (holds y)) false) (sym (le y)) }
+    pub filter-round : (left′ kept′ : Roots) (x : ℕ) (r : Bool) → r ≡ holds x → ((y : ℕ) → has left′ y ≡ pick (eqb x y) false (has left y))
+        → ((not r ≡ true) × ((y : ℕ) → has kept′ y ≡ pick (eqb x y) false (has kept y))) ⊎ ((not r ≡ false) × (kept′ ≡ kept)) → Filtered env any root may left′ kept′
+    filter-round left′ kept′ x r asked le ke = record { is = λ y. at y (eqb x y) refl ke ∙ ap (λ (b : Bool). pick (has may y) (pick b true (holds y)) false) (sym (le y)) }
       where
         out : (b h : Bool) → h ≡ false → false ≡ pick b h false
         out true h e = sym e
@@ -143,7 +143,7 @@ module _ (env : List ℕ) (n : ℕ) (T : TableFor env n) (any : Bool) (root : �
           let l = todo-low x h in
           sym (got x (met-bars x (S .search .meeting .inside x h)) .1 (in-use-named n ns (environmentOf env) x l (later x l ∙ sym asked ∙ e)))
 
-      -- Where nothing is left to do nobody that is met is in use: none is named, and who holds one that is met is met.
+      -- Where nothing is left to do no variable that is met is in use: none is named, and who holds one that is met is met.
       module _ (none : (y : ℕ) → has todo y ≡ false) where
         unmet : (x : ℕ) → in-use x ≡ true → has met x ≡ false
         unfolding borrowsBy
@@ -172,7 +172,7 @@ module _ (env : List ℕ) (n : ℕ) (T : TableFor env n) (any : Bool) (root : �
         (others-is : (y : ℕ) → has others y ≡ pick (has unmet y) (has scope y) false) (more-is : (y : ℕ) → has more y ≡ pick (has others y) (leads x y) false)
         (met-is : (y : ℕ) → has met′ y ≡ pick (has met y) true (has more y)) (less-is : (y : ℕ) → has todo₁ y ≡ pick (eqb x y) false (has todo y))
         (todo-is : (y : ℕ) → has todo′ y ≡ pick (has todo₁ y) true (has more y)) where
-      -- Nobody outside the note of x, or not in scope, holds it.
+      -- No variable outside the note of x, or not in scope, holds it.
       all-more : (y : ℕ) → has more y ≡ pick (has met y) false (leads x y)
       all-more y =
           more-is y

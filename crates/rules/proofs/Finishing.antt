@@ -1,13 +1,14 @@
--- The terms that have not finished: those of a term come first, and then as many as it has are gone.
+-- The terms that have not finished: those in a term and itself come first; once it has finished, the rest is left.
 use Prim.Native.Nat.{ℕ, suc}
 use native.Mathlib.Omega.{arith}
-use mathlib.Core.Path.{_≡_, refl}
+use mathlib.Core.Path.{_≡_, refl, _∙_}
 use mathlib.Core.Bool.{Bool, true, false, false≢true}
 use mathlib.Core.List.{List, [], _∷_, _++_}
 use lib.Dec.{eqb}
 use lib.ListN.{length, drop, length-append}
 use lib.Seq.{drop-append-seam}
 use borrow.Author.Tests.{eq-eqb}
+use Rattle.reader.specs.Result.{pick}
 use Rattle.reader.specs.Script.{Term, number, reading, copy, move, borrowShared, borrowExclusive, box, declare, assign, below, block, choice, sum, Terms, last, more}
 use Rattle.reader.specs.Measures.{size, sizes}
 use Rattle.rules.specs.Uses.{Unfinished, naming, finishing, finishingAll, names, namedLater}
@@ -15,7 +16,7 @@ use Rattle.rules.specs.Uses.{Unfinished, naming, finishing, finishingAll
 mutual
   unfolding finishing size
 
-  pub finishing-size : (t : Term) → length (finishing t) ≡ size t
+  finishing-size : (t : Term) → length (finishing t) ≡ size t
   finishing-size (number i n) = refl
   finishing-size (reading i n) = refl
   finishing-size (copy i p) = refl
@@ -37,7 +38,7 @@ mutual
       omega arith
   finishing-size (sum i p q) = refl
 
-  pub finishing-sizes : (ts : Terms) → length (finishingAll ts) ≡ sizes ts
+  finishing-sizes : (ts : Terms) → length (finishingAll ts) ≡ sizes ts
   finishing-sizes (last t) = finishing-size t
   finishing-sizes (more t ts) = let a = length-append (finishing t) (finishingAll ts) in let b = finishing-size t in let c = finishing-sizes ts in omega arith
 
@@ -77,15 +78,24 @@ named-next xs ys x ns = go (names (xs ++ (x ∷ ys)) x) (names-there xs ys x)
     go true h = refl
     go false h = absurd (false≢true h)
 
+-- Named by these or by those.
+pub named-either : (ms ns : Unfinished) (x : ℕ) → namedLater (ms ++ ns) x ≡ pick (namedLater ms x) true (namedLater ns x)
+unfolding namedLater
+named-either [] ns x = refl
+named-either (xs ∷ ms) ns x = go (names xs x) (named-either ms ns x)
+  where
+    go : (b : Bool) → namedLater (ms ++ ns) x ≡ pick (namedLater ms x) true (namedLater ns x)
+        → elim b [ true ↦ true | false ↦ namedLater (ms ++ ns) x ] ≡ pick (elim b [ true ↦ true | false ↦ namedLater ms x ]) true (namedLater ns x)
+    go true ih = refl
+    go false ih = ih
+
 -- Who is named later is named later from an earlier moment on.
 pub named-after : (ms ns : Unfinished) (x : ℕ) → namedLater ns x ≡ true → namedLater (ms ++ ns) x ≡ true
-unfolding namedLater
-named-after [] ns x h = h
-named-after (xs ∷ ms) ns x h = go (names xs x) (named-after ms ns x h)
+named-after ms ns x h = named-either ms ns x ∙ go (namedLater ms x)
   where
-    go : (b : Bool) → namedLater (ms ++ ns) x ≡ true → elim b [ true ↦ true | false ↦ namedLater (ms ++ ns) x ] ≡ true
-    go true k = refl
-    go false k = k
+    go : (b : Bool) → pick b true (namedLater ns x) ≡ true
+    go true = refl
+    go false = h
 
 pub named-before : (ms ns rest : Unfinished) → ns ≡ ms ++ rest → (x : ℕ) → namedLater rest x ≡ true → namedLater ns x ≡ true
 named-before ms ns rest e x h = rw e (named-after ms rest x h)

@@ -1,4 +1,4 @@
--- Who holds a borrow of a root: by the words of its entry, and by the note of the root, outside which nobody holds one. Assumes nothing.
+-- Who holds a borrow of a root: by the words of its entry, and by the note of the root, outside which no variable holds one. Assumes nothing.
 use Prim.Native.Nat.{ℕ, suc, _<_, _≤_}
 use mathlib.Core.Path.{_≡_, refl, sym, ap, ap₂, _∙_}
 use mathlib.Core.Bool.{Bool, true, false, false≢true}
@@ -15,27 +15,17 @@ use Rattle.rules.specs.declared.table.BorrowEnd.{BorrowEnd}
 use Rattle.rules.specs.declared.table.BorrowEnd.the-variants as end
 use Rattle.rules.specs.Links.{Link, boxed, shared, exclusive, leadingBoxes}
 use Rattle.rules.specs.Places.{someOf, rooted}
-use Rattle.rules.specs.Environment.{Borrow, noBorrow, sharedOf, exclusiveOf, places, borrowEnd, Variable, Slot, free, used, live, holding}
+use Rattle.rules.specs.Environment.{Borrow, noBorrow, sharedOf, exclusiveOf, places, borrowEnd, Variable, Slot, live, holding}
 use Rattle.rules.specs.Bars.{borrowsAny, borrowsExclusive, heldBy}
 use Rattle.rules.specs.Roots.{left}
 use Rattle.rules.specs.Chains.{chainOf, isExclusive}
 use Rattle.rules.specs.Masks.{has}
 use Rattle.rules.specs.Table.{entryWord, linksAt, longAt, rootsAt, holdersAt, placesIn, endIn, borrowEndOf, stateAt, entryAt, variableAt, environmentOf, TableFor, borrowsBy, MayHold}
+use Rattle.rules.proofs.InUse.{held-out}
 use Rattle.rules.proofs.EntryLaws.{NotLive, status-live, live-status, live-inside, slot-live, not-live}
 use Rattle.rules.proofs.EndLaws.{told-none, told-shared, told-exclusive, rooted-in-set, end-in-set}
 
 -- ---- one number
-
--- Who holds is in scope, its borrow link is not moved away, and its borrow end is such.
-held-out : (h : Borrow → ℕ → Bool) (sl : Slot) (x : ℕ) → heldBy h sl x ≡ true → (v : Variable) × (sl ≡ live v) × (h (v .borrow) x ≡ true)
-unfolding heldBy
-held-out h free x e = absurd (false≢true e)
-held-out h used x e = absurd (false≢true e)
-held-out h (live v) x e = go (holding v) e
-  where
-    go : (b : Bool) → pick b (h (v .borrow) x) false ≡ true → (u : Variable) × (live v ≡ live u) × (h (u .borrow) x ≡ true)
-    go true k = (v, refl, k)
-    go false k = absurd (false≢true k)
 
 -- A borrow of either sort is of a root of the places.
 borrows-rooted : (any : Bool) (b : Borrow) (x : ℕ) → borrowsBy any b x ≡ true → rooted (places b) x ≡ true

@@ -5,18 +5,23 @@ use native.Mathlib.Decide.{ℕ-discrete, decLe, decLt}
 use mathlib.Core.Path.{_≡_, refl, sym, ap, ap₂, _∙_, subst}
 use mathlib.Core.Logic.{_⊎_, inl, inr}
 use mathlib.Core.Bool.{Bool, true, false, false≢true, true≢false}
-use Rattle.rules.specs.Environment.{Borrow, Variable, Slot, free, used, live, Environment}
+use Rattle.reader.specs.Result.{pick}
+use Rattle.rules.specs.Environment.{Borrow, Variable, Slot, free, used, live, Environment, holding}
 use Rattle.rules.specs.Uses.{Unfinished, namedLater}
 use Rattle.rules.specs.Bars.{borrowsAny, heldBy, held, spread, inUse, InUse, named, held-by}
 use Rattle.rules.proofs.Answers.{same-bool}
 use Rattle.rules.proofs.Pigeon.{pigeon}
 
--- Who holds something is in scope.
-pub holder-live : (h : Borrow → ℕ → Bool) (sl : Slot) (x : ℕ) → heldBy h sl x ≡ true → (v : Variable) × (sl ≡ live v)
+-- Who holds is in scope, and its borrow is such.
+pub held-out : (h : Borrow → ℕ → Bool) (sl : Slot) (x : ℕ) → heldBy h sl x ≡ true → (v : Variable) × (sl ≡ live v) × (h (v .borrow) x ≡ true)
 unfolding heldBy
-holder-live h free x e = absurd (false≢true e)
-holder-live h used x e = absurd (false≢true e)
-holder-live h (live v) x e = (v, refl)
+held-out h free x e = absurd (false≢true e)
+held-out h used x e = absurd (false≢true e)
+held-out h (live v) x e = go (holding v) e
+  where
+    go : (b : Bool) → pick b (h (v .borrow) x) false ≡ true → (u : Variable) × (live v ≡ live u) × (h (u .borrow) x ≡ true)
+    go true k = (v, refl, k)
+    go false k = absurd (false≢true k)
 
 boolean : (b : Bool) → (b ≡ true) ⊎ (b ≡ false)
 boolean true = inl refl
@@ -101,7 +106,7 @@ module _ (b : ℕ → Bool) (nv : ℕ) (Γ : Environment) where
       go false q w = inr (held-some borrowsAny (λ y. spread b nv k Γ y) Γ x nv w)
 
   -- The least such set.
-  pub spread-least : (P : ℕ → Type 0) → ((x : ℕ) → b x ≡ true → P x) → ((y x : ℕ) → y < nv → Edge y x → P y → P x) → (k x : ℕ) → In k x → P x
+  spread-least : (P : ℕ → Type 0) → ((x : ℕ) → b x ≡ true → P x) → ((y x : ℕ) → y < nv → Edge y x → P y → P x) → (k x : ℕ) → In k x → P x
   unfolding spread
   spread-least P pb ps zero x e = absurd (false≢true e)
   spread-least P pb ps (suc k) x e = go (λ y. spread-least P pb ps k y) (came k x e)
@@ -119,29 +124,29 @@ module _ (b : ℕ → Bool) (nv : ℕ) (Γ : Environment) where
       go ih (inl q) = from-base (suc k) x q
       go ih (inr r) = from-step (suc k) (r .0) x (r .1) (r .2) (ih (r .0) (r .3))
 
-  pub some-more : (j k x : ℕ) → In k x → In (j + k) x
+  some-more : (j k x : ℕ) → In k x → In (j + k) x
   some-more zero k x e = subst (λ (m : ℕ). In m x) (omega arith) e
   some-more (suc j) k x e = subst (λ (m : ℕ). In m x) (omega arith) (one-more (j + k) x (some-more j k x e))
 
-  -- Numbers that come in one after another.
-  Ladder : ℕ → (ℕ → ℕ) → Type 0
-  Ladder k f = (i : ℕ) → i ≤ k → (f i < nv) × (In (suc i) (f i)) × (spread b nv i Γ (f i) ≡ false)
+  -- f i is reached in i + 1 steps and not in i.
+  NewAt : ℕ → (ℕ → ℕ) → Type 0
+  NewAt k f = (i : ℕ) → i ≤ k → (f i < nv) × (In (suc i) (f i)) × (spread b nv i Γ (f i) ≡ false)
 
-  ladder : (k x : ℕ) → x < nv → In (suc k) x → spread b nv k Γ x ≡ false → (f : ℕ → ℕ) × Ladder k f
-  unfolding Ladder
-  ladder zero x l e n = (λ i. x, λ i h. (l, subst (λ (m : ℕ). In (suc m) x) (omega arith) e, subst (λ (m : ℕ). spread b nv m Γ x ≡ false) (omega arith) n))
-  ladder (suc k) x l e n = go (λ y. ladder k y) (came (suc k) x e)
+  new-at : (k x : ℕ) → x < nv → In (suc k) x → spread b nv k Γ x ≡ false → (f : ℕ → ℕ) × NewAt k f
+  unfolding NewAt
+  new-at zero x l e n = (λ i. x, λ i h. (l, subst (λ (m : ℕ). In (suc m) x) (omega arith) e, subst (λ (m : ℕ). spread b nv m Γ x ≡ false) (omega arith) n))
+  new-at (suc k) x l e n = go (λ y. new-at k y) (came (suc k) x e)
     where
-      go : ((y : ℕ) → y < nv → In (suc k) y → spread b nv k Γ y ≡ false → (f : ℕ → ℕ) × Ladder k f)
-          → (b x ≡ true) ⊎ ((y : ℕ) × (y < nv) × (Edge y x) × (In (suc k) y)) → (f : ℕ → ℕ) × Ladder (suc k) f
+      go : ((y : ℕ) → y < nv → In (suc k) y → spread b nv k Γ y ≡ false → (f : ℕ → ℕ) × NewAt k f)
+          → (b x ≡ true) ⊎ ((y : ℕ) × (y < nv) × (Edge y x) × (In (suc k) y)) → (f : ℕ → ℕ) × NewAt (suc k) f
       go ih (inl q) = absurd (true≢false (sym (from-base k x q) ∙ n))
       go ih (inr r) = with-y (boolean (spread b nv k Γ (r .0)))
         where
-          with-y : (In k (r .0)) ⊎ (spread b nv k Γ (r .0) ≡ false) → (f : ℕ → ℕ) × Ladder (suc k) f
+          with-y : (In k (r .0)) ⊎ (spread b nv k Γ (r .0) ≡ false) → (f : ℕ → ℕ) × NewAt (suc k) f
           with-y (inl w) = absurd (true≢false (sym (from-step k (r .0) x (r .1) (r .2) w) ∙ n))
           with-y (inr w) = join (ih (r .0) (r .1) (r .3) w)
             where
-              join : (f : ℕ → ℕ) × Ladder k f → (f : ℕ → ℕ) × Ladder (suc k) f
+              join : (f : ℕ → ℕ) × NewAt k f → (f : ℕ → ℕ) × NewAt (suc k) f
               join F = (λ i. at i (decLe i k), λ i h. step i h (decLe i k))
                 where
                   at : (i : ℕ) → Dec (i ≤ k) → ℕ
@@ -153,16 +158,16 @@ module _ (b : ℕ → Bool) (nv : ℕ) (Γ : Environment) where
                   step i h (no q) = let z : i ≡ suc k = omega arith in (l, rw z e, rw z n)
 
   enough : (x : ℕ) → x < nv → In (suc nv) x → In nv x
-  unfolding Ladder
+  unfolding NewAt
   enough x l e = go (boolean (spread b nv nv Γ x))
     where
       go : (In nv x) ⊎ (spread b nv nv Γ x ≡ false) → In nv x
       go (inl q) = q
       go (inr q) =
-          let L = ladder nv x l e q in
+          let L = new-at nv x l e q in
           absurd (let z = pigeon nv (suc nv) (L .0) (λ i h. L .1 i (omega arith) .0) (inj (L .0) (L .1)) in omega arith)
         where
-          inj : (f : ℕ → ℕ) → Ladder nv f → (i j : ℕ) → i < suc nv → j < suc nv → f i ≡ f j → i ≡ j
+          inj : (f : ℕ → ℕ) → NewAt nv f → (i j : ℕ) → i < suc nv → j < suc nv → f i ≡ f j → i ≡ j
           inj f F i j hi hj q = order (decLt i j) (decLt j i)
             where
               not-below : (i j : ℕ) → i < j → i < suc nv → j < suc nv → f i ≡ f j → ⊥
@@ -185,7 +190,7 @@ module _ (nv : ℕ) (ns : Unfinished) (Γ : Environment) where
   unfolding inUse
   in-use-held y x l k e u = enough (λ y. namedLater ns y) nv Γ x k (from-step (λ y. namedLater ns y) nv Γ nv y x l e u)
 
-  -- Nothing is in use but for a reason: two that only hold each other are not (LANGUAGE 3.34).
+  -- The least such set: two that only hold each other are not in it (LANGUAGE 3.34).
   pub in-use-least : (P : ℕ → Type 0) → ((x : ℕ) → namedLater ns x ≡ true → P x)
       → ((y x : ℕ) → y < nv → heldBy borrowsAny (Γ y) x ≡ true → P y → P x) → (x : ℕ) → inUse nv ns Γ x ≡ true → P x
   unfolding inUse
@@ -197,7 +202,7 @@ module _ (nv : ℕ) (ns : Unfinished) (Γ : Environment) where
     where
       back : (x : ℕ) → x < nv → InUse ns Γ x → inUse nv ns Γ x ≡ true
       back x l (named e) = in-use-named x l e
-      back x l (held-by {y} e u) = let v = holder-live borrowsAny (Γ y) x e in let w = low y (v .0) (v .1) in in-use-held y x w l e (back y w u)
+      back x l (held-by {y} e u) = let v = held-out borrowsAny (Γ y) x e in let w = low y (v .0) (v .1) in in-use-held y x w l e (back y w u)
 
   -- The bound decides nothing: a greater one gives the same.
   pub in-use-bound : (k : ℕ) → nv ≤ k → (x : ℕ) → x < nv → spread (λ y. namedLater ns y) nv k Γ x ≡ inUse nv ns Γ x

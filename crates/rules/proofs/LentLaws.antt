@@ -61,7 +61,7 @@ module _ (env : List ℕ) (nv : ℕ) (T : NeatTable env nv) (i x follows : ℕ) 
         let F = found-own env nv T i (place x follows) named x refl follows refl e S h in
         record {
           to = place x follows ∷ [];
-          is = F .is ∙ ap (λ (v : Variable). ok (paths.located v (place x follows ∷ []))) (variable-is env nv T i (place x follows) (F .named));
+          is = F .is ∙ ap (λ (v : Variable). ok (paths.located v (place x follows ∷ []))) (variable-is env (place x follows) (F .named));
           borrowed = own-borrows env nv T i (place x follows) F
               ∙ ap (λ (l : List Link). places (endIn env l (rootsAt env x))) (sym (rest .1))
               ∙ linked-places ks (placesIn env ks (rootsAt env x)) (W .borrow)
@@ -97,17 +97,17 @@ module _ (env : List ℕ) (nv : ℕ) (T : NeatTable env nv) (i x follows : ℕ) 
 
 module _ (env : List ℕ) (nv : ℕ) (T : NeatTable env nv) (p : Place) {rest : ℕ} (F : Named (environmentOf env) p rest) (x : ℕ) (at : x ≡ p .root) where
   is-root : F .variable ≡ variableAt env x
-  is-root = variable-is env nv T 0 p F ∙ ap (variableAt env) (sym at)
+  is-root = variable-is env p F ∙ ap (variableAt env) (sym at)
 
   root-live : environmentOf env x ≡ live (variableAt env x)
-  root-live = named-live env nv T 0 p F x at
+  root-live = named-live env p F x at
 
   module _ (f : ℕ) (follows : f ≡ p .follows) where
     chain-on : drop f (chainOf (linksAt env x)) ≡ chainOf rest
-    chain-on = ap₂ (λ (k y : ℕ). drop k (chainOf (linksAt env y))) follows at ∙ on-chain env nv T 0 p F
+    chain-on = ap₂ (λ (k y : ℕ). drop k (chainOf (linksAt env y))) follows at ∙ on-chain env p F
 
     fits : f ≤ longAt env x
-    fits = search-fits env nv T 0 p F x at f follows
+    fits = search-fits env p F x at f follows
 
     module _ (whole : valueWhole nv (environmentOf env) (p .root) (F .variable) ≡ true) where
       root-whole : valueWhole nv (environmentOf env) x (variableAt env x) ≡ true

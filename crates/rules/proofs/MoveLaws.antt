@@ -17,17 +17,17 @@ use Rattle.rules.specs.Bars.{writeBarred}
 use Rattle.rules.specs.Rules.{Judged, Out, inScope, judgeMove}
 use Rattle.rules.specs.Chains.{chainOf}
 use Rattle.rules.specs.Table.{linksAt, rootsAt, endIn, environmentOf, SameLinks}
-use Rattle.rules.specs.Verdicts.{NeatTable, Named, typeOf}
+use Rattle.rules.specs.Verdicts.{Named, typeOf}
 use Rattle.rules.proofs.ValueLaws.{moved-out}
 use Rattle.rules.proofs.PlaceLaws.{variable-is, named-live, on-chain}
 
-module _ (env : List ℕ) (nv : ℕ) (T : NeatTable env nv) (p : Place) {rest : ℕ} (F : Named (environmentOf env) p rest) where
+module _ (env : List ℕ) (nv : ℕ) (p : Place) {rest : ℕ} (F : Named (environmentOf env) p rest) where
   abbrev chain : List Link
   chain = F .variable .chain
 
   pub boxes-is : (x : ℕ) → x ≡ p .root → (links boxes : ℕ) → links ≡ linksAt env x → boxes ≡ leadingBoxes (chainOf links) → boxes ≡ leadingBoxes chain
   boxes-is x at links boxes same count =
-      count ∙ ap (λ (l : ℕ). leadingBoxes (chainOf l)) (same ∙ ap (linksAt env) at) ∙ ap (λ (v : Variable). leadingBoxes (v .chain)) (sym (variable-is env nv T 0 p F))
+      count ∙ ap (λ (l : ℕ). leadingBoxes (chainOf l)) (same ∙ ap (linksAt env) at) ∙ ap (λ (v : Variable). leadingBoxes (v .chain)) (sym (variable-is env p F))
 
   pub move-passed : (ns : Unfinished) (i : ℕ) → leadingBoxes chain < p .follows → judgeMove nv ns (environmentOf env) i p ≡ err (38, i)
   unfolding judgeMove inScope need _>>=_
@@ -54,7 +54,7 @@ module _ (env : List ℕ) (nv : ℕ) (T : NeatTable env nv) (p : Place) {rest : 
       pub move-there : (env′ : List ℕ) → SameLinks env env′ → (x : ℕ) → x ≡ p .root → (s : Roots) → s ≡ rootsAt env x → environmentOf env′ ≡ update (environmentOf env) x (movedAwayAt (environmentOf env x) (p .follows))
           → (ns : Unfinished) (i : ℕ) → writeBarred nv ns (environmentOf env) (p .root) ≡ false → ok (environmentOf env′, some (typeOf (chainOf rest) (endIn env′ (chainOf rest) s))) ≡ judgeMove nv ns (environmentOf env) i p
       move-there env′ S x at s r e ns i h =
-          let is = variable-is env nv T 0 p F in
-          moved-out env env′ S x (p .root) (p .follows) rest s at (named-live env nv T 0 p F (p .root) refl) (subst (λ (v : Variable). p .follows ≤ leadingBoxes (v .chain)) is own) (on-chain env nv T 0 p F) r e
+          let is = variable-is env p F in
+          moved-out env env′ S x (p .root) (p .follows) rest s at (named-live env p F (p .root) refl) (subst (λ (v : Variable). p .follows ≤ leadingBoxes (v .chain)) is own) (on-chain env p F) r e
           ∙ ap moved (sym is)
           ∙ sym (move-is ns i h)

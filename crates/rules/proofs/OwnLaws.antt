@@ -70,10 +70,10 @@ module _ (env : List ℕ) (nv : ℕ) (T : NeatTable env nv) (i : ℕ) (p : Place
     m = longAt env x - f
 
     is : environmentOf env x ≡ live (variableAt env x)
-    is = named-live env nv T i p F x at
+    is = named-live env p F x at
 
     chain-is : F .variable ≡ variableAt env x
-    chain-is = variable-is env nv T i p F ∙ ap (variableAt env) (sym at)
+    chain-is = variable-is env p F ∙ ap (variableAt env) (sym at)
 
     fits : longAt env x - m ≡ p .follows
     fits =
@@ -94,18 +94,18 @@ module _ (env : List ℕ) (nv : ℕ) (T : NeatTable env nv) (i : ℕ) (p : Place
     path-there =
         ap₂ (λ (v : Variable) (k : ℕ). ownPath (live v) k) chain-is (sym fits)
         ∙ sym (passes-at env x m is false)
-        ∙ every-root nv (S .met) (environmentOf env) m (passes false (environmentOf env)) .0 (S .own e .0) x (named-inside env nv T i p F x at) (S .is .start x (eq-eqb x x refl))
+        ∙ every-root nv (S .met) (environmentOf env) m (passes false (environmentOf env)) .0 (S .own e .0) x (named-inside env p F x at nv T) (S .is .start x (eq-eqb x x refl))
 
     pub found-own : OwnFound nv (environmentOf env) i p rest
     found-own = record { named = F; own = own-there; is = own-place nv (environmentOf env) i p (F .variable) (F .is) (F .long) own-there path-there }
 
   module _ (F : OwnFound nv (environmentOf env) i p rest) where
     own-links : p .follows ≤ leadingBoxes (chainOf (linksAt env (p .root)))
-    own-links = subst (λ (v : Variable). p .follows ≤ leadingBoxes (v .chain)) (variable-is env nv T i p (F .named)) (F .own)
+    own-links = subst (λ (v : Variable). p .follows ≤ leadingBoxes (v .chain)) (variable-is env p (F .named)) (F .own)
 
     -- The links after the place are the root's without some boxes, so the borrow end is the root's.
     own-end : (s : Roots) → endIn env (chainOf (linksAt env (p .root))) s ≡ endIn env (chainOf rest) s
-    own-end s = sym (end-drop env (p .follows) (chainOf (linksAt env (p .root))) s own-links) ∙ ap (λ (ks : List Link). endIn env ks s) (on-chain env nv T i p (F .named))
+    own-end s = sym (end-drop env (p .follows) (chainOf (linksAt env (p .root))) s own-links) ∙ ap (λ (ks : List Link). endIn env ks s) (on-chain env p (F .named))
 
     -- What is borrowed there is what the root borrows.
 
@@ -113,7 +113,7 @@ module _ (env : List ℕ) (nv : ℕ) (T : NeatTable env nv) (i : ℕ) (p : Place
     unfolding borrowsAt borrowOf placesOf
     own-borrows =
         let ks = chainOf (linksAt env (p .root)) in
-        ap (λ (sl : Slot). unite (places (borrowOf sl)) []) (named-live env nv T i p (F .named) (p .root) refl)
+        ap (λ (sl : Slot). unite (places (borrowOf sl)) []) (named-live env p (F .named) (p .root) refl)
         ∙ unite-none (places (endIn env ks (rootsAt env (p .root)))) (end-ordered ks (placesIn env ks (rootsAt env (p .root))) (from-ordered (has (rootsAt env (p .root))) (longAt env) (left ks) 0 128))
         ∙ ap places (own-end (rootsAt env (p .root)))
 

@@ -113,40 +113,46 @@ low-end env nv T f m y h = go (f y) (environmentOf env y) refl h
     go true (live v) e h = T .1 .1 .low y v e
     go false sl e h = absurd (false≢true h)
 
+-- A named place, by the words of the table.
+module _ (env : List ℕ) (p : Place) {rest : ℕ} (F : Named (environmentOf env) p rest) where
+  pub variable-is : F .variable ≡ variableAt env (p .root)
+  variable-is = live-status env (p .root) (F .variable) (F .is) .1
+
+  pub on-chain : drop (p .follows) (chainOf (linksAt env (p .root))) ≡ chainOf rest
+  on-chain = ap (λ (v : Variable). drop (p .follows) (v .chain)) (sym variable-is) ∙ F .after
+
+  long-enough : p .follows ≤ length (chainOf (linksAt env (p .root)))
+  long-enough = subst (λ (v : Variable). p .follows ≤ length (v .chain)) variable-is (F .long)
+
+  -- The root, which the code has as x.
+  module _ (x : ℕ) (at : x ≡ p .root) where
+    pub named-live : environmentOf env x ≡ live (variableAt env x)
+    named-live = subst (λ (y : ℕ). environmentOf env y ≡ live (variableAt env y)) (sym at) (F .is ∙ ap live variable-is)
+
+    pub named-inside : (nv : ℕ) → NeatTable env nv → x < nv
+    named-inside nv T = let z = live-inside env nv (T .0) (p .root) (F .variable) (F .is) in omega arith
+
+    pub whole-is : (nv : ℕ) (w b : Bool) → w ≡ valueWhole nv (environmentOf env) x (variableAt env x) → w ≡ b → valueWhole nv (environmentOf env) (p .root) (F .variable) ≡ b
+    whole-is nv w b h k =
+        ap (valueWhole nv (environmentOf env) (p .root)) variable-is ∙ ap (λ (y : ℕ). valueWhole nv (environmentOf env) y (variableAt env y)) (sym at) ∙ sym h ∙ k
+
+    pub search-fits : (f : ℕ) → f ≡ p .follows → f ≤ length (chainOf (linksAt env x))
+    search-fits f follows = omega (arith, long-enough, follows, ap (λ (y : ℕ). length (chainOf (linksAt env y))) at)
+
 module _ (env : List ℕ) (nv : ℕ) (T : NeatTable env nv) (i : ℕ) (p : Place) {rest : ℕ} where
   module _ (F : Named (environmentOf env) p rest) where
-    pub variable-is : F .variable ≡ variableAt env (p .root)
-    variable-is = live-status env (p .root) (F .variable) (F .is) .1
-
-    -- The root, which the code has as x.
-    pub named-live : (x : ℕ) → x ≡ p .root → environmentOf env x ≡ live (variableAt env x)
-    named-live x e = subst (λ (y : ℕ). environmentOf env y ≡ live (variableAt env y)) (sym e) (F .is ∙ ap live variable-is)
-
-    pub named-inside : (x : ℕ) → x ≡ p .root → x < nv
-    named-inside x e = let z = live-inside env nv (T .0) (p .root) (F .variable) (F .is) in omega arith
-
-    pub whole-is : (x : ℕ) → x ≡ p .root → (w b : Bool) → w ≡ valueWhole nv (environmentOf env) x (variableAt env x) → w ≡ b → valueWhole nv (environmentOf env) (p .root) (F .variable) ≡ b
-    whole-is x e w b h k =
-        ap (valueWhole nv (environmentOf env) (p .root)) variable-is ∙ ap (λ (y : ℕ). valueWhole nv (environmentOf env) y (variableAt env y)) (sym e) ∙ sym h ∙ k
-
     -- The roots of a borrow of the place.
     borrowed : (x : ℕ) → x ≡ p .root → (r : Roots) → ((y : ℕ) → has r y ≡ eqb x y) → placesOf 128 (has r) (longAt env) (length (chainOf rest)) ≡ p ∷ []
     borrowed x e r h =
         let L = F .long in
-        let a : length (F .variable .chain) ≡ longAt env (p .root) = ap (λ (v : Variable). length (v .chain)) variable-is in
+        let a : length (F .variable .chain) ≡ longAt env (p .root) = ap (λ (v : Variable). length (v .chain)) (variable-is env p F) in
         let b = length-drop (p .follows) (F .variable .chain) in
         let d = ap (λ (ks : List Link). length ks) (F .after) in
         let f : p .follows ≡ longAt env (p .root) - length (chainOf rest) = omega arith in
-        let g = named-inside (p .root) refl in
+        let g = named-inside env p F (p .root) refl nv T in
         let j = T .0 .1 in
         same-roots 128 (has r) (eqb (p .root)) (longAt env) (longAt env) (length (chainOf rest)) (λ y. h y ∙ ap (λ (z : ℕ). eqb z y) e) (λ y q. refl)
         ∙ sym (one-place 128 p (longAt env) (length (chainOf rest)) (omega arith) (ap (place (p .root)) f))
-
-    pub on-chain : drop (p .follows) (chainOf (linksAt env (p .root))) ≡ chainOf rest
-    on-chain = ap (λ (v : Variable). drop (p .follows) (v .chain)) (sym variable-is) ∙ F .after
-
-    pub long-enough : p .follows ≤ length (chainOf (linksAt env (p .root)))
-    long-enough = subst (λ (v : Variable). p .follows ≤ length (v .chain)) variable-is (F .long)
 
     -- ---- judging the place (LANGUAGE 3.16): a search from its root with its follows, which leaves the links after it
 
@@ -158,10 +164,7 @@ module _ (env : List ℕ) (nv : ℕ) (T : NeatTable env nv) (i : ℕ) (p : Place
       remaining = ap₂ (λ (y k : ℕ). longAt env y - k) (sym at) (sym follows)
 
       left : m ≡ length (chainOf rest)
-      left = sym remaining ∙ sym (length-drop (p .follows) (chainOf (linksAt env (p .root)))) ∙ ap (λ (ks : List Link). length ks) on-chain
-
-      pub search-fits : f ≤ length (chainOf (linksAt env x))
-      search-fits = omega (arith, long-enough, follows, ap (λ (y : ℕ). length (chainOf (linksAt env y))) at)
+      left = sym remaining ∙ sym (length-drop (p .follows) (chainOf (linksAt env (p .root)))) ∙ ap (λ (ks : List Link). length ks) (on-chain env p F)
 
       module _ (r : Ends) (S : Searched nv (environmentOf env) x m false r) where
         abbrev ByRoots : ℕ → Type 0
@@ -177,7 +180,7 @@ module _ (env : List ℕ) (nv : ℕ) (T : NeatTable env nv) (i : ℕ) (p : Place
         unfolding passesSlot
         by-roots =
             subst ByRoots remaining
-            (paths.place-by-roots (T .1 .1) p (variableAt env (p .root)) (named-live (p .root) refl) long-enough (S .met) (subst (λ (k : ℕ). MetFrom (environmentOf env) k (p .root) (S .met)) (sym remaining) from-root) i)
+            (paths.place-by-roots (T .1 .1) p (variableAt env (p .root)) (named-live env p F (p .root) refl) (long-enough env p F) (S .met) (subst (λ (k : ℕ). MetFrom (environmentOf env) k (p .root) (S .met)) (sym remaining) from-root) i)
 
         pub place-moved : r ≡ ends.MovedAway → judgePlace nv (environmentOf env) i p ≡ err (33, i)
         place-moved e = by-roots .2 ∙ ap (λ (b : Bool). pick b (ok (paths.located (variableAt env (p .root)) (by-roots .0))) (err (33, i))) (S .moved e)
@@ -186,9 +189,9 @@ module _ (env : List ℕ) (nv : ℕ) (T : NeatTable env nv) (i : ℕ) (p : Place
         place-there s e links same = record {
           located = paths.located (variableAt env (p .root)) (by-roots .0);
           is = by-roots .2 ∙ ap (λ (b : Bool). pick b (ok (paths.located (variableAt env (p .root)) (by-roots .0))) (err (33, i))) (S .passed s e);
-          root = named-live (p .root) refl;
+          root = named-live env p F (p .root) refl;
           chain = ap chainOf (ap (linksAt env) (sym at) ∙ sym same);
-          after = on-chain;
+          after = on-chain env p F;
           low = λ y h. low-end env nv T (S .met) m y (sym (S .to s e y) ∙ h);
           to = subst (λ (k : ℕ). SameSet (by-roots .0) (placesOf nv (has s) (lengths (environmentOf env)) k)) left
               (subst (λ (ps : List Place). SameSet (by-roots .0) ps)
@@ -199,10 +202,10 @@ module _ (env : List ℕ) (nv : ℕ) (T : NeatTable env nv) (i : ℕ) (p : Place
       -- The value not whole, in a rule that asks for that first.
       moved : w ≡ false → {A : Type 0} (next : rules.Located → Judged A)
           → (judgePlace nv (environmentOf env) i p >>= λ l. need (valueWhole nv (environmentOf env) (p .root) (l .root)) (33, i) >>= λ _. next l) ≡ err (33, i)
-      moved h next = not-whole (T .1 .1) p (F .variable) (F .is) (F .long) i (whole-is x at w false whole h) next
+      moved h next = not-whole (T .1 .1) p (F .variable) (F .is) (F .long) i (whole-is env p F x at nv w false whole h) next
 
       path : w ≡ true → (to : List Place) × (judgePlace nv (environmentOf env) i p ≡ ok (paths.located (F .variable) to))
-      path h = whole-path (T .1 .1) p (F .variable) (F .is) (F .long) i (whole-is x at w true whole h)
+      path h = whole-path (T .1 .1) p (F .variable) (F .is) (F .long) i (whole-is env p F x at nv w true whole h)
 
       -- ---- readable (LANGUAGE 3.19)
 
@@ -218,14 +221,14 @@ module _ (env : List ℕ) (nv : ℕ) (T : NeatTable env nv) (i : ℕ) (p : Place
 
           pub readable-barred : b ≡ true → judgeReadable nv ns (environmentOf env) i p ≡ err (34, i)
           unfolding judgeReadable need _>>=_
-          readable-barred h = rw (path yes-whole .1, whole-is x at w true whole yes-whole) (ap tested (sym barred ∙ h))
+          readable-barred h = rw (path yes-whole .1, whole-is env p F x at nv w true whole yes-whole) (ap tested (sym barred ∙ h))
 
           pub readable-there : b ≡ false → Read nv ns (environmentOf env) i p rest
           unfolding judgeReadable need _>>=_
           readable-there h = record {
             named = F;
             to = path yes-whole .0;
-            is = rw (path yes-whole .1, whole-is x at w true whole yes-whole) (ap tested (sym barred ∙ h));
+            is = rw (path yes-whole .1, whole-is env p F x at nv w true whole yes-whole) (ap tested (sym barred ∙ h));
           }
 
         -- ---- exclusive borrow (LANGUAGE 3.22)
@@ -237,26 +240,23 @@ module _ (env : List ℕ) (nv : ℕ) (T : NeatTable env nv) (i : ℕ) (p : Place
         module _ (yes-whole : w ≡ true) (f links : ℕ) (follows : f ≡ p .follows) (same : links ≡ linksAt env x) (u : Bool) (unshared : u ≡ noShared (take f (chainOf links))) where
           unshared-is : (d : Bool) → u ≡ d → noShared (take (p .follows) (F .variable .chain)) ≡ d
           unshared-is d h =
-              ap₂ (λ (k : ℕ) (ks : List Link). noShared (take k ks)) (sym follows) (ap (λ (v : Variable). v .chain) variable-is ∙ ap chainOf (ap (linksAt env) (sym at) ∙ sym same)) ∙ sym unshared ∙ h
+              ap₂ (λ (k : ℕ) (ks : List Link). noShared (take k ks)) (sym follows) (ap (λ (v : Variable). v .chain) (variable-is env p F) ∙ ap chainOf (ap (linksAt env) (sym at) ∙ sym same)) ∙ sym unshared ∙ h
 
           pub exclusive-shared : u ≡ false → judgeExclusive nv ns (environmentOf env) i p ≡ err (36, i)
           unfolding judgeExclusive need _>>=_
-          exclusive-shared h = rw (path yes-whole .1, whole-is x at w true whole yes-whole, unshared-is false h)
+          exclusive-shared h = rw (path yes-whole .1, whole-is env p F x at nv w true whole yes-whole, unshared-is false h)
 
           module _ (yes-unshared : u ≡ true) (b : Bool) (barred : b ≡ writeBarred nv ns (environmentOf env) (p .root)) where
-            write-is : (d : Bool) → b ≡ d → writeBarred nv ns (environmentOf env) (p .root) ≡ d
-            write-is d h = sym barred ∙ h
-
             pub exclusive-barred : b ≡ true → judgeExclusive nv ns (environmentOf env) i p ≡ err (35, i)
             unfolding judgeExclusive need _>>=_
-            exclusive-barred h = rw (path yes-whole .1, whole-is x at w true whole yes-whole, unshared-is true yes-unshared, write-is true h)
+            exclusive-barred h = rw (path yes-whole .1, whole-is env p F x at nv w true whole yes-whole, unshared-is true yes-unshared, sym barred ∙ h)
 
             pub exclusive-there : b ≡ false → (r : Roots) → ((y : ℕ) → has r y ≡ eqb x y) → (v : verdicts.Told)
                 → Answers v (atMost8 (λ e. typeOf (exclusive ∷ chainOf rest) (endIn e (exclusive ∷ chainOf rest) r))) → answered env i v ≡ judgeExclusive nv ns (environmentOf env) i p
             unfolding judgeExclusive need _>>=_ borrowEnd leadingBoxes
             exclusive-there h r o v a =
                 let end : exclusiveOf (placesOf 128 (has r) (longAt env) (length (chainOf rest))) ≡ exclusiveOf (p ∷ []) = ap exclusiveOf (borrowed x at r o) in
-                rw (path yes-whole .1, whole-is x at w true whole yes-whole, unshared-is true yes-unshared, write-is false h, F .after)
+                rw (path yes-whole .1, whole-is env p F x at nv w true whole yes-whole, unshared-is true yes-unshared, sym barred ∙ h, F .after)
                 (a env i ∙ ap (λ (k : Borrow). need (leb (suc (length (chainOf rest))) maxLinks) (42, i) >>= λ _. ok (environmentOf env, some (typeOf (exclusive ∷ chainOf rest) k))) end)
 
   -- ---- a readable place
@@ -268,7 +268,7 @@ module _ (env : List ℕ) (nv : ℕ) (T : NeatTable env nv) (i : ℕ) (p : Place
     unfolding judgeShared recordedPlaces need _>>=_ borrowEnd leadingBoxes
     shared-there x at none-passed r o v a =
         let end : sharedOf (placesOf 128 (has r) (longAt env) (length (chainOf rest))) ≡ sharedOf (p ∷ []) = ap sharedOf (borrowed (R .named) x at r o) in
-        let passed : lastShared (take (p .follows) (R .named .variable .chain)) ≡ none = ap (λ (u : Variable). lastShared (take (p .follows) (u .chain))) (variable-is (R .named) ∙ ap (variableAt env) (sym at)) ∙ none-passed in
+        let passed : lastShared (take (p .follows) (R .named .variable .chain)) ≡ none = ap (λ (u : Variable). lastShared (take (p .follows) (u .chain))) (variable-is env p (R .named) ∙ ap (variableAt env) (sym at)) ∙ none-passed in
         rw (R .is, passed, R .named .after)
         (a env i ∙ ap (λ (k : Borrow). need (leb (suc (length (chainOf rest))) maxLinks) (42, i) >>= λ _. ok (environmentOf env, some (typeOf (shared ∷ chainOf rest) k))) end)
 

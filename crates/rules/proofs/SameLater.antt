@@ -8,31 +8,20 @@ use lib.ListN.{drop}
 use Rattle.reader.specs.Result.{pick}
 use Rattle.reader.specs.Script.{Place, Term, number, reading, copy, move, borrowShared, borrowExclusive, box, declare, assign, below, block, choice, sum, Terms, last, more}
 use Rattle.reader.specs.Measures.{size, sizes}
-use Rattle.rules.specs.Environment.{Environment, used, Ty, update}
-use Rattle.rules.specs.Uses.{Unfinished, naming, finishing, finishingAll, names, namedLater}
-use Rattle.rules.specs.Bars.{borrowsAny, borrowsExclusive, spread, inUse, readBarred, writeBarred}
+use Rattle.rules.specs.Environment.{Borrow, Environment, used, Ty, update}
+use Rattle.rules.specs.Uses.{Unfinished, naming, finishing, finishingAll, namedLater}
+use Rattle.rules.specs.Bars.{borrowsAny, borrowsExclusive, held, spread, inUse}
 use Rattle.rules.specs.Choice.{carried}
 use Rattle.rules.specs.Rules.{judgeReadable, judgeCopy, judgeMove, judgeShared, judgeExclusive, judgeWrite, judgeAssign, judgeNumber, judgeBelow}
 use Rattle.rules.specs.Judge.{judge, judges}
 use Rattle.rules.specs.Met.{judgeBranch}
 use Rattle.rules.proofs.Answers.{same-steps}
-use Rattle.rules.proofs.Finishing.{left-after, left-after-block}
+use Rattle.rules.proofs.Finishing.{left-after, left-after-block, named-either}
 use Rattle.rules.proofs.InUse.{held-same}
 
 -- Of the variables below nv, both name the same.
 abbrev pub SameLater : ℕ → Unfinished → Unfinished → Type 0
 SameLater nv ms ns = (x : ℕ) → x < nv → namedLater ms x ≡ namedLater ns x
-
--- Named by these or by those.
-pub named-either : (ms ns : Unfinished) (x : ℕ) → namedLater (ms ++ ns) x ≡ pick (namedLater ms x) true (namedLater ns x)
-unfolding namedLater
-named-either [] ns x = refl
-named-either (xs ∷ ms) ns x = go (names xs x) (named-either ms ns x)
-  where
-    go : (b : Bool) → namedLater (ms ++ ns) x ≡ pick (namedLater ms x) true (namedLater ns x)
-        → elim b [ true ↦ true | false ↦ namedLater (ms ++ ns) x ] ≡ pick (elim b [ true ↦ true | false ↦ namedLater ms x ]) true (namedLater ns x)
-    go true ih = refl
-    go false ih = ih
 
 spread-same : (nv : ℕ) (Γ : Environment) (f g : ℕ → Bool) → ((x : ℕ) → x < nv → f x ≡ g x) → (k x : ℕ) → x < nv → spread f nv k Γ x ≡ spread g nv k Γ x
 unfolding spread
@@ -48,48 +37,45 @@ module _ (nv : ℕ) where
   module _ (ms ns : Unfinished) (S : SameLater nv ms ns) where
     -- ---- who is in use, and what is barred
 
-    pub in-use-same : (Γ : Environment) (x : ℕ) → x < nv → inUse nv ms Γ x ≡ inUse nv ns Γ x
+    in-use-same : (Γ : Environment) (x : ℕ) → x < nv → inUse nv ms Γ x ≡ inUse nv ns Γ x
     unfolding inUse
     in-use-same Γ x l = spread-same nv Γ (λ y. namedLater ms y) (λ y. namedLater ns y) S nv x l
 
-    pub read-barred-same : (Γ : Environment) (x : ℕ) → readBarred nv ms Γ x ≡ readBarred nv ns Γ x
-    read-barred-same Γ x = held-same borrowsExclusive Γ x (inUse nv ms Γ) (inUse nv ns Γ) nv (in-use-same Γ)
-
-    pub write-barred-same : (Γ : Environment) (x : ℕ) → writeBarred nv ms Γ x ≡ writeBarred nv ns Γ x
-    write-barred-same Γ x = held-same borrowsAny Γ x (inUse nv ms Γ) (inUse nv ns Γ) nv (in-use-same Γ)
+    barred-same : (h : Borrow → ℕ → Bool) (Γ : Environment) (x : ℕ) → held h (inUse nv ms Γ) nv Γ x ≡ held h (inUse nv ns Γ) nv Γ x
+    barred-same h Γ x = held-same h Γ x (inUse nv ms Γ) (inUse nv ns Γ) nv (in-use-same Γ)
 
     -- ---- the rules
 
     module _ (Γ : Environment) (i : ℕ) where
-      pub readable-alike : (p : Place) → judgeReadable nv ms Γ i p ≡ judgeReadable nv ns Γ i p
+      readable-alike : (p : Place) → judgeReadable nv ms Γ i p ≡ judgeReadable nv ns Γ i p
       unfolding judgeReadable
-      readable-alike p = rw (read-barred-same Γ (p .root)) refl
+      readable-alike p = rw (barred-same borrowsExclusive Γ (p .root)) refl
 
-      pub copy-alike : (p : Place) → judgeCopy nv ms Γ i p ≡ judgeCopy nv ns Γ i p
+      copy-alike : (p : Place) → judgeCopy nv ms Γ i p ≡ judgeCopy nv ns Γ i p
       unfolding judgeCopy
       copy-alike p = rw (readable-alike p) refl
 
-      pub move-alike : (p : Place) → judgeMove nv ms Γ i p ≡ judgeMove nv ns Γ i p
+      move-alike : (p : Place) → judgeMove nv ms Γ i p ≡ judgeMove nv ns Γ i p
       unfolding judgeMove
-      move-alike p = rw (write-barred-same Γ (p .root)) refl
+      move-alike p = rw (barred-same borrowsAny Γ (p .root)) refl
 
-      pub shared-alike : (p : Place) → judgeShared nv ms Γ i p ≡ judgeShared nv ns Γ i p
+      shared-alike : (p : Place) → judgeShared nv ms Γ i p ≡ judgeShared nv ns Γ i p
       unfolding judgeShared
       shared-alike p = rw (readable-alike p) refl
 
-      pub exclusive-alike : (p : Place) → judgeExclusive nv ms Γ i p ≡ judgeExclusive nv ns Γ i p
+      exclusive-alike : (p : Place) → judgeExclusive nv ms Γ i p ≡ judgeExclusive nv ns Γ i p
       unfolding judgeExclusive
-      exclusive-alike p = rw (write-barred-same Γ (p .root)) refl
+      exclusive-alike p = rw (barred-same borrowsAny Γ (p .root)) refl
 
-      pub assign-alike : (p : Place) (o : Option Ty) → judgeAssign nv ms Γ i p o ≡ judgeAssign nv ns Γ i p o
+      assign-alike : (p : Place) (o : Option Ty) → judgeAssign nv ms Γ i p o ≡ judgeAssign nv ns Γ i p o
       unfolding judgeAssign
-      assign-alike p o = same-steps (judgeWrite nv Γ i p o) (judgeWrite nv Γ i p o) _ _ refl (λ w e. rw (write-barred-same (w .0) (p .root)) refl)
+      assign-alike p o = same-steps (judgeWrite nv Γ i p o) (judgeWrite nv Γ i p o) _ _ refl (λ w e. rw (barred-same borrowsAny (w .0) (p .root)) refl)
 
-      pub number-alike : (p : Place) → judgeNumber nv ms Γ i p ≡ judgeNumber nv ns Γ i p
+      number-alike : (p : Place) → judgeNumber nv ms Γ i p ≡ judgeNumber nv ns Γ i p
       unfolding judgeNumber
       number-alike p = rw (readable-alike p) refl
 
-      pub below-alike : (p q : Place) → judgeBelow nv ms Γ i p q ≡ judgeBelow nv ns Γ i p q
+      below-alike : (p q : Place) → judgeBelow nv ms Γ i p q ≡ judgeBelow nv ns Γ i p q
       unfolding judgeBelow
       below-alike p q = rw (number-alike p, number-alike q) refl
 

@@ -29,13 +29,13 @@ module _ {nv : ℕ} {ns : Unfinished} {Γ : Environment} {lv : ℕ} {s : State} 
   unfolding runNumber runCopy filled numberIn _>>=_
   run-num i p loc n e h = (rw (e, h) refl, rw (e, h) refl)
 
-  pub one-number : (js : Unfinished) (i j : ℕ) (p : Place) (u : Unit {0}) → namedLater ns (p .root) ≡ true → judgeNumber nv js Γ j p ≡ ok u
+  pub one-number : (js : Unfinished) (i : ℕ) (p : Place) (u : Unit {0}) → namedLater ns (p .root) ≡ true → judgeNumber nv js Γ i p ≡ ok u
       → (n : ℕ) × (runNumber s i p ≡ ok n)
   unfolding judgeNumber
-  one-number js i j p u nm h =
-      let a = then (judgeReadable nv js Γ j p) _ u h in
-      let b = readable-ok nv js Γ j p (a .0) (a .1) in
-      let F = judged-found I i j p (a .0) nm (b .0) in
+  one-number js i p u nm h =
+      let a = then (judgeReadable nv js Γ i p) _ u h in
+      let b = readable-ok nv js Γ i p (a .0) (a .1) in
+      let F = judged-found I i i p (a .0) nm (b .0) in
       let N = number-there I p (a .0) i F (is-whole nv Γ (p .root) (a .0 .root) (b .1)) (number-nil _ (needed _ _ _ (a .2))) in
       (N .0, run-num i p (F .loc) (N .0) (F .run) (N .2 (F .loc) (F .run)) .0)
 
@@ -48,6 +48,6 @@ module _ {nv : ℕ} {ns : Unfinished} {Γ : Environment} {lv : ℕ} {s : State} 
       → judgeNumber nv js Γ i p ≡ ok u → judgeNumber nv js Γ i q ≡ ok u′
       → Progress nv ns Γ Γ (some numberTy) lv (runPair f s i p q)
   case-pair js f i p q u u′ m n d e =
-      let a = one-number js i i p u m d in
-      let b = one-number js i i q u′ n e in
+      let a = one-number js i p u m d in
+      let b = one-number js i q u′ n e in
       case-number (f (a .0) (b .0)) (runPair f s i p q) (run-both f i p q (a .0) (b .0) (a .1) (b .1))

@@ -147,7 +147,7 @@ module _ (nv : ℕ) (readings : ℕ → ℕ) where
       let A = then (judges nv us (suc lv) ns Γ >>= λ o. judgeBlockEnd nv lv (o .0) j (o .1)) _ out (a .2) in
       let B = then (judges nv vs (suc lv) (drop (suc (sizes us)) ns) (carried Γ (A .0 .0)) >>= λ o. judgeBlockEnd nv lv (o .0) k (o .1)) _ out (A .2) in
       let M = then (need (agreeing (A .0 .1) (B .0 .1)) (39, i)) _ out (B .2) in
-      let N = one-number I ns i i p (a .0) (named-before first-block ns behind left (p .root) (named-after second-block (itself ++ rest) (p .root) (named-next [] [] (p .root) rest))) (a .1) in
+      let N = one-number I ns i p (a .0) (named-before first-block ns behind left (p .root) (named-after second-block (itself ++ rest) (p .root) (named-next [] [] (p .root) rest))) (a .1) in
       let R = sound-terms j us ihu lv ns behind Γ s (A .0) (w .0) left (A .1) I in
       let S = sound-terms k vs ihv lv behind (itself ++ rest) (carried Γ (A .0 .0)) s (B .0) (w .1) refl
       (subst (λ (m : Unfinished). (judges nv vs (suc lv) m (carried Γ (A .0 .0)) >>= λ o. judgeBlockEnd nv lv (o .0) k (o .1)) ≡ ok (B .0)) (left-after-block us ns behind left) (B .1))

@@ -52,7 +52,7 @@ refill-requires : tie.Need-refill-requires
 refill-requires c κs =
     let at-index-of = c .before .before .before .before .before .before .before in
     let start = at-index-of .before .before .before .before in
-    (start .pre .0 .0, named-inside _ _ (start .pre .0) 0 _ (start .pre .1 0 .named) _ (at-index-of .index-of .ensures))
+    (start .pre .0 .0, named-inside _ _ (start .pre .1 0 .named) _ (at-index-of .index-of .ensures) _ (start .pre .0))
 
 fine-requires : tie.Need-fine-requires
 fine-requires c κs = search needs

@@ -40,7 +40,7 @@ module _ (k : tie.After-known-told2) where
   named = named-at nv (environmentOf env) 0 p (k .before .before .before .judge-named .ensures 0) (k .before .named2 .given .1)
 
   inside : root < nv
-  inside = named-inside env nv (start .pre) 0 p named root is-root
+  inside = named-inside env p named root is-root nv (start .pre)
 
 -- Where its value is whole, and where it passes no shared link.
 whole : (e : tie.Else1) → e .before .value-whole .result ≡ true
@@ -65,7 +65,7 @@ enum-known-named-2 : tie.Need-enum-known-named-2
 enum-known-named-2 c = search needs
 
 value-whole-requires : tie.Need-value-whole-requires
-value-whole-requires c κs = (start c .pre, named-live (env c) (nv c) (start c .pre) 0 (p c) (named c) _ (is-root c))
+value-whole-requires c κs = (start c .pre, named-live (env c) (p c) (named c) _ (is-root c))
 
 refused-requires-2 : tie.Need-refused-requires-2
 refused-requires-2 c κs = search needs

@@ -41,7 +41,7 @@ module _ (k : tie.After-known-told2) where
   named = named-at nv (environmentOf env) 0 p (k .before .before .before .judge-named .ensures 0) (k .before .named2 .given .1)
 
   inside : root < nv
-  inside = named-inside env nv (start .pre) 0 p named root is-root
+  inside = named-inside env p named root is-root nv (start .pre)
 
   abbrev boxes : ℕ
   boxes = leadingBoxes (named .variable .chain)
@@ -50,7 +50,7 @@ module _ (k : tie.After-known-told2) where
 counted : (b : tie.After-index-of2) → b .before .leading-boxes .result ≡ boxes (b .before .before .before .before)
 counted b =
     let k = b .before .before .before .before in
-    boxes-is (env k) (nv k) (start k .pre) (p k) (named k) _ (is-root k) _ _ (b .before .before .links-at .ensures) (b .before .leading-boxes .ensures .0)
+    boxes-is (env k) (nv k) (p k) (named k) _ (is-root k) _ _ (b .before .before .links-at .ensures) (b .before .leading-boxes .ensures .0)
 
 -- Where it passes no borrow link, and where its value is whole.
 own : (e : tie.Else1) → p (e .before .before .before .before .before) .follows ≤ boxes (e .before .before .before .before .before)
@@ -61,7 +61,7 @@ module _ (e : tie.Else2) where
   at = e .before .before .before .before .before .before .before .before
 
   whole : valueWhole (nv at) (environmentOf (env at)) (p at .root) (named at .variable) ≡ true
-  whole = whole-is (env at) (nv at) (start at .pre) 0 (p at) (named at) _ (is-root at) _ true (e .before .value-whole .ensures) (not-false (e .before .value-whole .result) (e .if2 .left))
+  whole = whole-is (env at) (p at) (named at) _ (is-root at) (nv at) _ true (e .before .value-whole .ensures) (not-false (e .before .value-whole .result) (e .if2 .left))
 
 index-of-requires : tie.Need-index-of-requires
 index-of-requires c κs = search needs
@@ -98,14 +98,14 @@ returns c =
     let at-boxes = c .before .before in
     let k = at-boxes .before .before .before .before in (
       λ i ns barred. told-refused _ _ (c .refused2 .ensures) _ i
-          ∙ sym (move-passed (env k) (nv k) (start k .pre) (p k) (named k) ns i (omega (arith, counted at-boxes, at-boxes .index-of2 .ensures, c .before .if1 .taken))),
+          ∙ sym (move-passed (env k) (nv k) (p k) (named k) ns i (omega (arith, counted at-boxes, at-boxes .index-of2 .ensures, c .before .if1 .taken))),
       start k .pre .0,
     )
 
 value-whole-requires : tie.Need-value-whole-requires
 value-whole-requires c κs =
     let k = c .before .before .before .before .before .before in
-    (start k .pre, named-live (env k) (nv k) (start k .pre) 0 (p k) (named k) _ (is-root k))
+    (start k .pre, named-live (env k) (p k) (named k) _ (is-root k))
 
 refused-requires-3 : tie.Need-refused-requires-3
 refused-requires-3 c κs = search needs
@@ -119,7 +119,7 @@ returns-2 c =
     let at-own = at-whole .before .before in
     let k = at-own .before .before .before .before .before in (
       λ i ns barred. told-refused _ _ (c .refused3 .ensures) _ i
-          ∙ sym (move-moved (env k) (nv k) (start k .pre) (p k) (named k) (own at-own) ns i (whole-is (env k) (nv k) (start k .pre) 0 (p k) (named k) _ (is-root k) _ false (at-whole .value-whole .ensures) (not-true (at-whole .value-whole .result) (c .before .if2 .taken)))),
+          ∙ sym (move-moved (env k) (nv k) (p k) (named k) (own at-own) ns i (whole-is (env k) (p k) (named k) _ (is-root k) (nv k) _ false (at-whole .value-whole .ensures) (not-true (at-whole .value-whole .result) (c .before .if2 .taken)))),
       start k .pre .0,
     )
 
@@ -134,7 +134,7 @@ returns-3 c =
     let e = c .before .before in
     let k = at e in (
       λ i ns barred. told-refused _ _ (c .refused4 .ensures) _ i
-          ∙ sym (move-barred (env k) (nv k) (start k .pre) (p k) (named k) (own (e .before .before .before)) (whole e) ns i (sym barred ∙ c .before .if3 .taken)),
+          ∙ sym (move-barred (env k) (nv k) (p k) (named k) (own (e .before .before .before)) (whole e) ns i (sym barred ∙ c .before .if3 .taken)),
       start k .pre .0,
     )
 
@@ -177,7 +177,7 @@ returns-5 c =
     let e = at-roots .before .before .before in
     let k = at e in (
       λ i ns barred. c .value-of .ensures _ i
-          ∙ move-there (env k) (nv k) (start k .pre) (p k) (named k) (own (e .before .before .before)) (whole e) _ (at-move-away .move-away .ensures .2) _ (is-root k) _ (at-roots .roots-at .ensures) (at-move-away .move-away .ensures .0) ns i (sym barred ∙ at-roots .before .before .if3 .left),
+          ∙ move-there (env k) (nv k) (p k) (named k) (own (e .before .before .before)) (whole e) _ (at-move-away .move-away .ensures .2) _ (is-root k) _ (at-roots .roots-at .ensures) (at-move-away .move-away .ensures .0) ns i (sym barred ∙ at-roots .before .before .if3 .left),
       at-move-away .move-away .ensures .1,
     )
 

@@ -41,8 +41,8 @@ index-of-requires-2 c κs = search needs
 search-requires : tie.Need-search-requires
 search-requires c κs = (
   start c .pre,
-  named-live _ _ (start c .pre) 0 _ (named c) _ (is-root c),
-  search-fits _ _ (start c .pre) 0 _ (named c) _ (is-root c) _ (c .index-of2 .ensures),
+  named-live _ _ (named c) _ (is-root c),
+  search-fits _ _ (named c) _ (is-root c) _ (c .index-of2 .ensures),
 )
 
 enum-told : tie.Need-enum-told
@@ -54,7 +54,7 @@ enum-known-ends c = search needs
 links-at-requires : tie.Need-links-at-requires
 links-at-requires c κs =
     let b = c .before .before .before .before in
-    omega (arith, start b .pre .0 .0, named-inside _ _ (start b .pre) 0 _ (named b) _ (is-root b))
+    omega (arith, start b .pre .0 .0, named-inside _ _ (named b) _ (is-root b) _ (start b .pre))
 
 enum-told-2 : tie.Need-enum-told-2
 enum-told-2 c = search needs

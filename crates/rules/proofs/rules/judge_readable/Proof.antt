@@ -47,7 +47,7 @@ index-of-requires : tie.Need-index-of-requires
 index-of-requires c κs = search needs
 
 value-whole-requires : tie.Need-value-whole-requires
-value-whole-requires c κs = (start c .pre, named-live _ _ (start c .pre) 0 _ (named c) _ (is-root c))
+value-whole-requires c κs = (start c .pre, named-live _ _ (named c) _ (is-root c))
 
 returns-2 : tie.Need-returns-2
 returns-2 c =
@@ -72,7 +72,7 @@ returns-4 c =
       λ i ns barred.
           let found = readable-there _ _ (start b .pre) i _ (named b) _ (is-root b) _ (at-whole .value-whole .ensures) ns (whole (c .before)) _ barred (c .if2 .left) in
           subst (λ (k : Readable). ReadableIs nv ns (environmentOf env) i p k) (sym told) found,
-      whole-there nv (environmentOf env) p told (named b) (whole-is env nv (start b .pre) 0 p (named b) _ (is-root b) _ true (at-whole .value-whole .ensures) (whole (c .before))),
+      whole-there nv (environmentOf env) p told (named b) (whole-is env p (named b) _ (is-root b) nv _ true (at-whole .value-whole .ensures) (whole (c .before))),
     )
 
 pub judge-readable-spec : {M : Type 1} → statement M

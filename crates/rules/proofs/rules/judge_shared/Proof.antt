@@ -48,7 +48,7 @@ module _ (k : tie.After-index-of) where
   read i ns barred = read-at _ ns _ i _ (k .before .before .before .before .judge-readable .ensures .0 i ns barred) (k .before .before .readable2 .given .1)
 
   inside : root < start .args .variables
-  inside = named-inside _ _ (start .pre) 0 _ (named .0) _ (k .index-of .ensures)
+  inside = named-inside _ _ (named .0) _ (k .index-of .ensures) _ (start .pre)
 
 -- Where the last shared link is looked for.
 module _ (c : tie.After-last-shared) where
