@@ -1,7 +1,7 @@
--- What bars a root, by the code's answers: nobody does where nobody may, and what a set has is what the terms around name. Assumes nothing.
-use Prim.Native.Nat.{ℕ, zero, suc, _+_}
+-- What bars a root, by the code's answers: no variable does where none may, and what a set has is what the terms around name. Assumes nothing.
+use Prim.Native.Nat.{ℕ, suc, _+_}
 use mathlib.Core.Path.{_≡_, refl, sym, ap, _∙_}
-use mathlib.Core.Bool.{Bool, true, false, false≢true}
+use mathlib.Core.Bool.{Bool, true, false}
 use mathlib.Core.List.{List}
 use lib.Dec.{ltb, eqb}
 use lib.ListN.{getD}
@@ -11,25 +11,25 @@ use Rattle.reader.specs.RowParts.{fieldAt}
 use Rattle.rules.specs.declared.roots.Roots.{Roots}
 use Rattle.rules.specs.Uses.{Unfinished, names, namedLater}
 use Rattle.rules.specs.Environment.{Environment}
-use Rattle.rules.specs.Bars.{heldBy, held, readBarred}
+use Rattle.rules.specs.Bars.{held, readBarred}
 use Rattle.rules.specs.Masks.{has, isEmpty}
 use Rattle.rules.specs.Table.{environmentOf, borrowsBy, MayHold}
 use Rattle.rules.specs.Verdicts.{LaterIs}
 use Rattle.ownership.specs.RowUses.{rowNames, namings, namedWith}
+use Rattle.rules.proofs.TableLaws.{pick-true}
 use Rattle.rules.proofs.MaskLaws.{none-in}
-use Rattle.ownership.proofs.RowUseLaws.{last-row}
-use Rattle.ownership.proofs.FoundUses.{names-one, wrap-one, box-none, named-one}
+use Rattle.rules.proofs.InUse.{held-some}
+use Rattle.ownership.proofs.EitherLaws.{swapped, second}
+use Rattle.ownership.proofs.RowUseLaws.{named-one, last-row}
+use Rattle.ownership.proofs.FoundUses.{names-one, wrap-one, box-none}
 
--- Where nobody may hold a borrow of the root, none of these does.
+-- Where no variable may hold a borrow of the root, none of these does.
 pub nobody-holds : (env : List ℕ) (any : Bool) (root : ℕ) (s : Roots) → MayHold env any root s → isEmpty s ≡ true → (these : ℕ → Bool) (n : ℕ) → held (borrowsBy any) these n (environmentOf env) root ≡ false
-unfolding held
-nobody-holds env any root s may e these zero = refl
-nobody-holds env any root s may e these (suc n) = go (heldBy (borrowsBy any) (environmentOf env n) root) refl (nobody-holds env any root s may e these n)
+nobody-holds env any root s may e these n = go (held (borrowsBy any) these n (environmentOf env) root) refl
   where
-    go : (b : Bool) → heldBy (borrowsBy any) (environmentOf env n) root ≡ b → held (borrowsBy any) these n (environmentOf env) root ≡ false
-        → elim b [ true ↦ elim (these n) [ true ↦ true | false ↦ held (borrowsBy any) these n (environmentOf env) root ] | false ↦ held (borrowsBy any) these n (environmentOf env) root ] ≡ false
-    go true k ih = absurd (false≢true (sym (none-in s e n) ∙ may n k))
-    go false k ih = ih
+    go : (b : Bool) → held (borrowsBy any) these n (environmentOf env) root ≡ b → b ≡ false
+    go true k = let h = held-some (borrowsBy any) these (environmentOf env) root n k in sym (may (h .0) (h .2)) ∙ none-in s e (h .0)
+    go false k = refl
 
 -- What is barred goes by the root's number, however the code has it.
 pub read-at-root : (nv : ℕ) (ns : Unfinished) (Γ : Environment) {barred : Bool} {x y : ℕ} → x ≡ y → barred ≡ readBarred nv ns Γ x → barred ≡ readBarred nv ns Γ y
@@ -43,11 +43,7 @@ later-has nv uses from s named ns e later x l = later x l ∙ ap (λ (b : Bool).
 
 pub nothing-named : (rows : List ℕ) (start : ℕ) (named : ℕ → Bool) (x : ℕ) → named x ≡ namedWith rows start 0 named x
 unfolding namedLater namings
-nothing-named rows start named x = go (named x)
-  where
-    go : (b : Bool) → b ≡ pick b true false
-    go true = refl
-    go false = refl
+nothing-named rows start named x = sym (pick-true (named x))
 
 pub named-all : (rows : List ℕ) (start k count : ℕ) (named all : ℕ → Bool) → k ≡ count → ((x : ℕ) → all x ≡ namedWith rows start k named x) → (x : ℕ) → all x ≡ namedWith rows start count named x
 named-all rows start k count named all e h x = rw (← e) (h x)
@@ -69,12 +65,5 @@ module _ (rows : List ℕ) (start k : ℕ) (named all : ℕ → Bool) (so-far : 
       → (more one : ℕ → Bool) → ((x : ℕ) → more x ≡ pick (all x) true (one x)) → ((x : ℕ) → one x ≡ eqb y x) → (x : ℕ) → more x ≡ namedWith rows start next named x
   named-other next en kind y ek ey w n more one me oe x =
       me x
-      ∙ rw (so-far x, oe x) (go (named x) (eqb y x) (namedLater (namings rows start k) x))
+      ∙ rw (so-far x, oe x) (swapped (namedWith rows start k named x) (eqb y x) ∙ second (eqb y x) (named x) (namedLater (namings rows start k) x))
       ∙ sym (one-more next en x (eqb y x) (rw (← ek, names-one kind (fieldAt rows (start + k) 1) (fieldAt rows (start + k) 3) (wrap-one kind (rw ek w) n), ← ey) (named-one y x)))
-    where
-      go : (a b c : Bool) → pick (pick a true c) true b ≡ pick a true (pick b true c)
-      go true b c = refl
-      go false true true = refl
-      go false true false = refl
-      go false false true = refl
-      go false false false = refl

@@ -33,7 +33,7 @@ unfolding restAt termsAt
 all-terms nv f level later zero i o Γ h = absurd h
 all-terms nv f level later (suc n) i o Γ h = refl
 
--- Its terms are judged with `inside` after them: the block names nothing, so that is as what comes after the block.
+-- Its terms are judged with `inside` after them: the block names nothing, so `inside` names what is named after the block.
 module _ (nv l : ℕ) (rows : List ℕ) (i : ℕ) (good : IsTree (treeAt nv l rows i)) (level : ℕ) (later inside : ℕ → Unfinished) (same : (next : ℕ) → SameLater nv (inside next) (later next)) (Γ : Environment) where
   block-rule : (ts : Terms) (j : ℕ) → judge nv (block i ts) level (finishing (block i ts) ++ later j) Γ ≡ (judges nv ts (suc level) (finishingAll ts ++ inside j) Γ >>= λ o. judgeBlockEnd nv level (o .0) i (o .1))
   unfolding judge finishing names namedLater

@@ -7,7 +7,6 @@ use lib.ListN.{length, drop}
 use Rattle.reader.specs.Result.{ok, err, _>>=_}
 use Rattle.reader.specs.Script.{Term, block, choice}
 use Rattle.reader.specs.Measures.{sizes}
-use Rattle.reader.specs.Reader.{branch}
 use Rattle.reader.specs.RowParts.{fieldAt}
 use Rattle.reader.specs.RowTrees.{placeAt, RowTree, IsTree, blockAt, treeAt}
 use Rattle.rules.specs.declared.table.Place.{Place}
@@ -34,6 +33,7 @@ use Rattle.rules.proofs.Answers.{same-steps}
 use Rattle.rules.proofs.Slots.{live-carried}
 use Rattle.rules.proofs.Finishing.{left-after-block}
 use Rattle.rules.proofs.SameLater.{SameLater, same-append, judged-alike}
+use Rattle.ownership.proofs.TreeNames.{branch-is}
 use Rattle.ownership.proofs.LaterLaws.{Follows}
 use Rattle.ownership.proofs.JudgeLaws.{refused-ended, told-ended, refused-is, fine-is}
 use Rattle.rules.proofs.NeatSteps.{Fine, Lived}
@@ -43,11 +43,6 @@ use Rattle.ownership.proofs.TreeLets.{tree-lets}
 use Rattle.ownership.proofs.ChoiceValues.{live-long, AsLong, same-value, links-value}
 
 -- ---- one block
-
--- A block in its row, as a block of a choice.
-branch-is : (nv l : ℕ) (rows : List ℕ) (j : ℕ) (b : BlockRows nv l rows j) → blockAt (treeAt nv l rows) rows j ≡ some ((j, b .terms), b .end)
-unfolding branch
-branch-is nv l rows j b = rw (b .is, b .kind)
 
 -- The block at row j has been judged from Γ, and accepted; ns is what comes after it.
 pub record Accepted (nv l : ℕ) (rows : List ℕ) (j : ℕ) (here : BlockRows nv l rows j) (level : ℕ) (ns : Unfinished) (Γ : Environment) (env : List ℕ) (r : JudgedTerm) (v : Value) : Type 0 where

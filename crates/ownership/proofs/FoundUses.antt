@@ -17,7 +17,8 @@ use Rattle.reader.specs.RowParts.{fieldAt}
 use Rattle.reader.proofs.KindBytes.{found, wrapping}
 use Rattle.rules.specs.Uses.{names}
 use Rattle.ownership.specs.RowUses.{namesOf, rowNames, UsesFor, NamesBelow}
-use Rattle.ownership.proofs.RowUseLaws.{first-named}
+use Rattle.ownership.proofs.EitherLaws.{swapped}
+use Rattle.ownership.proofs.RowUseLaws.{first-named, named-one}
 
 -- ---- what a kind names
 
@@ -25,7 +26,7 @@ use Rattle.ownership.proofs.RowUseLaws.{first-named}
 abbrev pub OneNamed : ℕ → Type 0
 OneNamed k = (k ≡ 12) ⊎ ((3 ≤ k) × (k < 7)) ⊎ ((8 ≤ k) × (k < 10))
 
-abbrev pub TwoNamed : ℕ → Type 0
+abbrev TwoNamed : ℕ → Type 0
 TwoNamed k = (k ≡ 10) ⊎ (k ≡ 13)
 
 pub names-one : (k x y : ℕ) → OneNamed k → namesOf (kindOf newest k) x y ≡ x ∷ []
@@ -44,12 +45,12 @@ names-one k x y (inr (inr h)) = go (ℕ-discrete k 8)
     go (yes q) = rw q
     go (no p) = let e : k ≡ 9 = omega (arith, h .0, h .1) in rw e
 
-pub names-two : (k x y : ℕ) → TwoNamed k → namesOf (kindOf newest k) x y ≡ x ∷ y ∷ []
+names-two : (k x y : ℕ) → TwoNamed k → namesOf (kindOf newest k) x y ≡ x ∷ y ∷ []
 unfolding namesOf newest kindOf among kinds byteOf
 names-two k x y (inl q) = rw q
 names-two k x y (inr q) = rw q
 
-pub names-none : (k x y : ℕ) → (3 ≤ k → k < 7 → ⊥) → (8 ≤ k → k < 10 → ⊥) → (k ≡ 10 → ⊥) → (k ≡ 12 → ⊥) → (k ≡ 13 → ⊥) → namesOf (kindOf newest k) x y ≡ []
+names-none : (k x y : ℕ) → (3 ≤ k → k < 7 → ⊥) → (8 ≤ k → k < 10 → ⊥) → (k ≡ 10 → ⊥) → (k ≡ 12 → ⊥) → (k ≡ 13 → ⊥) → namesOf (kindOf newest k) x y ≡ []
 unfolding namesOf byteOf
 names-none k x y a b c d e = go (kindOf newest k) refl
   where
@@ -83,26 +84,14 @@ box-none k x y q = names-none k x y (λ a b. omega arith) (λ a b. omega arith) 
 
 -- ---- who is named
 
-pub named-one : (x z : ℕ) → names (x ∷ []) z ≡ eqb x z
-unfolding names
-named-one x z = first-named x [] z ∙ go (eqb x z)
-  where
-    go : (b : Bool) → pick b true false ≡ b
-    go true = refl
-    go false = refl
-
-pub named-two : (x y z : ℕ) → names (x ∷ y ∷ []) z ≡ pick (eqb x z) true (eqb y z)
+named-two : (x y z : ℕ) → names (x ∷ y ∷ []) z ≡ pick (eqb x z) true (eqb y z)
 named-two x y z = first-named x (y ∷ []) z ∙ ap (λ (b : Bool). pick (eqb x z) true b) (named-one y z)
 
 pub one-in : (k x y : ℕ) → OneNamed k → names (namesOf (kindOf newest k) x y) x ≡ true
 one-in k x y o = rw (names-one k x y o, named-one x x, eq-eqb x x refl)
 
 pub two-in : (k x y : ℕ) → TwoNamed k → (names (namesOf (kindOf newest k) x y) x ≡ true) × (names (namesOf (kindOf newest k) x y) y ≡ true)
-two-in k x y t = (rw (names-two k x y t, named-two x y x, eq-eqb x x refl), rw (names-two k x y t, named-two x y y, eq-eqb y y refl) (go (eqb x y)))
-  where
-    go : (b : Bool) → pick b true true ≡ true
-    go true = refl
-    go false = refl
+two-in k x y t = (rw (names-two k x y t, named-two x y x, eq-eqb x x refl), rw (names-two k x y t, named-two x y y, eq-eqb y y refl) (swapped (eqb x y) true))
 
 module _ (nv : ℕ) (rows : List ℕ) where
   module _ (terms : ℕ) (B : NamesBelow nv rows terms) (i k : ℕ) (ek : k ≡ fieldAt rows i 0) where

@@ -4,7 +4,7 @@ use Prim.Native.Nat.{ℕ, zero, suc, _+_, _*_, _-_, _≤_, _<_}
 use native.Mathlib.Omega.{arith}
 use native.Mathlib.Decide.{decLt}
 use mathlib.Core.Path.{_≡_, refl, sym, ap, _∙_}
-use mathlib.Core.Bool.{true, false≢true}
+use mathlib.Core.Bool.{true}
 use mathlib.Core.Option.{some}
 use mathlib.Core.List.{List, [], _++_}
 use lib.ListN.{length, getD, replicate}
@@ -20,7 +20,7 @@ use Rattle.reader.proofs.Lengths.{laid-rows}
 use Rattle.reader.proofs.ChoiceRows.{tree-rows}
 use Rattle.rules.specs.Uses.{names}
 use Rattle.ownership.specs.RowUses.{namesOf, rowNames, NamesBelow}
-use Rattle.ownership.proofs.TreeNames.{rows-below}
+use Rattle.ownership.proofs.TreeNames.{none-below, rows-below}
 
 all-zero : (n k : ℕ) → _≡_ {A = ℕ} (getD (replicate n 0) k 0) 0
 all-zero zero k = refl
@@ -42,12 +42,8 @@ module _ (l : Limits) (rows : List ℕ) (t : Term) (is : rows ≡ rowsOf l t) (s
   nothing-named r h = let z : fieldAt rows r 0 ≡ 0 = ap (λ (xs : List ℕ). getD xs (5 * r + 0) 0) is ∙ zero-after l t (5 * r + 0) (omega arith) in rw z
 
   pub names-below : NamesBelow (l .variables) rows (size t)
-  unfolding names
   names-below = record { room = tree-rows rows (l .variables) (l .levels) 0 t (size t) stands .1; below = λ r x h. within r x h (decLt r (size t)); nothing = nothing-named }
     where
-      unnamed : (x : ℕ) → names [] x ≡ true → x < l .variables
-      unnamed x h = absurd (false≢true h)
-
       within : (r x : ℕ) → names (rowNames rows r) x ≡ true → Dec (r < size t) → x < l .variables
       within r x h (yes b) = rows-below (l .variables) (l .levels) rows 0 t (size t) stands r x (omega arith) b h
-      within r x h (no b) = unnamed x (ap (λ (xs : List ℕ). names xs x) (sym (nothing-named r (omega arith))) ∙ h)
+      within r x h (no b) = none-below (l .variables) x (ap (λ (xs : List ℕ). names xs x) (sym (nothing-named r (omega arith))) ∙ h)

@@ -2,7 +2,7 @@
 use Prim.Native.Nat.{ℕ, suc, _+_, _-_, _≤_, _<_}
 use native.Mathlib.Omega.{arith}
 use native.Mathlib.Decide.{decLt}
-use mathlib.Core.Path.{_≡_, refl, sym, ap, _∙_}
+use mathlib.Core.Path.{_≡_, refl, sym, ap, ap₂, _∙_}
 use mathlib.Core.Bool.{Bool, true, false, false≢true}
 use mathlib.Core.Option.{some}
 use mathlib.Core.List.{List, [], _∷_, _++_}
@@ -17,7 +17,8 @@ use Rattle.rules.specs.Verdicts.{LaterIs}
 use Rattle.ownership.specs.RowUses.{rowNames, namings, UsesFor, laterAt, laterIn, namedWith}
 use Rattle.rules.proofs.Finishing.{named-either}
 use Rattle.rules.proofs.SameLater.{SameLater, same-append}
-use Rattle.ownership.proofs.RowUseLaws.{named-later-at, named-in, used-from}
+use Rattle.ownership.proofs.EitherLaws.{swapped, grouped, turned}
+use Rattle.ownership.proofs.RowUseLaws.{first-later, named-one, named-later-at, named-in, used-from}
 use Rattle.ownership.proofs.TreeNames.{tree-names, several-names}
 
 -- Who is named from row j on: who the term there names, or who is named after it.
@@ -29,25 +30,9 @@ FollowsAll nv later f = (j : ℕ) (ts : Terms) (k : ℕ) → f j ≡ some (ts, k
 
 -- ---- around
 
-turned : (a b c : Bool) → pick a true (pick b true c) ≡ pick b true (pick c true a)
-turned true true c = refl
-turned true false true = refl
-turned true false false = refl
-turned false true c = refl
-turned false false true = refl
-turned false false false = refl
-
-with-root : (b c e : Bool) → pick b true (pick c true e) ≡ elim (elim e as (λ (b : Bool). Bool) [ true ↦ true | false ↦ false ]) [ true ↦ true | false ↦ pick b true c ]
-with-root true c true = refl
-with-root true c false = refl
-with-root false true true = refl
-with-root false true false = refl
-with-root false false true = refl
-with-root false false false = refl
-
 module _ (nv : ℕ) (rows uses : List ℕ) (named : ℕ → Bool) (start n : ℕ) where
-  -- Inside n terms around one another: they name what those name, and what is after them.
-  pub later-around : (next : ℕ) → LaterIs nv uses next (namedWith rows start n named) (laterIn rows start n (laterAt nv uses named next))
+  -- Inside n terms around one another: the unfinished terms name what these n name, and what is named after them.
+  later-around : (next : ℕ) → LaterIs nv uses next (namedWith rows start n named) (laterIn rows start n (laterAt nv uses named next))
   later-around next x l =
       named-in rows start n (laterAt nv uses named next) x
       ∙ ap (λ (b : Bool). pick (namedLater (namings rows start n) x) true b) (named-later-at nv uses named next x l)
@@ -63,12 +48,13 @@ module _ (nv : ℕ) (rows uses : List ℕ) (named : ℕ → Bool) (start n : ℕ
 
     -- That of a choice's blocks has the root of the choice besides.
     pub choice-later : (root : ℕ) → ((x : ℕ) → inside x ≡ pick (namedWith rows start n named x) true (eqb root x)) → (next : ℕ) → SameLater nv (laterAt nv uses inside next) ((root ∷ []) ∷ laterIn rows start n (laterAt nv uses named next))
-    unfolding namedLater names
     choice-later root e next x l =
         named-later-at nv uses inside next x l
         ∙ ap (λ (b : Bool). pick (ltb next (getD uses x 0)) true b) (e x)
-        ∙ with-root (ltb next (getD uses x 0)) (namedWith rows start n named x) (eqb root x)
-        ∙ ap (λ (b : Bool). elim (names (root ∷ []) x) [ true ↦ true | false ↦ b ]) (sym (later-around next x l))
+        ∙ grouped (ltb next (getD uses x 0)) (namedWith rows start n named x) (eqb root x)
+        ∙ swapped (pick (ltb next (getD uses x 0)) true (namedWith rows start n named x)) (eqb root x)
+        ∙ ap₂ (λ (a b : Bool). pick a true b) (sym (named-one root x)) (sym (later-around next x l))
+        ∙ sym (first-later (root ∷ []) (laterIn rows start n (laterAt nv uses named next)) x)
 
 -- The same for the term at row i, which is one of those around: it has not finished when its rule is asked.
 pub after-later : (nv : ℕ) (rows uses : List ℕ) (named : ℕ → Bool) (start i : ℕ) → start ≤ i → (next : ℕ) → LaterIs nv uses next (namedWith rows start (i + 1 - start) named) (rowNames rows i ∷ laterIn rows start (i - start) (laterAt nv uses named next))
@@ -80,10 +66,6 @@ after-later nv rows uses named start i h next =
 
 -- ---- before
 
-grouped : (a b c : Bool) → pick (pick a true b) true c ≡ pick a true (pick b true c)
-grouped true b c = refl
-grouped false b c = refl
-
 module _ (nv : ℕ) (rows uses : List ℕ) (U : UsesFor nv rows uses) where
   module _ (named : ℕ → Bool) where
     -- Where the rows from j to k name what ns does.
@@ -93,7 +75,7 @@ module _ (nv : ℕ) (rows uses : List ℕ) (U : UsesFor nv rows uses) where
         let u : ltb j (getD uses x 0) ≡ pick (namedLater ns x) true (ltb k (getD uses x 0)) = rw (h .1 x) (rw w at (used-from nv rows uses U x j (k - j) l)) in
         named-later-at nv uses named j x l
         ∙ ap (λ (b : Bool). pick b true (named x)) u
-        ∙ grouped (namedLater ns x) (ltb k (getD uses x 0)) (named x)
+        ∙ sym (grouped (namedLater ns x) (ltb k (getD uses x 0)) (named x))
         ∙ ap (λ (b : Bool). pick (namedLater ns x) true b) (sym (named-later-at nv uses named k x l))
         ∙ sym (named-either ns (laterAt nv uses named k) x)
 

@@ -1,4 +1,5 @@
 -- The laws that the proofs of the functions cite, and the theorem for the layers above.
+pub mod EitherLaws
 pub mod JudgeLaws
 pub mod RowUseLaws
 pub mod TreeNames

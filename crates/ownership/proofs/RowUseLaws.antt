@@ -11,6 +11,8 @@ use borrow.Author.Tests.{eq-eqb, ne-eqb, lt-ltb, le-ltb}
 use Rattle.reader.specs.Result.{pick}
 use Rattle.rules.specs.Uses.{Unfinished, names, namedLater}
 use Rattle.ownership.specs.RowUses.{rowNames, namings, UsesFor, those, laterAt, laterIn}
+use Rattle.rules.proofs.TableLaws.{pick-true}
+use Rattle.ownership.proofs.EitherLaws.{grouped, second}
 
 -- ---- the first of several
 
@@ -21,6 +23,10 @@ first-named y ys x = go (eqb y x)
     go : (b : Bool) → elim b [ true ↦ true | false ↦ names ys x ] ≡ pick b true (names ys x)
     go true = refl
     go false = refl
+
+pub named-one : (x z : ℕ) → names (x ∷ []) z ≡ eqb x z
+unfolding names
+named-one x z = first-named x [] z ∙ pick-true (eqb x z)
 
 pub first-later : (xs : List ℕ) (ns : Unfinished) (x : ℕ) → namedLater (xs ∷ ns) x ≡ pick (names xs x) true (namedLater ns x)
 unfolding namedLater
@@ -45,7 +51,7 @@ those-above f (suc n) x l = go (those-above f n x (omega arith)) (f n)
     go ih true = first-named n (those f n) x ∙ rw (ne-eqb n x (λ q. omega arith)) ih
     go ih false = ih
 
-pub names-those : (f : ℕ → Bool) (n x : ℕ) → x < n → names (those f n) x ≡ f x
+names-those : (f : ℕ → Bool) (n x : ℕ) → x < n → names (those f n) x ≡ f x
 unfolding those
 names-those f zero x l = absurd (omega arith)
 names-those f (suc n) x l = go (λ k. names-those f n x k) (ℕ-discrete n x) (f n) refl
@@ -57,13 +63,9 @@ names-those f (suc n) x l = go (λ k. names-those f n x k) (ℕ-discrete n x) (f
     go ih (no q) false k = ih (omega arith)
 
 -- Whether the one term names it is whether a term does.
-one-names : (xs : List ℕ) (x : ℕ) → namedLater (xs ∷ []) x ≡ names xs x
+pub one-names : (xs : List ℕ) (x : ℕ) → namedLater (xs ∷ []) x ≡ names xs x
 unfolding namedLater
-one-names xs x = first-later xs [] x ∙ go (names xs x)
-  where
-    go : (b : Bool) → pick b true false ≡ b
-    go true = refl
-    go false = refl
+one-names xs x = first-later xs [] x ∙ pick-true (names xs x)
 
 pub named-later-at : (nv : ℕ) (uses : List ℕ) (named : ℕ → Bool) (next x : ℕ) → x < nv → namedLater (laterAt nv uses named next) x ≡ pick (ltb next (getD uses x 0)) true (named x)
 unfolding laterAt
@@ -71,16 +73,6 @@ named-later-at nv uses named next x l =
     one-names (those (λ y. pick (ltb next (getD uses y 0)) true (named y)) nv) x ∙ names-those (λ y. pick (ltb next (getD uses y 0)) true (named y)) nv x l
 
 -- ---- rows
-
-swapped : (a b c : Bool) → pick a true (pick b true c) ≡ pick b true (pick a true c)
-swapped true true c = refl
-swapped true false c = refl
-swapped false true c = refl
-swapped false false c = refl
-
-grouped : (a b c : Bool) → pick a true (pick b true c) ≡ pick (pick a true b) true c
-grouped true b c = refl
-grouped false b c = refl
 
 -- The last of the rows may as well come first.
 pub last-row : (rows : List ℕ) (i n x : ℕ) → namedLater (namings rows i (suc n)) x ≡ pick (names (rowNames rows (i + n)) x) true (namedLater (namings rows i n) x)
@@ -92,7 +84,7 @@ last-row rows i (suc n) x =
     let e : suc i + n ≡ i + suc n = omega arith in
     first-row rows i (suc n) x
     ∙ ap (λ (b : Bool). pick (names (rowNames rows i) x) true b) (last-row rows (suc i) n x)
-    ∙ swapped (names (rowNames rows i) x) (names (rowNames rows (suc i + n)) x) (namedLater (namings rows (suc i) n) x)
+    ∙ second (names (rowNames rows i) x) (names (rowNames rows (suc i + n)) x) (namedLater (namings rows (suc i) n) x)
     ∙ ap (λ (r : ℕ). pick (names (rowNames rows r) x) true (pick (names (rowNames rows i) x) true (namedLater (namings rows (suc i) n) x))) e
     ∙ ap (λ (b : Bool). pick (names (rowNames rows (i + suc n)) x) true b) (sym (first-row rows i n x))
 

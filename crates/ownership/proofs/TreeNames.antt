@@ -3,7 +3,6 @@
 use Prim.Native.Nat.{ℕ, zero, suc, _+_, _*_, _-_, _≤_, _<_}
 use native.Mathlib.Omega.{arith}
 use native.Mathlib.Numerals.{add-one}
-use native.Mathlib.Decide.{decLt}
 use mathlib.Core.Path.{_≡_, refl, sym, ap, ap₂, _∙_, subst}
 use mathlib.Core.Bool.{Bool, true, false, false≢true}
 use mathlib.Core.Option.{Option, none, some}
@@ -12,7 +11,7 @@ use lib.Dec.{leb, ltb, eqb}
 use lib.ListN.{length}
 use borrow.Author.Tests.{ltb-true, eqb-true}
 use Rattle.reader.specs.Result.{pick}
-use Rattle.reader.specs.Script.{Term, reading, copy, move, borrowShared, borrowExclusive, box, declare, assign, below, block, choice, sum, Terms, last, more}
+use Rattle.reader.specs.Script.{Term, reading, copy, move, borrowShared, borrowExclusive, box, declare, assign, below, block, sum, Terms, last, more}
 use Rattle.reader.specs.Kinds.{Kind, kNumber, kReading, kCopy, kMove, kShared, kExclusive, kBox, kLet, kAssign, kBelow, kBlock, kChoice, kSum, newest, kindOf}
 use Rattle.reader.specs.Reader.{branch}
 use Rattle.reader.specs.RowParts.{fieldAt}
@@ -22,11 +21,13 @@ use Rattle.reader.proofs.ChoiceRows.{BlockRows, block-rows}
 use Rattle.rules.specs.Uses.{Unfinished, naming, finishing, finishingAll, names, namedLater}
 use Rattle.ownership.specs.RowUses.{namesOf, rowNames, namings}
 use Rattle.rules.proofs.Finishing.{named-either}
+use Rattle.ownership.proofs.EitherLaws.{swapped, one-holds}
+use Rattle.ownership.proofs.RowUseLaws.{first-named, first-later, first-row, one-names}
 
 -- ---- rows one after the other
 
 -- The rows after others name what they name.
-pub namings-append : (rows : List ℕ) (i m n : ℕ) → namings rows i (m + n) ≡ namings rows i m ++ namings rows (i + m) n
+namings-append : (rows : List ℕ) (i m n : ℕ) → namings rows i (m + n) ≡ namings rows i m ++ namings rows (i + m) n
 unfolding namings
 namings-append rows i zero n =
     let e : 0 + n ≡ n = omega arith in
@@ -37,34 +38,54 @@ namings-append rows i (suc m) n =
     let f : suc i + m ≡ i + suc m = omega arith in
     ap (λ (k : ℕ). namings rows i k) e ∙ ap (λ (ns : Unfinished). rowNames rows i ∷ ns) (namings-append rows (suc i) m n ∙ ap (λ (k : ℕ). namings rows (suc i) m ++ namings rows k n) f)
 
+-- What one of the rows names is among what they name.
+row-among : (rows : List ℕ) (i n r x : ℕ) → i ≤ r → r < i + n → names (rowNames rows r) x ≡ true → namedLater (namings rows i n) x ≡ true
+row-among rows i n r x a b h =
+    let m = r - i in
+    let k = n - suc m in
+    let e : n ≡ m + suc k = omega arith in
+    let w : i + m ≡ r = omega arith in
+    ap (λ (c : ℕ). namedLater (namings rows i c) x) e
+    ∙ ap (λ (ns : Unfinished). namedLater ns x) (namings-append rows i m (suc k))
+    ∙ named-either (namings rows i m) (namings rows (i + m) (suc k)) x
+    ∙ ap (λ (b : Bool). pick (namedLater (namings rows i m) x) true b) (first-row rows (i + m) k x ∙ rw (w, h))
+    ∙ swapped (namedLater (namings rows i m) x) true
+
 -- ---- rows and the terms in them
 
 -- A term that names xs finishes after the others.
 named-last : (ns : Unfinished) (xs : List ℕ) (x : ℕ) → namedLater (ns ++ naming xs) x ≡ namedLater (xs ∷ ns) x
-unfolding namedLater
-named-last ns xs x = named-either ns (naming xs) x ∙ go (namedLater ns x) (names xs x)
-  where
-    go : (b c : Bool) → pick b true (elim c [ true ↦ true | false ↦ false ]) ≡ elim c [ true ↦ true | false ↦ b ]
-    go true true = refl
-    go true false = refl
-    go false true = refl
-    go false false = refl
+named-last ns xs x =
+    named-either ns (naming xs) x
+    ∙ ap (λ (b : Bool). pick (namedLater ns x) true b) (one-names xs x)
+    ∙ swapped (namedLater ns x) (names xs x)
+    ∙ sym (first-later xs ns x)
 
 module _ (nv : ℕ) where
   abbrev Below : List ℕ → Type 0
   Below xs = (x : ℕ) → names xs x ≡ true → x < nv
 
-  none-below : Below []
+  pub none-below : Below []
   unfolding names
   none-below x h = absurd (false≢true h)
 
   and-below : (y : ℕ) (ys : List ℕ) → ltb y nv ≡ true → Below ys → Below (y ∷ ys)
-  unfolding names
-  and-below y ys l k x h = go (eqb y x) refl h
-    where
-      go : (b : Bool) → eqb y x ≡ b → elim b [ true ↦ true | false ↦ names ys x ] ≡ true → x < nv
-      go true e h = subst (λ (z : ℕ). z < nv) (eqb-true y x e) (ltb-true y nv l)
-      go false e h = k x h
+  and-below y ys l k x h = one-holds (eqb y x) (names ys x) (sym (first-named y ys x) ∙ h) (λ e. subst (λ (z : ℕ). z < nv) (eqb-true y x e) (ltb-true y nv l)) (k x)
+
+  -- All that these terms name is below nv.
+  abbrev pub AllBelow : Unfinished → Type 0
+  AllBelow ns = (x : ℕ) → namedLater ns x ≡ true → x < nv
+
+  alone-below : (xs : List ℕ) → Below xs → AllBelow (naming xs)
+  alone-below xs b x h = b x (sym (one-names xs x) ∙ h)
+
+  both-below : (ms ns : Unfinished) → AllBelow ms → AllBelow ns → AllBelow (ms ++ ns)
+  both-below ms ns a b x h = one-holds (namedLater ms x) (namedLater ns x) (sym (named-either ms ns x) ∙ h) (a x) (b x)
+
+-- A block in its row, as a block of a choice.
+pub branch-is : (nv l : ℕ) (rows : List ℕ) (j : ℕ) (b : BlockRows nv l rows j) → blockAt (treeAt nv l rows) rows j ≡ some ((j, b .terms), b .end)
+unfolding branch
+branch-is nv l rows j b = rw (b .is, b .kind)
 
 module _ (nv : ℕ) (rows : List ℕ) where
   -- Row i names xs, all below nv.
@@ -78,7 +99,7 @@ module _ (nv : ℕ) (rows : List ℕ) where
     ends : j ≡ i + count
     one : 0 < count
     same : (x : ℕ) → namedLater ns x ≡ namedLater (namings rows i count) x
-    under : (r : ℕ) → i ≤ r → r < j → Below nv (rowNames rows r)
+    under : AllBelow nv ns
 
   row-alone : (i : ℕ) (xs : List ℕ) → Row i xs → Rows (naming xs) i (i + 1)
   unfolding namings
@@ -87,7 +108,7 @@ module _ (nv : ℕ) (rows : List ℕ) where
     ends = refl;
     one = omega arith;
     same = λ x. ap (λ (ys : List ℕ). namedLater (naming ys) x) (sym (R .names-these));
-    under = λ r a b. (let e : i ≡ r = omega arith in subst (λ (k : ℕ). Below nv (rowNames rows k)) e (subst (Below nv) (sym (R .names-these)) (R .under)));
+    under = alone-below nv xs (R .under);
   }
 
   -- A term around those in the rows after its own: it finishes last.
@@ -99,12 +120,8 @@ module _ (nv : ℕ) (rows : List ℕ) where
     one = omega arith;
     same = λ x. named-last ns xs x
         ∙ ap₂ (λ (ys : List ℕ) (b : Bool). elim (names ys x) [ true ↦ true | false ↦ b ]) (sym (R .names-these)) (S .same x ∙ ap (λ (k : ℕ). namedLater (namings rows k (S .count)) x) (add-one i));
-    under = λ r a b. go r a b (decLt i r);
+    under = both-below nv ns (naming xs) (S .under) (alone-below nv xs (R .under));
   }
-    where
-      go : (r : ℕ) → i ≤ r → r < j → Dec (i < r) → Below nv (rowNames rows r)
-      go r a b (yes l) = S .under r (omega arith) b
-      go r a b (no l) = let e : i ≡ r = omega arith in subst (λ (k : ℕ). Below nv (rowNames rows k)) e (subst (Below nv) (sym (R .names-these)) (R .under))
 
   -- Rows after rows.
   rows-then : (ns ms : Unfinished) (i j k : ℕ) → Rows ns i j → Rows ms j k → Rows (ns ++ ms) i k
@@ -116,12 +133,8 @@ module _ (nv : ℕ) (rows : List ℕ) where
         ∙ ap₂ (λ (b c : Bool). pick b true c) (R .same x) (S .same x ∙ ap (λ (h : ℕ). namedLater (namings rows h (S .count)) x) (R .ends))
         ∙ sym (named-either (namings rows i (R .count)) (namings rows (i + R .count) (S .count)) x)
         ∙ ap (λ (l : Unfinished). namedLater l x) (sym (namings-append rows i (R .count) (S .count)));
-    under = λ r a b. go r a b (decLt r j);
+    under = both-below nv ns ms (R .under) (S .under);
   }
-    where
-      go : (r : ℕ) → i ≤ r → r < k → Dec (r < j) → Below nv (rowNames rows r)
-      go r a b (yes l) = R .under r a l
-      go r a b (no l) = S .under r (omega arith) b
 
   -- ---- trees
 
@@ -179,8 +192,8 @@ module _ (nv : ℕ) (rows : List ℕ) where
         block-rows nv l rows i (around-inner branch (f i) (rw a at h)) (eqb-true _ _ a)
 
     block-with : (i : ℕ) → BlockRows nv l rows i → Names ofBlock i (blockAt f rows i)
-    unfolding branch finishing Names
-    block-with i b = let k = inner i in rw (b .is, b .kind) (rw (b .is) at k)
+    unfolding finishing Names
+    block-with i b = rw (branch-is nv l rows i b) (rw (b .is) at (inner i))
 
     block-in : (i : ℕ) → Names ofBlock i (blockAt f rows i)
     block-in i = if-names ofBlock i (blockAt f rows i) (λ h. block-with i (block-here i h))
@@ -270,9 +283,14 @@ pub several-names : (nv l : ℕ) (rows : List ℕ) (n i : ℕ) (ts : Terms) (j :
     → (i < j) × ((x : ℕ) → namedLater (finishingAll ts) x ≡ namedLater (namings rows i (j - i)) x)
 several-names nv l rows n i ts j e = rows-of nv rows (finishingAll ts) i j (all-stand nv rows l n i ts j e)
 
--- The variables that its rows name are below nv.
+-- What a term in rows names is below nv, and so is what its rows name.
+pub tree-below : (nv l : ℕ) (rows : List ℕ) (i : ℕ) (t : Term) (j : ℕ) → treeAt nv l rows i ≡ some (t, j) → AllBelow nv (finishing t)
+tree-below nv l rows i t j e = stands nv rows l i t j e .under
+
 pub rows-below : (nv l : ℕ) (rows : List ℕ) (i : ℕ) (t : Term) (j : ℕ) → treeAt nv l rows i ≡ some (t, j) → (r x : ℕ) → i ≤ r → r < j → names (rowNames rows r) x ≡ true → x < nv
-rows-below nv l rows i t j e r x a b h = stands nv rows l i t j e .under r a b x h
+rows-below nv l rows i t j e r x a b h =
+    let k = tree-names nv l rows i t j e in
+    tree-below nv l rows i t j e x (k .1 x ∙ row-among rows i (j - i) r x a (omega arith) h)
 
 pub row-below : (nv l : ℕ) (rows : List ℕ) (i : ℕ) → IsTree (treeAt nv l rows i) → (x : ℕ) → names (rowNames rows i) x ≡ true → x < nv
 row-below nv l rows i good x h = go (treeAt nv l rows i) refl good

@@ -7,7 +7,6 @@ mod Kept
 mod Inmost
 mod Term
 mod Terms
-use Prim.Native.Nat.{_+_, _-_}
 use Rattle.ownership.proofs.judge.judge_block.Reads as judge-block
 use Rattle.ownership.proofs.judge.+judge_block+judge_branches+judge_few_kept+judge_inmost+judge_many_kept+judge_term+judge_terms.Lts-judge_block as judge-block-lts
 use Rattle.ownership.proofs.judge.judge_branches.Reads as judge-branches

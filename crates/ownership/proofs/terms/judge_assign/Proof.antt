@@ -1,9 +1,9 @@
 -- `ownership::terms::judge_assign` meets its contract. Assumes nothing.
-use Prim.Native.Nat.{_-_}
 use native.Mathlib.Omega.{arith}
 use mathlib.Core.Path.{sym, ap, _∙_}
 use borrow.Author.Needs.{needs}
 use Rattle.rules.specs.declared.table.Place.{Place}
+use Rattle.ownership.proofs.AroundLaws.{last-wraps}
 use Rattle.ownership.proofs.WrittenLaws.{assign-refused, assign-fine}
 use Rattle.ownership.proofs.terms.judge_assign.Statement.{statement}
 use Rattle.ownership.proofs.terms.judge_assign.Tie as tie
@@ -11,7 +11,7 @@ use Rattle.ownership.proofs.terms.judge_assign.Tie as tie
 place-at-requires : tie.Need-place-at-requires
 place-at-requires c κs =
     let start = c .before .before .before in
-    (omega (arith, start .pre .3 (start .args .i - start .args .start) (omega (arith, start .pre .2)) .room, start .pre .2), omega arith)
+    (omega (arith, last-wraps _ _ _ _ (start .pre .2) (start .pre .3) .room), omega arith)
 
 judge-write-requires : tie.Need-judge-write-requires
 judge-write-requires c κs = search needs
@@ -42,7 +42,7 @@ index-of-requires c κs = search needs
 add-write-barred : tie.Need-add-write-barred
 add-write-barred c =
     let start = c .before .before .before .before .before .before .before .before .before .before .before .before in
-    omega (arith, start .pre .3 (start .args .i - start .args .start) (omega (arith, start .pre .2)) .room, start .pre .2)
+    omega (arith, last-wraps _ _ _ _ (start .pre .2) (start .pre .3) .room)
 
 sub-write-barred : tie.Need-sub-write-barred
 sub-write-barred c = search needs

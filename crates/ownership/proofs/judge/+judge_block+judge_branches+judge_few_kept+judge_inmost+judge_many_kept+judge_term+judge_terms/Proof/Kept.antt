@@ -1,5 +1,5 @@
 -- What `judge_few_kept` and `judge_many_kept` owe: room for the state that is kept.
-use Prim.Native.Nat.{ℕ, _-_}
+use Prim.Native.Nat.{ℕ}
 use native.Mathlib.Omega.{arith}
 use mathlib.Core.Path.{refl}
 use Rattle.ownership.proofs.judge.judge_branches.Reads as judge-branches
