@@ -8,7 +8,7 @@ use mathlib.Core.Bool.{Bool, true, false, false≢true, true≢false}
 use Rattle.reader.specs.Result.{pick}
 use Rattle.rules.specs.Environment.{Borrow, Variable, Slot, free, used, live, Environment, holding}
 use Rattle.rules.specs.Uses.{Unfinished, namedLater}
-use Rattle.rules.specs.Bars.{borrowsAny, heldBy, held, spread, inUse, InUse, named, held-by}
+use Rattle.rules.specs.Bars.{borrowsAny, heldBy, held, reachable, inUse, InUse, named, held-by}
 use Rattle.rules.proofs.Answers.{same-bool}
 use Rattle.rules.proofs.Pigeon.{pigeon}
 
@@ -78,45 +78,45 @@ module _ (b : ℕ → Bool) (nv : ℕ) (Γ : Environment) where
   Edge y x = heldBy borrowsAny (Γ y) x ≡ true
 
   abbrev In : ℕ → ℕ → Type 0
-  In k x = spread b nv k Γ x ≡ true
+  In k x = reachable b nv k Γ x ≡ true
 
   from-base : (k x : ℕ) → b x ≡ true → In (suc k) x
-  unfolding spread
+  unfolding reachable
   from-base k x e = go (b x) e
     where
-      go : (c : Bool) → c ≡ true → elim c [ true ↦ true | false ↦ held borrowsAny (λ y. spread b nv k Γ y) nv Γ x ] ≡ true
+      go : (c : Bool) → c ≡ true → elim c [ true ↦ true | false ↦ held borrowsAny (λ y. reachable b nv k Γ y) nv Γ x ] ≡ true
       go true q = refl
       go false q = absurd (false≢true q)
 
   from-step : (k y x : ℕ) → y < nv → Edge y x → In k y → In (suc k) x
-  unfolding spread
+  unfolding reachable
   from-step k y x l e u = go (b x)
     where
-      go : (c : Bool) → elim c [ true ↦ true | false ↦ held borrowsAny (λ y. spread b nv k Γ y) nv Γ x ] ≡ true
+      go : (c : Bool) → elim c [ true ↦ true | false ↦ held borrowsAny (λ y. reachable b nv k Γ y) nv Γ x ] ≡ true
       go true = refl
-      go false = holder-counts borrowsAny (λ y. spread b nv k Γ y) Γ x nv y l e u
+      go false = holder-counts borrowsAny (λ y. reachable b nv k Γ y) Γ x nv y l e u
 
   came : (k x : ℕ) → In (suc k) x → (b x ≡ true) ⊎ ((y : ℕ) × (y < nv) × (Edge y x) × (In k y))
-  unfolding spread
+  unfolding reachable
   came k x e = go (b x) refl e
     where
-      go : (c : Bool) → b x ≡ c → elim c [ true ↦ true | false ↦ held borrowsAny (λ y. spread b nv k Γ y) nv Γ x ] ≡ true
+      go : (c : Bool) → b x ≡ c → elim c [ true ↦ true | false ↦ held borrowsAny (λ y. reachable b nv k Γ y) nv Γ x ] ≡ true
           → (b x ≡ true) ⊎ ((y : ℕ) × (y < nv) × (Edge y x) × (In k y))
       go true q w = inl q
-      go false q w = inr (held-some borrowsAny (λ y. spread b nv k Γ y) Γ x nv w)
+      go false q w = inr (held-some borrowsAny (λ y. reachable b nv k Γ y) Γ x nv w)
 
   -- The least such set.
-  spread-least : (P : ℕ → Type 0) → ((x : ℕ) → b x ≡ true → P x) → ((y x : ℕ) → y < nv → Edge y x → P y → P x) → (k x : ℕ) → In k x → P x
-  unfolding spread
-  spread-least P pb ps zero x e = absurd (false≢true e)
-  spread-least P pb ps (suc k) x e = go (λ y. spread-least P pb ps k y) (came k x e)
+  reachable-least : (P : ℕ → Type 0) → ((x : ℕ) → b x ≡ true → P x) → ((y x : ℕ) → y < nv → Edge y x → P y → P x) → (k x : ℕ) → In k x → P x
+  unfolding reachable
+  reachable-least P pb ps zero x e = absurd (false≢true e)
+  reachable-least P pb ps (suc k) x e = go (λ y. reachable-least P pb ps k y) (came k x e)
     where
       go : ((y : ℕ) → In k y → P y) → (b x ≡ true) ⊎ ((y : ℕ) × (y < nv) × (Edge y x) × (In k y)) → P x
       go ih (inl q) = pb x q
       go ih (inr r) = ps (r .0) x (r .1) (r .2) (ih (r .0) (r .3))
 
   one-more : (k x : ℕ) → In k x → In (suc k) x
-  unfolding spread
+  unfolding reachable
   one-more zero x e = absurd (false≢true e)
   one-more (suc k) x e = go (λ y. one-more k y) (came k x e)
     where
@@ -130,19 +130,19 @@ module _ (b : ℕ → Bool) (nv : ℕ) (Γ : Environment) where
 
   -- f i is reached in i + 1 steps and not in i.
   NewAt : ℕ → (ℕ → ℕ) → Type 0
-  NewAt k f = (i : ℕ) → i ≤ k → (f i < nv) × (In (suc i) (f i)) × (spread b nv i Γ (f i) ≡ false)
+  NewAt k f = (i : ℕ) → i ≤ k → (f i < nv) × (In (suc i) (f i)) × (reachable b nv i Γ (f i) ≡ false)
 
-  new-at : (k x : ℕ) → x < nv → In (suc k) x → spread b nv k Γ x ≡ false → (f : ℕ → ℕ) × NewAt k f
+  new-at : (k x : ℕ) → x < nv → In (suc k) x → reachable b nv k Γ x ≡ false → (f : ℕ → ℕ) × NewAt k f
   unfolding NewAt
-  new-at zero x l e n = (λ i. x, λ i h. (l, subst (λ (m : ℕ). In (suc m) x) (omega arith) e, subst (λ (m : ℕ). spread b nv m Γ x ≡ false) (omega arith) n))
+  new-at zero x l e n = (λ i. x, λ i h. (l, subst (λ (m : ℕ). In (suc m) x) (omega arith) e, subst (λ (m : ℕ). reachable b nv m Γ x ≡ false) (omega arith) n))
   new-at (suc k) x l e n = go (λ y. new-at k y) (came (suc k) x e)
     where
-      go : ((y : ℕ) → y < nv → In (suc k) y → spread b nv k Γ y ≡ false → (f : ℕ → ℕ) × NewAt k f)
+      go : ((y : ℕ) → y < nv → In (suc k) y → reachable b nv k Γ y ≡ false → (f : ℕ → ℕ) × NewAt k f)
           → (b x ≡ true) ⊎ ((y : ℕ) × (y < nv) × (Edge y x) × (In (suc k) y)) → (f : ℕ → ℕ) × NewAt (suc k) f
       go ih (inl q) = absurd (true≢false (sym (from-base k x q) ∙ n))
-      go ih (inr r) = with-y (boolean (spread b nv k Γ (r .0)))
+      go ih (inr r) = with-y (boolean (reachable b nv k Γ (r .0)))
         where
-          with-y : (In k (r .0)) ⊎ (spread b nv k Γ (r .0) ≡ false) → (f : ℕ → ℕ) × NewAt (suc k) f
+          with-y : (In k (r .0)) ⊎ (reachable b nv k Γ (r .0) ≡ false) → (f : ℕ → ℕ) × NewAt (suc k) f
           with-y (inl w) = absurd (true≢false (sym (from-step k (r .0) x (r .1) (r .2) w) ∙ n))
           with-y (inr w) = join (ih (r .0) (r .1) (r .3) w)
             where
@@ -153,15 +153,15 @@ module _ (b : ℕ → Bool) (nv : ℕ) (Γ : Environment) where
                   at i (yes h) = F .0 i
                   at i (no h) = x
 
-                  step : (i : ℕ) → i ≤ suc k → (d : Dec (i ≤ k)) → (at i d < nv) × (In (suc i) (at i d)) × (spread b nv i Γ (at i d) ≡ false)
+                  step : (i : ℕ) → i ≤ suc k → (d : Dec (i ≤ k)) → (at i d < nv) × (In (suc i) (at i d)) × (reachable b nv i Γ (at i d) ≡ false)
                   step i h (yes q) = F .1 i q
                   step i h (no q) = let z : i ≡ suc k = omega arith in (l, rw z e, rw z n)
 
   enough : (x : ℕ) → x < nv → In (suc nv) x → In nv x
   unfolding NewAt
-  enough x l e = go (boolean (spread b nv nv Γ x))
+  enough x l e = go (boolean (reachable b nv nv Γ x))
     where
-      go : (In nv x) ⊎ (spread b nv nv Γ x ≡ false) → In nv x
+      go : (In nv x) ⊎ (reachable b nv nv Γ x ≡ false) → In nv x
       go (inl q) = q
       go (inr q) =
           let L = new-at nv x l e q in
@@ -174,7 +174,7 @@ module _ (b : ℕ → Bool) (nv : ℕ) (Γ : Environment) where
               not-below i j lt hi hj q =
                   let u = some-more (j - suc i) (suc i) (f i) (F i (omega arith) .1) in
                   let w : In j (f i) = subst (λ (m : ℕ). In m (f i)) (omega arith) u in
-                  true≢false (sym w ∙ ap (λ (y : ℕ). spread b nv j Γ y) q ∙ F j (omega arith) .2)
+                  true≢false (sym w ∙ ap (λ (y : ℕ). reachable b nv j Γ y) q ∙ F j (omega arith) .2)
 
               order : Dec (i < j) → Dec (j < i) → i ≡ j
               order (yes a) d = absurd (not-below i j a hi hj q)
@@ -184,7 +184,7 @@ module _ (b : ℕ → Bool) (nv : ℕ) (Γ : Environment) where
 module _ (nv : ℕ) (ns : Unfinished) (Γ : Environment) where
   pub in-use-named : (x : ℕ) → x < nv → namedLater ns x ≡ true → inUse nv ns Γ x ≡ true
   unfolding inUse
-  in-use-named x l e = subst (λ (k : ℕ). spread (λ y. namedLater ns y) nv k Γ x ≡ true) (omega arith) (from-base (λ y. namedLater ns y) nv Γ (nv - 1) x e)
+  in-use-named x l e = subst (λ (k : ℕ). reachable (λ y. namedLater ns y) nv k Γ x ≡ true) (omega arith) (from-base (λ y. namedLater ns y) nv Γ (nv - 1) x e)
 
   pub in-use-held : (y x : ℕ) → y < nv → x < nv → heldBy borrowsAny (Γ y) x ≡ true → inUse nv ns Γ y ≡ true → inUse nv ns Γ x ≡ true
   unfolding inUse
@@ -194,7 +194,7 @@ module _ (nv : ℕ) (ns : Unfinished) (Γ : Environment) where
   pub in-use-least : (P : ℕ → Type 0) → ((x : ℕ) → namedLater ns x ≡ true → P x)
       → ((y x : ℕ) → y < nv → heldBy borrowsAny (Γ y) x ≡ true → P y → P x) → (x : ℕ) → inUse nv ns Γ x ≡ true → P x
   unfolding inUse
-  in-use-least P pb ps x e = spread-least (λ y. namedLater ns y) nv Γ P pb ps nv x e
+  in-use-least P pb ps x e = reachable-least (λ y. namedLater ns y) nv Γ P pb ps nv x e
 
   -- These are those of the least set, without a bound, where those in scope are below the number of variables.
   pub in-use-is : (low : (x : ℕ) (v : Variable) → Γ x ≡ live v → x < nv) → (x : ℕ) → x < nv → (inUse nv ns Γ x ≡ true → InUse ns Γ x) × (InUse ns Γ x → inUse nv ns Γ x ≡ true)
@@ -205,8 +205,8 @@ module _ (nv : ℕ) (ns : Unfinished) (Γ : Environment) where
       back x l (held-by {y} e u) = let v = held-out borrowsAny (Γ y) x e in let w = low y (v .0) (v .1) in in-use-held y x w l e (back y w u)
 
   -- The bound decides nothing: a greater one gives the same.
-  pub in-use-bound : (k : ℕ) → nv ≤ k → (x : ℕ) → x < nv → spread (λ y. namedLater ns y) nv k Γ x ≡ inUse nv ns Γ x
+  pub in-use-bound : (k : ℕ) → nv ≤ k → (x : ℕ) → x < nv → reachable (λ y. namedLater ns y) nv k Γ x ≡ inUse nv ns Γ x
   unfolding inUse
-  in-use-bound k le x l = same-bool (spread (λ y. namedLater ns y) nv k Γ x) (spread (λ y. namedLater ns y) nv nv Γ x)
-      (λ e. spread-least (λ y. namedLater ns y) nv Γ (λ y. y < nv → inUse nv ns Γ y ≡ true) (λ y n b. in-use-named y b n) (λ y z b e u c. in-use-held y z b c e (u b)) k x e l)
-      (λ e. subst (λ (j : ℕ). spread (λ y. namedLater ns y) nv j Γ x ≡ true) (omega arith) (some-more (λ y. namedLater ns y) nv Γ (k - nv) nv x e))
+  in-use-bound k le x l = same-bool (reachable (λ y. namedLater ns y) nv k Γ x) (reachable (λ y. namedLater ns y) nv nv Γ x)
+      (λ e. reachable-least (λ y. namedLater ns y) nv Γ (λ y. y < nv → inUse nv ns Γ y ≡ true) (λ y n b. in-use-named y b n) (λ y z b e u c. in-use-held y z b c e (u b)) k x e l)
+      (λ e. subst (λ (j : ℕ). reachable (λ y. namedLater ns y) nv j Γ x ≡ true) (omega arith) (some-more (λ y. namedLater ns y) nv Γ (k - nv) nv x e))

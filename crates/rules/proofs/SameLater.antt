@@ -10,7 +10,7 @@ use Rattle.reader.specs.Script.{Place, Term, number, reading, copy, move, borro
 use Rattle.reader.specs.Measures.{size, sizes}
 use Rattle.rules.specs.Environment.{Borrow, Environment, used, Ty, update}
 use Rattle.rules.specs.Uses.{Unfinished, naming, finishing, finishingAll, namedLater}
-use Rattle.rules.specs.Bars.{borrowsAny, borrowsExclusive, held, spread, inUse}
+use Rattle.rules.specs.Bars.{borrowsAny, borrowsExclusive, held, reachable, inUse}
 use Rattle.rules.specs.Choice.{carried}
 use Rattle.rules.specs.Rules.{judgeReadable, judgeCopy, judgeMove, judgeShared, judgeExclusive, judgeWrite, judgeAssign, judgeNumber, judgeBelow}
 use Rattle.rules.specs.Judge.{judge, judges}
@@ -23,11 +23,11 @@ use Rattle.rules.proofs.InUse.{held-same}
 abbrev pub SameLater : ℕ → Unfinished → Unfinished → Type 0
 SameLater nv ms ns = (x : ℕ) → x < nv → namedLater ms x ≡ namedLater ns x
 
-spread-same : (nv : ℕ) (Γ : Environment) (f g : ℕ → Bool) → ((x : ℕ) → x < nv → f x ≡ g x) → (k x : ℕ) → x < nv → spread f nv k Γ x ≡ spread g nv k Γ x
-unfolding spread
-spread-same nv Γ f g e zero x l = refl
-spread-same nv Γ f g e (suc k) x l =
-    ap₂ (λ (b c : Bool). elim b [ true ↦ true | false ↦ c ]) (e x l) (held-same borrowsAny Γ x (λ y. spread f nv k Γ y) (λ y. spread g nv k Γ y) nv (λ y h. spread-same nv Γ f g e k y h))
+reachable-same : (nv : ℕ) (Γ : Environment) (f g : ℕ → Bool) → ((x : ℕ) → x < nv → f x ≡ g x) → (k x : ℕ) → x < nv → reachable f nv k Γ x ≡ reachable g nv k Γ x
+unfolding reachable
+reachable-same nv Γ f g e zero x l = refl
+reachable-same nv Γ f g e (suc k) x l =
+    ap₂ (λ (b c : Bool). elim b [ true ↦ true | false ↦ c ]) (e x l) (held-same borrowsAny Γ x (λ y. reachable f nv k Γ y) (λ y. reachable g nv k Γ y) nv (λ y h. reachable-same nv Γ f g e k y h))
 
 module _ (nv : ℕ) where
   -- The same terms before both.
@@ -39,7 +39,7 @@ module _ (nv : ℕ) where
 
     in-use-same : (Γ : Environment) (x : ℕ) → x < nv → inUse nv ms Γ x ≡ inUse nv ns Γ x
     unfolding inUse
-    in-use-same Γ x l = spread-same nv Γ (λ y. namedLater ms y) (λ y. namedLater ns y) S nv x l
+    in-use-same Γ x l = reachable-same nv Γ (λ y. namedLater ms y) (λ y. namedLater ns y) S nv x l
 
     barred-same : (h : Borrow → ℕ → Bool) (Γ : Environment) (x : ℕ) → held h (inUse nv ms Γ) nv Γ x ≡ held h (inUse nv ns Γ) nv Γ x
     barred-same h Γ x = held-same h Γ x (inUse nv ms Γ) (inUse nv ns Γ) nv (in-use-same Γ)

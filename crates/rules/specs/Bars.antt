@@ -30,14 +30,14 @@ held h these (suc n) Γ x =
     elim (heldBy h (Γ n) x) [ true ↦ elim (these n) [ true ↦ true | false ↦ held h these n Γ x ] | false ↦ held h these n Γ x ]
 
 -- Those to begin with, the roots of places that they hold, and so on, at most k in a row.
-unfoldable pub spread : (ℕ → Bool) → ℕ → ℕ → Environment → ℕ → Bool
-spread these nv zero Γ x = false
-spread these nv (suc k) Γ x = elim (these x) [ true ↦ true | false ↦ held borrowsAny (λ y. spread these nv k Γ y) nv Γ x ]
+unfoldable pub reachable : (ℕ → Bool) → ℕ → ℕ → Environment → ℕ → Bool
+reachable these nv zero Γ x = false
+reachable these nv (suc k) Γ x = elim (these x) [ true ↦ true | false ↦ held borrowsAny (λ y. reachable these nv k Γ y) nv Γ x ]
 
 -- In use (LANGUAGE 3.34): a term that has not finished names it, or a variable in use holds a borrow of a place rooted in it. As many in a row
 -- as there are variables are enough: proofs/InUse says that these are those of `InUse`, which has no bound.
 unfoldable pub inUse : ℕ → Unfinished → Environment → ℕ → Bool
-inUse nv ns Γ x = spread (λ y. namedLater ns y) nv nv Γ x
+inUse nv ns Γ x = reachable (λ y. namedLater ns y) nv nv Γ x
 
 -- The same without a bound: the least set with both. Two that only hold each other are not in it.
 pub data InUse (ns : Unfinished) (Γ : Environment) : ℕ → Type 0 where

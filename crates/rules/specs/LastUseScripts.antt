@@ -168,7 +168,7 @@ unfolding
     Environment.borrowEnd Environment.update Environment.write Environment.isFree Environment.levelOf Environment.borrowOf Environment.borrowsAt Environment.livesAt Environment.leaveSlot Environment.leave Environment.holding
     Follow.past Follow.onward Follow.onMet Follow.meetAll Follow.follow Follow.ownLink Follow.ownPath Follow.wholeSlot Follow.wholeThere Follow.valueWhole
     Measures.size Uses.finishing Uses.names Uses.namedLater
-    Bars.borrowsAny Bars.borrowsExclusive Bars.heldBy Bars.held Bars.spread Bars.inUse
+    Bars.borrowsAny Bars.borrowsExclusive Bars.heldBy Bars.held Bars.reachable Bars.inUse
     Choice.carried Choice.earlier Choice.joined Choice.agreeing
     Rules.inScope Rules.reached Rules.valued Rules.judgePlace Rules.judgeReadable Rules.judgeCopy Rules.judgeMove Rules.recordedPlaces Rules.judgeShared Rules.judgeExclusive Rules.judgeBox Rules.judgeLet Rules.judgeWrite Rules.judgeAssign Rules.judgeNumber Rules.judgeBelow Rules.judgeBlockEnd Rules.judgeChoice
 scripts-judged = (refl, refl, refl, refl, refl, refl, refl, refl, refl, refl, refl)

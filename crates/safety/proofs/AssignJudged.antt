@@ -5,7 +5,7 @@ use native.Mathlib.Omega.{arith}
 use native.Mathlib.Decide.{ℕ-discrete, decLt}
 use mathlib.Core.Path.{_≡_, refl, sym, ap, _∙_, subst}
 use mathlib.Core.Logic.{_≢_, _⊎_, inl, inr}
-use mathlib.Core.Bool.{true, false, true≢false, not}
+use mathlib.Core.Bool.{Bool, true, false, not}
 use mathlib.Core.Option.{Option, none, some}
 use mathlib.Core.List.{List}
 use lib.ListN.{take, drop}
@@ -33,17 +33,17 @@ use Rattle.safety.proofs.Memory.{Name, inFlight, inDrop, var, has, var�
 use Rattle.safety.proofs.NameMaps.{upd, upd-same, upd-other}
 use Rattle.safety.proofs.Ghost.{vacant}
 use Rattle.safety.proofs.Ghost as Gh
-use Rattle.safety.proofs.Typing.{borrowed, Fits, boxes, Reach, here, hop, Holds, Typed}
+use Rattle.safety.proofs.Typing.{borrowed, Fits, boxes, Reach, here, hop, Holds}
 use Rattle.safety.proofs.Chains.{fits-up}
 use Rattle.safety.proofs.Paths.{end-live}
 use Rattle.safety.proofs.OnPath.{agreed, ranked}
-use Rattle.safety.proofs.Fading.{faded, fade-none, without, without-off, without-on, without-typed, without-holds, without-none}
-use Rattle.safety.proofs.Known.{Known, by-name, by-flight, by-holder, known-less}
+use Rattle.safety.proofs.Fading.{faded, fade-none}
+use Rattle.safety.proofs.Known.{Known, by-flight, by-holder, known-least, known-less}
 use Rattle.safety.proofs.Covering.{borrow-among, Covered, covers, vacant≢live, covered-back, covered-fresh}
-use Rattle.safety.proofs.Widening.{Wide, wide-same, wide-old, wide-new, without-covers}
+use Rattle.safety.proofs.Widening.{Wide, wide-same, wide-old, wide-new}
 use Rattle.safety.proofs.Inversion.{write-allowed, is-held}
-use Rattle.safety.proofs.Invariant.{nobody, Invariant, holder-var, level-of}
-use Rattle.safety.proofs.Settling.{Used, Unused, unused-dec, is-used}
+use Rattle.safety.proofs.Invariant.{Invariant, holder-var, level-of}
+use Rattle.safety.proofs.Settling.{Forgot, forget, Used}
 use Rattle.safety.proofs.Finding.{Found}
 use Rattle.safety.proofs.Following.{judged-found}
 use Rattle.safety.proofs.Progress.{Progress}
@@ -57,7 +57,7 @@ module _ {nv : ℕ} {ns : Unfinished} {Γ : Environment} {t : Ty} {lv : ℕ} {s 
       (unshared : noShared (take (p .follows) (l .root .chain)) ≡ true) (links : drop (p .follows) (l .root .chain) ≡ t .links)
       (lvl : every (λ (q : Place). livesAt Γ (t .borrow) (levelOf (Γ (q .root)))) (l .to) ≡ true)
       (bar : writeBarred nv js (write Γ (l .to) (t .borrow)) (p .root) ≡ false) where
-    -- The variable finally written.
+    -- The variable that the run writes.
     written : (V₀ : Variable) × (Γ (F .c) ≡ live V₀) × (W : Gh.Variable) × (I .Θ (var (F .c)) ≡ Gh.live W) × (Covered (Known ns (I .Θ) (var (F .c))) W V₀) × (F .d ≤ boxes W)
     written =
         let e = end-live (F .reach) in
@@ -95,7 +95,7 @@ module _ {nv : ℕ} {ns : Unfinished} {Γ : Environment} {t : Ty} {lv : ℕ} {s 
         let m : leadingBoxes (h .0 .chain) ≡ leadingBoxes (o .0 .chain) = ap leadingBoxes (o .2 .chain) in
         (o .0, h .1, o .1, omega (arith, h .3, o .3), borrow-among B k (K .at))
 
-    -- So what it holds is in use if it is.
+    -- So if it is in use, what it holds is.
     other-held : (y : ℕ) (q : Gh.Variable) (k : Place) → Holds (I .Θ) (var y) q k → y ≢ F .c → inUse nv js Γ′ y ≡ true → inUse nv js Γ′ (k .root) ≡ true
     other-held y q k K n u =
         let h = other-holds y q k K n in
@@ -106,106 +106,71 @@ module _ {nv : ℕ} {ns : Unfinished} {Γ : Environment} {t : Ty} {lv : ℕ} {s 
     root-used : inUse nv js Γ′ (p .root) ≡ true
     root-used = in-use-named nv js Γ′ (p .root) (I .typed .bound (p .root) (F .X) (F .isX)) nj
 
-    -- ---- whoever is not forgets what it borrows, and so does the value in flight if B
+    -- ---- whoever is not forgets what it borrows, and so does the value in flight if b
 
-    module _ (B : Type 0) (bDec : Dec B) where
-      Θ₀ : Name → Gh.Slot
-      Θ₀ = without (I .Θ) (Unused nv js Γ′ B) (unused-dec nv js Γ′ B bDec)
+    module _ (b : Bool) where
+      E : Forgot js Γ′ I b
+      E = forget js Γ′ I b
 
-      same : (z : Name) → (Unused nv js Γ′ B z → ⊥) → Θ₀ z ≡ I .Θ z
-      unfolding Θ₀
-      same z h = without-off (I .Θ) (Unused nv js Γ′ B) (unused-dec nv js Γ′ B bDec) z h
-
-      T₀ : Typed nv nobody Θ₀ (I .H) (I .ρ) (I .rank)
-      unfolding Θ₀
-      T₀ = without-typed (I .typed) (Unused nv js Γ′ B) (unused-dec nv js Γ′ B bDec)
-
-      back : (y : Name) (Q : Gh.Variable) (k : Place) → Holds Θ₀ y Q k → Holds (I .Θ) y Q k
-      unfolding Θ₀
-      back y Q k K = without-holds (I .typed) (Unused nv js Γ′ B) (unused-dec nv js Γ′ B bDec) y Q k K
-
-      -- Who still holds something is in use.
-      used-still : (y : ℕ) (Q : Gh.Variable) (k : Place) → Holds Θ₀ (var y) Q k → inUse nv js Γ′ y ≡ true
-      unfolding Θ₀
-      used-still y Q k K = is-used nv js Γ′ B y (λ h. without-none (I .typed) (Unused nv js Γ′ B) (unused-dec nv js Γ′ B bDec) (var y) Q k h K)
-
-      used-same : (x : ℕ) → inUse nv js Γ′ x ≡ true → Θ₀ (var x) ≡ I .Θ (var x)
-      used-same x u = same (var x) (λ h. true≢false (sym u ∙ h))
-
-      -- The path is as it was: ranks fall along it, so that no name before its end is the variable written.
+      -- The path is as it was: ranks decrease along it, so that no name before its end is the variable written.
       path : {y : Name} {r : ℕ} (x : ℕ) → y ≡ var x → inUse nv js Γ′ x ≡ true → Reach (I .Θ) (var (F .c)) (F .d) y r
-          → (Reach Θ₀ (var (F .c)) (F .d) y r) × (inUse nv js Γ′ (F .c) ≡ true)
-      path x e u (here Q f a b) = let z : x ≡ F .c = cc in let w : inUse nv js Γ′ (F .c) ≡ true = subst (λ (k : ℕ). inUse nv js Γ′ k ≡ true) z u in (here Q (used-same (F .c) w ∙ f) a b, w)
+          → (Reach (E .Θ) (var (F .c)) (F .d) y r) × (inUse nv js Γ′ (F .c) ≡ true)
+      path x e u (here Q f a b) = let z : x ≡ F .c = cc in let w : inUse nv js Γ′ (F .c) ≡ true = subst (λ (k : ℕ). inUse nv js Γ′ k ≡ true) z u in (here Q (E .same (F .c) w ∙ f) a b, w)
       path {y} {r} x e u (hop Q q f g a b D) =
           let K : Holds (I .Θ) (var x) Q q = record { is = ap (I .Θ) (sym e) ∙ f; whole = a; at = g } in
           let R = I .typed .at (var x) Q (K .is) .refs a q g in
           let lo = R .lower in
           let n : x ≢ F .c = λ z. let k = ranked (I .typed) D in let m : I .rank (var x) ≡ I .rank (var (F .c)) = ap (λ (k : ℕ). I .rank (var k)) z in omega arith in
           let P = path (q .root) refl (other-held x Q q K n u) D in
-          (hop {r = r} Q q (ap Θ₀ e ∙ used-same x u ∙ K .is) g a b (P .0), P .1)
+          (hop {r = r} Q q (ap (E .Θ) e ∙ E .same x u ∙ K .is) g a b (P .0), P .1)
 
-      D₀ : (Reach Θ₀ (var (F .c)) (F .d) (var (p .root)) (p .follows)) × (inUse nv js Γ′ (F .c) ≡ true)
+      D₀ : (Reach (E .Θ) (var (F .c)) (F .d) (var (p .root)) (p .follows)) × (inUse nv js Γ′ (F .c) ≡ true)
       D₀ = path (p .root) refl root-used (F .reach)
 
-      idle₀ : Θ₀ inDrop ≡ vacant
-      idle₀ = same inDrop (λ h. h) ∙ I .idle
-
       -- U is the value in flight as it is then known.
-      module _ (U : Gh.Variable) (eU : Θ₀ inFlight ≡ Gh.live U)
-          (kept : (k : Place) → borrowed (U .borrow) ≡ some k → borrowed (flying I .0 .borrow) ≡ some k)
+      module _ (U : Gh.Variable) (kept : (k : Place) → borrowed (U .borrow) ≡ some k → borrowed (flying I .0 .borrow) ≡ some k)
           (taken : (k : Place) → borrowed (U .borrow) ≡ some k → heldBy borrowsAny (Γ′ (F .c)) (k .root) ≡ true) where
         W′ : Gh.Variable
         W′ = Gh.fresh (written .2 .chain) (U .borrow) (written .2 .level)
 
         Θ₁ : Name → Gh.Slot
-        Θ₁ = assigned Θ₀ (var (F .c)) W′
+        Θ₁ = assigned (E .Θ) (var (F .c)) W′
 
         -- Whoever holds something afterwards: the variable written, what the value borrows; or another variable, as before.
-        Holder : Name → Place → Type 0
+        abbrev Holder : Name → Place → Type 0
         Holder y k = ((y ≡ var (F .c)) × (borrowed (U .borrow) ≡ some k)) ⊎ ((x : ℕ) × (y ≡ var x) × (x ≢ F .c) × (Q : Gh.Variable) × (Holds (I .Θ) (var x) Q k))
 
         holder₁ : (y : Name) (Q : Gh.Variable) (k : Place) → Holds Θ₁ y Q k → Holder y k
-        unfolding W′ Θ₁ Holder
-        holder₁ inFlight Q k K = absurd (vacant≢live (sym (upd-same (upd Θ₀ (var (F .c)) (Gh.live W′)) inFlight vacant) ∙ K .is))
-        holder₁ inDrop Q k K = absurd (vacant≢live (sym (upd-other (upd Θ₀ (var (F .c)) (Gh.live W′)) inFlight vacant inDrop drop≢flight ∙ upd-other Θ₀ (var (F .c)) (Gh.live W′) inDrop (λ e. var≢drop (sym e)) ∙ idle₀) ∙ K .is))
+        unfolding W′ Θ₁
+        holder₁ inFlight Q k K = absurd (vacant≢live (sym (upd-same (upd (E .Θ) (var (F .c)) (Gh.live W′)) inFlight vacant) ∙ K .is))
+        holder₁ inDrop Q k K = absurd (vacant≢live (sym (upd-other (upd (E .Θ) (var (F .c)) (Gh.live W′)) inFlight vacant inDrop drop≢flight ∙ upd-other (E .Θ) (var (F .c)) (Gh.live W′) inDrop (λ e. var≢drop (sym e)) ∙ E .idle) ∙ K .is))
         holder₁ (var x) Q k K = go (ℕ-discrete x (F .c))
           where
-            go : Dec (x ≡ F .c) → ((var x ≡ var (F .c)) × (borrowed (U .borrow) ≡ some k)) ⊎ ((z : ℕ) × (var x ≡ var z) × (z ≢ F .c) × (Q : Gh.Variable) × (Holds (I .Θ) (var z) Q k))
+            go : Dec (x ≡ F .c) → Holder (var x) k
             go (yes e) =
-                let f : Gh.live W′ ≡ Gh.live Q = sym (upd-other (upd Θ₀ (var (F .c)) (Gh.live W′)) inFlight vacant (var (F .c)) var≢flight ∙ upd-same Θ₀ (var (F .c)) (Gh.live W′)) ∙ ap (λ (y : ℕ). upd (upd Θ₀ (var (F .c)) (Gh.live W′)) inFlight vacant (var y)) (sym e) ∙ K .is in
+                let f : Gh.live W′ ≡ Gh.live Q = sym (upd-other (upd (E .Θ) (var (F .c)) (Gh.live W′)) inFlight vacant (var (F .c)) var≢flight ∙ upd-same (E .Θ) (var (F .c)) (Gh.live W′)) ∙ ap (λ (y : ℕ). upd (upd (E .Θ) (var (F .c)) (Gh.live W′)) inFlight vacant (var y)) (sym e) ∙ K .is in
                 let u : W′ ≡ Q = cc in
                 inl (ap var e, ap (λ (q : Gh.Variable). borrowed (q .borrow)) u ∙ K .at)
-            go (no n) = inr (x, refl, n, Q, back (var x) Q k (record { is = sym (upd-other (upd Θ₀ (var (F .c)) (Gh.live W′)) inFlight vacant (var x) var≢flight ∙ upd-other Θ₀ (var (F .c)) (Gh.live W′) (var x) (λ e. n (cc))) ∙ K .is; whole = K .whole; at = K .at }))
+            go (no n) = inr (x, refl, n, Q, E .back (var x) Q k (record { is = sym (upd-other (upd (E .Θ) (var (F .c)) (Gh.live W′)) inFlight vacant (var x) var≢flight ∙ upd-other (E .Θ) (var (F .c)) (Gh.live W′) (var x) (λ e. n (cc))) ∙ K .is; whole = K .whole; at = K .at }))
 
         known₁ : {z : Name} → Known ns Θ₁ z → Known ns (I .Θ) z
-        unfolding Holder
         known₁ = known-less (λ x e. e) (λ y Q k kn K. elim (holder₁ y Q k K) [
           | inl h ↦ by-holder (flying I .0) k by-flight (record { is = flying I .1; whole = flying-whole I; at = kept k (h .1) })
           | inr h ↦ by-holder (h .3) k (subst (λ (z : Name). Known ns (I .Θ) z) (h .1) kn) (h .4)
         ])
 
         -- A variable known afterwards is in use.
-        known-used : {z : Name} → Known ns Θ₁ z → (x : ℕ) → z ≡ var x → x < nv → inUse nv js Γ′ x ≡ true
-        unfolding Holder Γ′
-        known-used (by-name {x = y} e) x q lt = let z : y ≡ x = cc in H₀ x lt (rw (← z) e)
-        known-used by-flight x q lt = absurd (var≢flight (sym q))
-        known-used (by-holder {y = y} Q k kn K) x q lt = go (λ z f b. known-used kn z f b) (holder₁ y Q k K)
-          where
-            is : k .root ≡ x
-            is = cc
+        known-used : (x : ℕ) → Known ns Θ₁ (var x) → x < nv → inUse nv js Γ′ x ≡ true
+        unfolding Γ′
+        known-used = known-least (λ x. x < nv → inUse nv js Γ′ x ≡ true) (λ x e lt. H₀ x lt e) (λ y Q k K u lt. elim (holder₁ y Q k K) [
+          | inl h ↦ in-use-held nv js Γ′ (F .c) (k .root) (I .typed .bound (F .c) (written .2) (written .3)) lt (taken k (h .1)) (D₀ .1)
+          | inr h ↦ other-held (h .0) (h .3) k (h .4) (h .2) (u (h .0) (h .1) (I .typed .bound (h .0) (h .3) (h .4 .is)))
+        ])
 
-            go : ((z : ℕ) → y ≡ var z → z < nv → inUse nv js Γ′ z ≡ true)
-                → ((y ≡ var (F .c)) × (borrowed (U .borrow) ≡ some k)) ⊎ ((x : ℕ) × (y ≡ var x) × (x ≢ F .c) × (Q : Gh.Variable) × (Holds (I .Θ) (var x) Q k))
-                → inUse nv js Γ′ x ≡ true
-            go ih (inl h) = subst (λ (z : ℕ). inUse nv js Γ′ z ≡ true) is (in-use-held nv js Γ′ (F .c) (k .root) (I .typed .bound (F .c) (written .2) (written .3)) (rw is lt) (taken k (h .1)) (D₀ .1))
-            go ih (inr h) = subst (λ (z : ℕ). inUse nv js Γ′ z ≡ true) is (other-held (h .0) (h .3) k (h .4) (h .2) (ih (h .0) (h .1) (I .typed .bound (h .0) (h .3) (h .4 .is))))
+        others : (y : ℕ) → y ≢ F .c → covers (Known ns Θ₁ (var y)) (E .Θ (var y)) (Γ y)
+        others y n = E .vars y known₁ (known-used y)
 
-        others : (y : ℕ) → y ≢ F .c → covers (Known ns Θ₁ (var y)) (Θ₀ (var y)) (Γ y)
-        unfolding Θ₀
-        others y n = without-covers (I .Θ) (Unused nv js Γ′ B) (unused-dec nv js Γ′ B bDec) (var y) (Γ y) (I .vars y)
-            (λ h q e k. true≢false (sym (known-used k y refl (I .typed .bound y q e)) ∙ h)) known₁
-
-    -- The run leaves N in the variable written; the judge has M there, and adds the places of the value wherever else it may land.
+    -- The run leaves N in the variable written; the judge has M there, and adds the places of the value to every other variable that may be written.
     concluded : (N : Variable) → Progress nv ns Γ (update Γ (F .c) (live N)) none lv (runAssign s i p v) → (M : Variable)
         → write Γ (l .to) (t .borrow) (F .c) ≡ live M → Wide N M
         → Progress nv ns Γ (write Γ (l .to) (t .borrow)) none lv (runAssign s i p v)
@@ -213,11 +178,11 @@ module _ {nv : ℕ} {ns : Unfinished} {Γ : Environment} {t : Ty} {lv : ℕ} {s 
         (λ x h. other-used Γ (l .to) (t .borrow) (F .c) (F .d) (F .among) x (λ z. used≢live (sym h ∙ ap Γ z ∙ written .1)) h)
 
     -- Of the variables, only the one written holds the named root.
-    other-unheld : (B : Type 0) (bDec : Dec B) (y : ℕ) (q : Gh.Variable) (k : Place) → Holds (Θ₀ B bDec) (var y) q k → var y ≢ var (F .c) → k .root ≢ p .root
+    other-unheld : (b : Bool) (y : ℕ) (q : Gh.Variable) (k : Place) → Holds (E b .Θ) (var y) q k → var y ≢ var (F .c) → k .root ≢ p .root
     unfolding Γ′
-    other-unheld B bDec y q k K n e =
-        let h = other-holds y q k (back B bDec (var y) q k K) (λ z. n (ap var z)) in
-        write-allowed nv js Γ′ (p .root) y (h .0) k bar (h .1) (used-still B bDec y q k K) (h .2) (h .3) (h .4) e
+    other-unheld b y q k K n e =
+        let h = other-holds y q k (E b .back (var y) q k K) (λ z. n (ap var z)) in
+        write-allowed nv js Γ′ (p .root) y (h .0) k bar (h .1) (E b .still y q k K) (h .2) (h .3) (h .4) e
 
     -- The variable written then holds what the value borrows: the only one that may be written, or one of several that is whole.
     in-place : (M : Variable) → write Γ (l .to) (t .borrow) (F .c) ≡ live M → Wide (fresh (written .0 .chain) (t .borrow) (written .0 .level)) M
@@ -225,21 +190,18 @@ module _ {nv : ℕ} {ns : Unfinished} {Γ : Environment} {t : Ty} {lv : ℕ} {s 
     unfolding Γ′ W′ Θ₁
     in-place M e w g =
         concluded (fresh (written .0 .chain) (t .borrow) (written .0 .level))
-        (assigning I i p l F (written .0) (written .1) (written .2) (written .3) (written .4) unshared links (Θ₀ ⊥ nothing) (T₀ ⊥ nothing) (D₀ ⊥ nothing .0)
-        (used-same ⊥ nothing (p .root) root-used ∙ F .isX) (used-same ⊥ nothing (F .c) (D₀ ⊥ nothing .1) ∙ written .3) (idle₀ ⊥ nothing) q eU (flying I .2 .chain) (flying-whole I)
-        (λ k R h f. level-allowed k R (borrow-among (flying-borrow I) k h) (sym (used-same ⊥ nothing (k .root) (in-use-held nv js Γ′ (F .c) (k .root) (I .typed .bound (F .c) (written .2) (written .3)) (T₀ ⊥ nothing .bound (k .root) R f) (taken k h) (D₀ ⊥ nothing .1))) ∙ f)) unheld
+        (assigning I i p l F (written .0) (written .1) (written .2) (written .3) (written .4) unshared links (E false .Θ) (E false .typed) (D₀ false .0)
+        (E false .same (p .root) root-used ∙ F .isX) (E false .same (F .c) (D₀ false .1) ∙ written .3) (E false .idle) q eU (flying I .2 .chain) (flying-whole I)
+        (λ k R h f. level-allowed k R (borrow-among (flying-borrow I) k h) (sym (E false .same (k .root) (in-use-held nv js Γ′ (F .c) (k .root) (I .typed .bound (F .c) (written .2) (written .3)) (E false .typed .bound (k .root) R f) (taken k h) (D₀ false .1))) ∙ f)) unheld
         (fresh (written .0 .chain) (t .borrow) (written .0 .level)) refl refl (covered-fresh (written .4 .chain) (written .4 .level) (flying-borrow I))
-        (others ⊥ nothing q eU (λ k h. h) taken) (content-flying .0) (content-flying .1))
+        (others false q (λ k h. h) taken) (content-flying .0) (content-flying .1))
         M e w
       where
-        nothing : Dec ⊥
-        nothing = no (λ h. h)
-
         q : Gh.Variable
         q = flying I .0
 
-        eU : Θ₀ ⊥ nothing inFlight ≡ Gh.live q
-        eU = same ⊥ nothing inFlight (λ h. h) ∙ flying I .1
+        eU : E false .Θ inFlight ≡ Gh.live q
+        eU = E false .kept refl ∙ flying I .1
 
         fits : Fits (M .chain) (q .borrow)
         fits =
@@ -254,21 +216,21 @@ module _ {nv : ℕ} {ns : Unfinished} {Γ : Environment} {t : Ty} {lv : ℕ} {s 
         taken : (k : Place) → borrowed (q .borrow) ≡ some k → heldBy borrowsAny (Γ′ (F .c)) (k .root) ≡ true
         taken k h = is-held Γ′ (F .c) M k e g (among k h)
 
-        unheld : (h : Name) (m : Gh.Variable) (k : Place) → Holds (Θ₀ ⊥ nothing) h m k → h ≢ var (F .c) → k .root ≢ p .root
+        unheld : (h : Name) (m : Gh.Variable) (k : Place) → Holds (E false .Θ) h m k → h ≢ var (F .c) → k .root ≢ p .root
         unheld inFlight m k K n j =
             let z : q ≡ m = (let a = eU in let b = K .is in cc) in
-            write-allowed nv js Γ′ (p .root) (F .c) M k bar (I .typed .bound (F .c) (written .2) (written .3)) (D₀ ⊥ nothing .1) e g (among k (ap (λ (y : Gh.Variable). borrowed (y .borrow)) z ∙ K .at)) j
-        unheld inDrop m k K n j = vacant≢live (sym (idle₀ ⊥ nothing) ∙ K .is)
-        unheld (var y) m k K n j = other-unheld ⊥ nothing y m k K n j
+            write-allowed nv js Γ′ (p .root) (F .c) M k bar (I .typed .bound (F .c) (written .2) (written .3)) (D₀ false .1) e g (among k (ap (λ (y : Gh.Variable). borrowed (y .borrow)) z ∙ K .at)) j
+        unheld inDrop m k K n j = vacant≢live (sym (E false .idle) ∙ K .is)
+        unheld (var y) m k K n j = other-unheld false y m k K n j
 
     -- One of several that stays counted as moved away, and so holds nothing for the judge: the value forgets what it borrows.
     forgotten : write Γ (l .to) (t .borrow) (F .c) ≡ live (wider (written .0) (t .borrow)) → written .0 .movedFrom ≤ leadingBoxes (written .0 .chain)
         → Progress nv ns Γ (write Γ (l .to) (t .borrow)) none lv (runAssign s i p v)
-    unfolding W′ Θ₁ Θ₀
+    unfolding W′ Θ₁
     forgotten e g =
         concluded (written .0)
-        (assigning I i p l F (written .0) (written .1) (written .2) (written .3) (written .4) unshared links (Θ₀ (Unit {0}) it) (T₀ (Unit {0}) it) (D₀ (Unit {0}) it .0)
-        (used-same (Unit {0}) it (p .root) root-used ∙ F .isX) (used-same (Unit {0}) it (F .c) (D₀ (Unit {0}) it .1) ∙ written .3) (idle₀ (Unit {0}) it) (faded q) eU (flying I .2 .chain) (flying-whole I)
+        (assigning I i p l F (written .0) (written .1) (written .2) (written .3) (written .4) unshared links (E true .Θ) (E true .typed) (D₀ true .0)
+        (E true .same (p .root) root-used ∙ F .isX) (E true .same (F .c) (D₀ true .1) ∙ written .3) (E true .idle) (faded q) eU (flying I .2 .chain) (flying-whole I)
         (λ k R h f. absurd (fade-none (q .borrow) k h)) unheld (written .0) refl refl
         (record {
           chain = written .4 .chain;
@@ -278,24 +240,21 @@ module _ {nv : ℕ} {ns : Unfinished} {Γ : Environment} {t : Ty} {lv : ℕ} {s 
           inside = λ k h. absurd (omega arith);
           holds = λ k f. absurd (fade-none (q .borrow) k f);
         })
-        (others (Unit {0}) it (faded q) eU (λ k h. absurd (fade-none (q .borrow) k h)) (λ k h. absurd (fade-none (q .borrow) k h))) (content-flying .0) (content-flying .1))
+        (others true (faded q) (λ k h. absurd (fade-none (q .borrow) k h)) (λ k h. absurd (fade-none (q .borrow) k h))) (content-flying .0) (content-flying .1))
         (wider (written .0) (t .borrow)) e (wide-old (written .0) (t .borrow))
       where
-        it : Dec (Unit {0})
-        it = yes tt
-
         q : Gh.Variable
         q = flying I .0
 
-        eU : Θ₀ (Unit {0}) it inFlight ≡ Gh.live (faded q)
-        eU = without-on (I .Θ) (Unused nv js Γ′ (Unit {0})) (unused-dec nv js Γ′ (Unit {0}) it) inFlight q tt (flying I .1)
+        eU : E true .Θ inFlight ≡ Gh.live (faded q)
+        eU = E true .lost refl q (flying I .1)
 
-        unheld : (h : Name) (m : Gh.Variable) (k : Place) → Holds (Θ₀ (Unit {0}) it) h m k → h ≢ var (F .c) → k .root ≢ p .root
+        unheld : (h : Name) (m : Gh.Variable) (k : Place) → Holds (E true .Θ) h m k → h ≢ var (F .c) → k .root ≢ p .root
         unheld inFlight m k K n j =
             let z : faded q ≡ m = (let a = eU in let b = K .is in cc) in
             fade-none (q .borrow) k (ap (λ (y : Gh.Variable). borrowed (y .borrow)) z ∙ K .at)
-        unheld inDrop m k K n j = vacant≢live (sym (idle₀ (Unit {0}) it) ∙ K .is)
-        unheld (var y) m k K n j = other-unheld (Unit {0}) it y m k K n j
+        unheld inDrop m k K n j = vacant≢live (sym (E true .idle) ∙ K .is)
+        unheld (var y) m k K n j = other-unheld true y m k K n j
 
     judged-assign : Progress nv ns Γ (write Γ (l .to) (t .borrow)) none lv (runAssign s i p v)
     judged-assign = go (write-here Γ (l .to) (t .borrow) (F .c) (F .d) (F .among) (written .0) (written .1)) (decLt (leadingBoxes (written .0 .chain)) (written .0 .movedFrom))
@@ -313,8 +272,8 @@ module _ {nv : ℕ} {ns : Unfinished} {Γ : Environment} {t : Ty} {lv : ℕ} {s 
       → _≡_ {A = Result Refusal Out} (ok (write Γ (l .to) (u .borrow), none)) (ok out)
       → Progress nv ns Γ (out .0) (out .1) lv (runAssign s i p v)
   conclude i p out l u nm nj H₀ e z unshared li lvl bar q =
-      let R = judged-assign i p l (judged-found I i i p l nm e) nj (subst (λ (E : Environment). Used nv js ns E) (sym (ap (λ (k : Out). k .0) (let y : (write Γ (l .to) (t .borrow), none) ≡ out = (let q′ = rw z at q in cc) in y))) H₀) unshared (rw z at li) (rw z at lvl) (rw z at bar) in
       let y : (write Γ (l .to) (t .borrow), none) ≡ out = (let q′ = rw z at q in cc) in
+      let R = judged-assign i p l (judged-found I i i p l nm e) nj (subst (λ (k : Out). Used nv js ns (k .0)) (sym y) H₀) unshared (rw z at li) (rw z at lvl) (rw z at bar) in
       subst (λ (k : Out). Progress nv ns Γ (k .0) (k .1) lv (runAssign s i p v)) y R
 
   case-assign : (i : ℕ) (p : Place) (out : Out) → namedLater ns (p .root) ≡ true → namedLater js (p .root) ≡ true → Used nv js ns (out .0) → judgeAssign nv js Γ i p (some t) ≡ ok out

@@ -17,8 +17,8 @@ use Rattle.safety.proofs.Memory.{Name, inFlight, inDrop, var, Memory}
 use Rattle.safety.proofs.Lifted.{lift}
 use Rattle.safety.proofs.Ghost as Gh
 use Rattle.safety.proofs.Typing.{Fits, Typed}
-use Rattle.safety.proofs.Fading.{faded, without, without-off, without-on, without-typed, without-holds}
-use Rattle.safety.proofs.Known.{Known, by-holder, known-less}
+use Rattle.safety.proofs.Fading.{faded, without, without-off, without-on, without-typed}
+use Rattle.safety.proofs.Known.{Known, without-known}
 use Rattle.safety.proofs.Covering.{covers, covered-live, covered-none, vac-covers, live-covers, covered-less, covers-less}
 use Rattle.safety.proofs.Widening.{Wide, covered-wide, covered-faded}
 use Rattle.safety.proofs.Invariant.{Member, flightSlot, flightRow, nobody, Invariant}
@@ -89,7 +89,7 @@ module _ {nv : ℕ} {ns : Unfinished} {Γ M : Environment} {o o′ : Option Ty} 
   -- Nothing more is held.
   known : {z : Name} → Known ns Θ′ z → Known ns (I .Θ) z
   unfolding Θ′
-  known = known-less (λ x e. e) (λ y Q p k K. by-holder Q p k (without-holds (I .typed) (LostName M) (lost-name M) y Q p K))
+  known = without-known (I .typed) (LostName M) (lost-name M)
 
   in-scope : (x : ℕ) (v : Variable) → M x ≡ live v → covers (Known ns Θ′ (var x)) (Θ′ (var x)) (live v)
   unfolding Θ′ LostName
