@@ -1,114 +1,130 @@
--- The search for one in use that holds a borrow of a root (LANGUAGE 3.34): from those that hold one to those that hold them, and so on, until one
--- is found that is named later. Assumes nothing.
-use Prim.Native.Nat.{ℕ, suc, _<_}
-use native.Mathlib.Omega.{arith}
+-- The search for one in use that holds a borrow of a root (LANGUAGE 3.34): all that may lead to the root, by the notes; then, from those of them
+-- that are named later, what each holds among them. Assumes nothing.
+use Prim.Native.Nat.{ℕ, suc, _≤_, _<_}
 use mathlib.Core.Path.{_≡_, refl, sym, ap, ap₂, _∙_}
 use mathlib.Core.Logic.{_⊎_, inl, inr}
 use mathlib.Core.Bool.{Bool, true, false, not, false≢true, true≢false}
 use mathlib.Core.List.{List}
 use lib.Dec.{ltb, eqb}
-use borrow.Author.Tests.{ltb-true, lt-ltb, eqb-true, not-true, not-false}
+use borrow.Author.Tests.{leb-true, le-leb, ltb-true, lt-ltb, not-true}
 use Rattle.reader.specs.Result.{pick}
+use Rattle.rules.specs.declared.bars.Leading.{Leading}
 use Rattle.rules.specs.declared.roots.Roots.{Roots}
 use Rattle.rules.specs.Uses.{Unfinished, namedLater}
-use Rattle.rules.specs.Bars.{heldBy, held, inUse}
+use Rattle.rules.specs.Bars.{borrowsAny, heldBy, held, inUse}
 use Rattle.rules.specs.Masks.{has}
-use Rattle.rules.specs.Table.{rootsAt, holdersAt, environmentOf, TableFor, borrowsBy, MayHold}
+use Rattle.rules.specs.Table.{entryWord, rootsAt, holdersAt, variableAt, environmentOf, TableFor, InScope, borrowsBy, MayHold}
+use Rattle.rules.specs.Verdicts.{LeadingTo}
+use Rattle.rules.proofs.Answers.{same-bool}
 use Rattle.rules.proofs.InUse.{holder-counts, held-some, in-use-named, in-use-held, in-use-least}
-use Rattle.rules.proofs.ClosureLoop.{metAfter, todoAfter, count, waiting}
+use Rattle.rules.proofs.ClosureLoop.{count, waiting}
+use Rattle.rules.proofs.SetSearch.{Search, so-far, no-more, search-begins, search-next}
 use Rattle.rules.proofs.MaskLaws.{has-below}
+use Rattle.rules.proofs.EntryLaws.{status-live, live-inside}
 use Rattle.rules.proofs.HeldLaws.{held-noted, held-scoped}
-use Rattle.rules.proofs.SearchLaws.{Search, search-begins, search-round, search-less, through-met, through-todo}
-
--- ---- those of a set that hold
-
--- Of those that may hold, the ones that are still to be looked at, or that do.
-pub record Filtered (env : List ℕ) (any : Bool) (root : ℕ) (may left kept : Roots) : Type 0 where
-  pub is : (y : ℕ) → has kept y ≡ pick (has may y) (pick (has left y) true (heldBy (borrowsBy any) (environmentOf env y) root)) false
-
-module _ (env : List ℕ) (any : Bool) (root : ℕ) (may : Roots) where
-  abbrev holds : ℕ → Bool
-  holds = λ y. heldBy (borrowsBy any) (environmentOf env y) root
-
-  pub filter-begins : Filtered env any root may may may
-  filter-begins = record { is = λ y. go (has may y) (holds y) }
-    where
-      go : (b h : Bool) → b ≡ pick b (pick b true h) false
-      go true h = refl
-      go false h = refl
-
-  module _ (left kept : Roots) (S : Filtered env any root may left kept) where
-    pub filter-over : ((y : ℕ) → has left y ≡ false) → (y : ℕ) → has kept y ≡ pick (has may y) (holds y) false
-    filter-over none y = S .is y ∙ ap (λ (b : Bool). pick (has may y) (pick b true (holds y)) false) (none y)
-
-    -- The variable x has been looked at: it is taken out if it does not hold.
-    pub filter-round : (left′ kept′ : Roots) (x : ℕ) (r : Bool) → r ≡ holds x → ((y : ℕ) → has left′ y ≡ pick (eqb x y) false (has left y))
-        → ((not r ≡ true) × ((y : ℕ) → has kept′ y ≡ pick (eqb x y) false (has kept y))) ⊎ ((not r ≡ false) × (kept′ ≡ kept)) → Filtered env any root may left′ kept′
-    filter-round left′ kept′ x r asked le ke = record { is = λ y. at y (eqb x y) refl ke ∙ ap (λ (b : Bool). pick (has may y) (pick b true (holds y)) false) (sym (le y)) }
-      where
-        out : (b h : Bool) → h ≡ false → false ≡ pick b h false
-        out true h e = sym e
-        out false h e = refl
-
-        still : (l h : Bool) → h ≡ true → pick l true h ≡ h
-        still true h e = sym e
-        still false h e = refl
-
-        same : (y : ℕ) → eqb x y ≡ true → holds y ≡ r
-        same y e = ap holds (sym (eqb-true x y e)) ∙ sym asked
-
-        at : (y : ℕ) (q : Bool) → eqb x y ≡ q → ((not r ≡ true) × ((z : ℕ) → has kept′ z ≡ pick (eqb x z) false (has kept z))) ⊎ ((not r ≡ false) × (kept′ ≡ kept))
-            → has kept′ y ≡ pick (has may y) (pick (pick q false (has left y)) true (holds y)) false
-        at y true e (inl k) = k .1 y ∙ ap (λ (b : Bool). pick b false (has kept y)) e ∙ out (has may y) (holds y) (same y e ∙ not-true r (k .0))
-        at y true e (inr k) =
-            ap (λ (s : Roots). has s y) (k .1) ∙ S .is y ∙ ap (λ (b : Bool). pick (has may y) b false) (still (has left y) (holds y) (same y e ∙ not-false r (k .0)))
-        at y false e (inl k) = k .1 y ∙ ap (λ (b : Bool). pick b false (has kept y)) e ∙ S .is y
-        at y false e (inr k) = ap (λ (s : Roots). has s y) (k .1) ∙ S .is y
-
--- ---- the search
-
--- Those that hold the root are met, and those that hold one that is met; all but those still to be looked at are not named later.
-pub record Seeking (env : List ℕ) (any : Bool) (root : ℕ) (named : ℕ → Bool) (met todo : Roots) : Type 0 where
-  pub search : Search (λ y. heldBy (borrowsBy any) (environmentOf env y) root) (λ x y. heldBy (borrowsBy true) (environmentOf env y) x) (λ x. not (named x)) (λ _. false) (has met) (has todo) (λ _. false)
-
-only-there : (m b : Bool) → (b ≡ true → m ≡ true) → pick m b false ≡ b
-only-there true b h = refl
-only-there false true h = h refl
-only-there false false h = refl
 
 both-of : (a b : Bool) → pick a b false ≡ true → (a ≡ true) × (b ≡ true)
 both-of true b h = (refl, h)
 both-of false b h = absurd (false≢true h)
 
-implied : (b c : Bool) → (b ≡ true → c ≡ true) → pick b c true ≡ true
-implied true c f = f refl
-implied false c f = refl
+both-in : (a b : Bool) → a ≡ true → b ≡ true → pick a b false ≡ true
+both-in a b e f = ap₂ (λ (c d : Bool). pick c d false) e f
 
-implies : (b c : Bool) → pick b c true ≡ true → b ≡ true → c ≡ true
-implies true c h k = h
-implies false c h k = absurd (false≢true k)
+-- New members of a set that are among others.
+among : (m h a : Bool) → pick (pick m false h) a false ≡ pick m false (pick h a false)
+among true h a = refl
+among false h a = refl
 
-module _ (env : List ℕ) (n : ℕ) (T : TableFor env n) (any : Bool) (root : ℕ) (low : root < n) (named : ℕ → Bool) where
-  abbrev first : ℕ → Bool
-  first = λ y. heldBy (borrowsBy any) (environmentOf env y) root
+-- ---- who may lead to a root
 
-  abbrev leads : ℕ → ℕ → Bool
-  leads = λ x y. heldBy (borrowsBy true) (environmentOf env y) x
+-- In scope, and noted as one that may hold x.
+abbrev noted : List ℕ → ℕ → ℕ → ℕ → Bool
+noted env n x y = pick (has (holdersAt env x) y) (has (rootsAt env (suc n)) y) false
 
-  pub seek-begins : (may met : Roots) → MayHold env any root may → ((y : ℕ) → has met y ≡ pick (has may y) (first y) false) → Seeking env any root named met met
-  seek-begins may met A e = record { search = search-begins first leads (λ x. not (named x)) (λ _. false) (has met) (λ _. false) (λ y. e y ∙ only-there (has may y) (first y) (A y)) (λ y. refl) }
+-- Of those that are met, all but what is still to do have been asked whether they are named.
+pub record Gathering (env : List ℕ) (n : ℕ) (named : ℕ → Bool) (first all todo found : Roots) : Type 0 where
+  pub search : Search (has first) (noted env n) (λ _. true) named (has all) (has todo) (has found)
 
-  module _ (met todo : Roots) (S : Seeking env any root named met todo) where
-    -- All that are met are variables of the table.
-    met-low : (y : ℕ) → has met y ≡ true → y < n
-    met-low y h =
-        ltb-true y n (S .search .meeting .least (λ x. ltb x n) (λ x k. lt-ltb x n (held-noted env n root T low any x k .0)) (λ x z a k. lt-ltb z n (held-noted env n x T (ltb-true x n a) true z k .0)) y h)
+module _ (env : List ℕ) (n : ℕ) (T : TableFor env n) where
+  in-scope : (y : ℕ) → has (rootsAt env (suc n)) y ≡ true → 2 ≤ entryWord env y 0
+  in-scope y h = leb-true 2 (entryWord env y 0) (sym (T .2 .scope y) ∙ h)
 
-    pub todo-low : (x : ℕ) → has todo x ≡ true → x < n
-    todo-low x h = met-low x (S .search .meeting .inside x h)
+  -- Who is in scope is a variable of the table.
+  scope-low : (y : ℕ) → 2 ≤ entryWord env y 0 → y < n
+  scope-low y h = live-inside env n T y (variableAt env y) (status-live env y h)
 
-    -- ---- what is found
+  module _ (these scope first : Roots) (scope-is : scope ≡ rootsAt env (suc n)) (first-is : (y : ℕ) → has first y ≡ pick (has these y) (has scope y) false) (named : ℕ → Bool) where
+    pub gather-begins : (none : Roots) → ((y : ℕ) → has none y ≡ false) → Gathering env n named first first first none
+    gather-begins none e = record { search = search-begins (has first) (noted env n) (λ _. true) named (has first) (has none) (λ y. refl) e }
 
+    module _ (all todo found : Roots) (G : Gathering env n named first all todo found) where
+      all-scoped : InScope env all
+      all-scoped y h = in-scope y (G .search .meeting .least (has (rootsAt env (suc n)))
+          (λ x k. ap (λ (s : Roots). has s x) (sym scope-is) ∙ both-of (has these x) (has scope x) (sym (first-is x) ∙ k) .1)
+          (λ x z a k. both-of (has (holdersAt env x) z) (has (rootsAt env (suc n)) z) k .1)
+          y
+          h)
+
+      pub todo-low : (x : ℕ) → has todo x ≡ true → x < n
+      todo-low x h = scope-low x (all-scoped x (G .search .meeting .inside x h))
+
+      -- The variable x has been asked: who is noted for it and not met yet is added to both sets.
+      module _ (x : ℕ) (h : has todo x ≡ true) (r : Bool) (asked : r ≡ named x) (found′ holders unmet more all′ todo₁ todo′ : Roots)
+          (found-is : ((r ≡ true) × ((y : ℕ) → has found′ y ≡ pick (has found y) true (eqb x y))) ⊎ ((r ≡ false) × (found′ ≡ found)))
+          (holders-is : holders ≡ holdersAt env x) (unmet-is : (y : ℕ) → has unmet y ≡ pick (has all y) false (has holders y)) (more-is : (y : ℕ) → has more y ≡ pick (has unmet y) (has scope y) false)
+          (all-is : (y : ℕ) → has all′ y ≡ pick (has all y) true (has more y)) (less-is : (y : ℕ) → has todo₁ y ≡ pick (eqb x y) false (has todo y))
+          (todo-is : (y : ℕ) → has todo′ y ≡ pick (has todo₁ y) true (has more y)) where
+        found-next : (y : ℕ) → has found′ y ≡ pick (has found y) true (pick (eqb x y) (named x) false)
+        found-next y = go found-is
+          where
+            go : ((r ≡ true) × ((z : ℕ) → has found′ z ≡ pick (has found z) true (eqb x z))) ⊎ ((r ≡ false) × (found′ ≡ found)) → has found′ y ≡ pick (has found y) true (pick (eqb x y) (named x) false)
+            go (inl k) = k .1 y ∙ ap (λ (b : Bool). pick (has found y) true b) (so-far (eqb x y) (named x) (sym asked ∙ k .0))
+            go (inr k) = ap (λ (s : Roots). has s y) (k .1) ∙ no-more (has found y) (eqb x y) (named x) (sym asked ∙ k .0)
+
+        noted-more : (y : ℕ) → has more y ≡ pick (has all y) false (noted env n x y)
+        noted-more y =
+            more-is y
+            ∙ ap₂ (λ (a : Bool) (s : Roots). pick a (has s y) false) (unmet-is y ∙ ap (λ (s : Roots). pick (has all y) false (has s y)) holders-is) scope-is
+            ∙ among (has all y) (has (holdersAt env x) y) (has (rootsAt env (suc n)) y)
+
+        gather-next : Search (has first) (noted env n) (λ _. true) named (has all′) (has todo′) (has found′) × (count (waiting (has all′) (has todo′)) 128 < count (waiting (has all) (has todo)) 128)
+        gather-next = search-next (has first) (noted env n) (λ _. true) named (has all) (has todo) (has found) (G .search) x h (has todo₁) less-is (noted env n x) (λ y. refl) (has more) noted-more (has all′) (has todo′) (has found′) all-is todo-is refl found-next 128 (has-below todo x h)
+
+        pub gather-round : Gathering env n named first all′ todo′ found′ × (count (waiting (has all′) (has todo′)) 128 < count (waiting (has all) (has todo)) 128)
+        gather-round = (record { search = gather-next .0 }, gather-next .1)
+
+      -- Who holds one that is met is noted for it and in scope.
+      pub gather-over : ((y : ℕ) → has todo y ≡ false) → (r : Leading) → r .all ≡ all → r .named ≡ found → LeadingTo env these named r
+      unfolding borrowsBy
+      gather-over none r ra rn = record {
+        scoped = λ x h. all-scoped x (ap (λ (s : Roots). has s x) (sym ra) ∙ h);
+        start = λ x l k. ap (λ (s : Roots). has s x) ra ∙ G .search .meeting .start x (first-is x ∙ both-in (has these x) (has scope x) k (ap (λ (s : Roots). has s x) scope-is ∙ T .2 .scope x ∙ le-leb 2 (entryWord env x 0) l));
+        closed = λ x y h k.
+            let a = ap (λ (s : Roots). has s x) (sym ra) ∙ h in
+            let l = scope-low x (all-scoped x a) in
+            ap (λ (s : Roots). has s y) ra ∙ G .search .meeting .added x y a (none x) (both-in (has (holdersAt env x) y) (has (rootsAt env (suc n)) y) (held-noted env n x T l true y k .1) (held-scoped env n x T true y k));
+        named-are = λ x.
+            ap (λ (s : Roots). has s x) rn ∙ G .search .ended x ∙ ap (λ (b : Bool). pick (has all x) (pick b false (named x)) false) (none x)
+            ∙ ap (λ (s : Roots). pick (has s x) (named x) false) (sym ra);
+      }
+
+-- ---- who is in use among them
+
+-- From one that holds nothing of the root to those that it holds, among these.
+abbrev holding-among : List ℕ → Roots → ℕ → ℕ → Bool
+holding-among env these x y = pick (heldBy (borrowsBy true) (environmentOf env x) y) (has these y) false
+
+-- Those that are named are met, and what those hold that are met; all but what is still to do hold no such borrow of the root.
+pub record Seeking (env : List ℕ) (any : Bool) (root : ℕ) (these first met todo : Roots) : Type 0 where
+  pub search : Search (has first) (holding-among env these) (λ x. not (heldBy (borrowsBy any) (environmentOf env x) root)) (λ _. false) (has met) (has todo) (λ _. false)
+
+module _ (env : List ℕ) (n : ℕ) (T : TableFor env n) (any : Bool) (root : ℕ) (low : root < n) (may : Roots) (M : MayHold env any root may) (named : ℕ → Bool) (near : Leading) (L : LeadingTo env may named near) where
+  pub seek-begins : Seeking env any root (near .all) (near .named) (near .named) (near .named)
+  seek-begins = record {
+    search = search-begins (has (near .named)) (holding-among env (near .all)) (λ x. not (heldBy (borrowsBy any) (environmentOf env x) root)) (λ _. false) (has (near .named)) (λ _. false) (λ y. refl) (λ y. refl);
+  }
+
+  module _ (met todo : Roots) (S : Seeking env any root (near .all) (near .named) met todo) where
     module _ (ns : Unfinished) (later : (x : ℕ) → x < n → namedLater ns x ≡ named x) where
       abbrev in-use : ℕ → Bool
       in-use = inUse n ns (environmentOf env)
@@ -116,92 +132,65 @@ module _ (env : List ℕ) (n : ℕ) (T : TableFor env n) (any : Bool) (root : �
       abbrev Barred : Bool
       Barred = held (borrowsBy any) in-use n (environmentOf env) root
 
-      -- If one that is met is in use, one in use holds the root: so it is for those that hold the root, and what is held by one in use is in use.
-      abbrev bars : ℕ → Bool
-      bars x = pick (ltb x n) (pick (in-use x) Barred true) false
+      near-low : (x : ℕ) → has (near .all) x ≡ true → x < n
+      near-low x h = scope-low env n T x (L .scoped x h)
 
-      put : (x : ℕ) → x < n → (in-use x ≡ true → Barred ≡ true) → bars x ≡ true
-      put x l f = ap (λ (b : Bool). pick b (pick (in-use x) Barred true) false) (lt-ltb x n l) ∙ implied (in-use x) Barred f
-
-      got : (x : ℕ) → bars x ≡ true → (x < n) × (in-use x ≡ true → Barred ≡ true)
-      got x h =
-          let k = both-of (ltb x n) (pick (in-use x) Barred true) h in
-          (ltb-true x n (k .0), implies (in-use x) Barred (k .1))
-
-      met-bars : (x : ℕ) → has met x ≡ true → bars x ≡ true
+      -- All that are met are in use.
+      used : (x : ℕ) → has met x ≡ true → (x < n) × (in-use x ≡ true)
       unfolding borrowsBy
-      met-bars = S .search .meeting .least bars
-          (λ x k. let l = held-noted env n root T low any x k .0 in put x l (λ u. holder-counts (borrowsBy any) in-use (environmentOf env) root n x l k u))
-          (λ x y b k.
-          let g = got x b in
-          let l = held-noted env n x T (g .0) true y k .0 in
-          put y l (λ u. g .1 (in-use-held n ns (environmentOf env) y x l (g .0) k u)))
+      used x h =
+          let k = both-of (ltb x n) (in-use x) (S .search .meeting .least (λ y. pick (ltb y n) (in-use y) false) first-used held-used x h) in
+          (ltb-true x n (k .0), k .1)
+        where
+          put : (y : ℕ) → y < n → in-use y ≡ true → pick (ltb y n) (in-use y) false ≡ true
+          put y l u = both-in (ltb y n) (in-use y) (lt-ltb y n l) u
 
-      -- One that is named later is in use.
-      pub seek-found : (x : ℕ) → has todo x ≡ true → (r : Bool) → r ≡ named x → r ≡ true → true ≡ Barred
-      seek-found x h r asked e =
-          let l = todo-low x h in
-          sym (got x (met-bars x (S .search .meeting .inside x h)) .1 (in-use-named n ns (environmentOf env) x l (later x l ∙ sym asked ∙ e)))
+          first-used : (y : ℕ) → has (near .named) y ≡ true → pick (ltb y n) (in-use y) false ≡ true
+          first-used y k =
+              let b = both-of (has (near .all) y) (named y) (sym (L .named-are y) ∙ k) in
+              let l = near-low y (b .0) in
+              put y l (in-use-named n ns (environmentOf env) y l (later y l ∙ b .1))
 
-      -- Where nothing is left to do no variable that is met is in use: none is named, and who holds one that is met is met.
+          held-used : (y z : ℕ) → pick (ltb y n) (in-use y) false ≡ true → holding-among env (near .all) y z ≡ true → pick (ltb z n) (in-use z) false ≡ true
+          held-used y z u k =
+              let a = both-of (ltb y n) (in-use y) u in
+              let b = both-of (heldBy (borrowsBy true) (environmentOf env y) z) (has (near .all) z) k in
+              let l = near-low z (b .1) in
+              put z l (in-use-held n ns (environmentOf env) y z (ltb-true y n (a .0)) l (b .0) (a .1))
+
+      pub seek-found : (x : ℕ) → has todo x ≡ true → heldBy (borrowsBy any) (environmentOf env x) root ≡ true → true ≡ Barred
+      seek-found x h k =
+          let u = used x (S .search .meeting .inside x h) in
+          sym (holder-counts (borrowsBy any) in-use (environmentOf env) root n x (u .0) k (u .1))
+
+      -- Where nothing is left to do, all in use that may lead to the root are met: who holds one of these is one of these.
       module _ (none : (y : ℕ) → has todo y ≡ false) where
-        unmet : (x : ℕ) → in-use x ≡ true → has met x ≡ false
+        all-met : (x : ℕ) → in-use x ≡ true → has (near .all) x ≡ true → has met x ≡ true
         unfolding borrowsBy
-        unmet = in-use-least n ns (environmentOf env) (λ x. has met x ≡ false) (λ x e. unnamed x e (has met x) refl) (λ y x l k p. unheld x y k p (has met x) refl)
-          where
-            unnamed : (x : ℕ) → namedLater ns x ≡ true → (b : Bool) → has met x ≡ b → b ≡ false
-            unnamed x e true h = absurd (true≢false (sym e ∙ later x (met-low x h) ∙ not-true (named x) (S .search .passed x h (none x))))
-            unnamed x e false h = refl
-
-            unheld : (x y : ℕ) → heldBy (borrowsBy true) (environmentOf env y) x ≡ true → has met y ≡ false → (b : Bool) → has met x ≡ b → b ≡ false
-            unheld x y k p true h = absurd (true≢false (sym (S .search .meeting .added x y h (none x) k) ∙ p))
-            unheld x y k p false h = refl
+        all-met = in-use-least n ns (environmentOf env) (λ x. has (near .all) x ≡ true → has met x ≡ true)
+            (λ x e a. S .search .meeting .start x (L .named-are x ∙ both-in (has (near .all) x) (named x) a (sym (later x (near-low x a)) ∙ e)))
+            (λ y x l k p a. S .search .meeting .added y x (p (L .closed x y a k)) (none y) (both-in (heldBy borrowsAny (environmentOf env y) x) (has (near .all) x) k a))
 
         pub seek-over : false ≡ Barred
-        seek-over = go Barred refl
-          where
-            go : (b : Bool) → Barred ≡ b → false ≡ b
-            go true e = let h = held-some (borrowsBy any) in-use (environmentOf env) root n e in absurd (true≢false (sym (S .search .meeting .start (h .0) (h .2)) ∙ unmet (h .0) (h .3)))
-            go false e = refl
+        seek-over = same-bool false Barred (λ q. absurd (false≢true q)) (λ b.
+            let h = held-some (borrowsBy any) in-use (environmentOf env) root n b in
+            let a = L .start (h .0) (in-scope env n T (h .0) (held-scoped env n root T any (h .0) (h .2))) (M (h .0) (h .2)) in
+            absurd (true≢false (sym (h .2) ∙ not-true (heldBy (borrowsBy any) (environmentOf env (h .0)) root) (S .search .passed (h .0) (all-met (h .0) (h .3) a) (none (h .0))))))
 
-    -- ---- one round
-
-    -- The variable x, not named later, has been looked at: who holds it and is not met yet is added to both sets.
-    module _ (x : ℕ) (h : has todo x ≡ true) (r : Bool) (asked : r ≡ named x) (unnamed : r ≡ false) (holders unmet scope others more met′ todo₁ todo′ : Roots) (holders-is : holders ≡ holdersAt env x)
-        (unmet-is : (y : ℕ) → has unmet y ≡ pick (has met y) false (has holders y)) (scope-is : scope ≡ rootsAt env (suc n))
-        (others-is : (y : ℕ) → has others y ≡ pick (has unmet y) (has scope y) false) (more-is : (y : ℕ) → has more y ≡ pick (has others y) (leads x y) false)
-        (met-is : (y : ℕ) → has met′ y ≡ pick (has met y) true (has more y)) (less-is : (y : ℕ) → has todo₁ y ≡ pick (eqb x y) false (has todo y))
-        (todo-is : (y : ℕ) → has todo′ y ≡ pick (has todo₁ y) true (has more y)) where
-      -- No variable outside the note of x, or not in scope, holds it.
-      all-more : (y : ℕ) → has more y ≡ pick (has met y) false (leads x y)
-      all-more y =
+    -- The variable x, which holds no such borrow of the root, has been looked at: what it holds among these and is not met yet is added.
+    module _ (x : ℕ) (h : has todo x ≡ true) (r : Bool) (asked : r ≡ heldBy (borrowsBy any) (environmentOf env x) root) (unheld : r ≡ false) (holds new more met′ todo₁ todo′ : Roots)
+        (holds-is : (y : ℕ) → has holds y ≡ heldBy (borrowsBy true) (environmentOf env x) y) (new-is : (y : ℕ) → has new y ≡ pick (has met y) false (has holds y))
+        (more-is : (y : ℕ) → has more y ≡ pick (has new y) (has (near .all) y) false) (met-is : (y : ℕ) → has met′ y ≡ pick (has met y) true (has more y))
+        (less-is : (y : ℕ) → has todo₁ y ≡ pick (eqb x y) false (has todo y)) (todo-is : (y : ℕ) → has todo′ y ≡ pick (has todo₁ y) true (has more y)) where
+      held-more : (y : ℕ) → has more y ≡ pick (has met y) false (holding-among env (near .all) x y)
+      held-more y =
           more-is y
-          ∙ ap (λ (b : Bool). pick b (leads x y) false) (others-is y ∙ ap (λ (b : Bool). pick b (has scope y) false) (unmet-is y))
-          ∙ go (has met y)
-          (λ k. ap (λ (s : Roots). has s y) holders-is ∙ held-noted env n x T (todo-low x h) true y k .1)
-          (λ k. ap (λ (s : Roots). has s y) scope-is ∙ held-scoped env n x T true y k)
-        where
-          go : (m : Bool) → (leads x y ≡ true → has holders y ≡ true) → (leads x y ≡ true → has scope y ≡ true)
-              → pick (pick (pick m false (has holders y)) (has scope y) false) (leads x y) false ≡ pick m false (leads x y)
-          go true f g = refl
-          go false f g = only-there (pick (has holders y) (has scope y) false) (leads x y) (λ k. ap₂ (λ (a b : Bool). pick a b false) (f k) (g k))
+          ∙ ap (λ (a : Bool). pick a (has (near .all) y) false) (new-is y ∙ ap (λ (b : Bool). pick (has met y) false b) (holds-is y))
+          ∙ among (has met y) (heldBy (borrowsBy true) (environmentOf env x) y) (has (near .all) y)
 
-      now-met : (y : ℕ) → has met′ y ≡ metAfter leads x (has met) y
-      now-met = through-met first leads (λ x. not (named x)) (λ _. false) (has met) (has todo) (λ _. false) (S .search) x h (has todo₁) less-is (leads x) (λ y. refl) (has more) all-more (has met′) met-is
+      seek-next : Search (has (near .named)) (holding-among env (near .all)) (λ y. not (heldBy (borrowsBy any) (environmentOf env y) root)) (λ _. false) (has met′) (has todo′) (λ _. false)
+          × (count (waiting (has met′) (has todo′)) 128 < count (waiting (has met) (has todo)) 128)
+      seek-next = search-next (has (near .named)) (holding-among env (near .all)) (λ y. not (heldBy (borrowsBy any) (environmentOf env y) root)) (λ _. false) (has met) (has todo) (λ _. false) (S .search) x h (has todo₁) less-is (holding-among env (near .all) x) (λ y. refl) (has more) held-more (has met′) (has todo′) (λ _. false) met-is todo-is (ap not (sym asked ∙ unheld)) (λ y. no-more false (eqb x y) false refl) 128 (has-below todo x h)
 
-      now-todo : (y : ℕ) → has todo′ y ≡ todoAfter leads x (has met) (has todo) y
-      now-todo = through-todo first leads (λ x. not (named x)) (λ _. false) (has met) (has todo) (λ _. false) (S .search) x h (has todo₁) less-is (leads x) (λ y. refl) (has more) all-more (has todo′) todo-is
-
-      pub seek-again : Seeking env any root named met′ todo′
-      seek-again = record {
-        search = search-round first leads (λ x. not (named x)) (λ _. false) (has met) (has todo) (λ _. false) (S .search) x h (has met′) (has todo′) now-met now-todo (λ _. false) (ap not (sym asked ∙ unnamed)) (λ y. never (eqb x y));
-      }
-        where
-          never : (b : Bool) → false ≡ pick b false false
-          never true = refl
-          never false = refl
-
-      pub seek-less : count (waiting (has met′) (has todo′)) 128 < count (waiting (has met) (has todo)) 128
-      seek-less =
-          let z = search-less first leads (λ x. not (named x)) (λ _. false) (has met) (has todo) (λ _. false) (S .search) x h (has met′) (has todo′) now-met now-todo 128 (has-below todo x h) in
-          omega (arith, z)
+      pub seek-round : Seeking env any root (near .all) (near .named) met′ todo′ × (count (waiting (has met′) (has todo′)) 128 < count (waiting (has met) (has todo)) 128)
+      seek-round = (record { search = seek-next .0 }, seek-next .1)

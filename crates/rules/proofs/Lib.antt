@@ -25,6 +25,7 @@ pub mod Pigeon
 pub mod FollowBound
 pub mod FollowClosed
 pub mod ClosureLoop
+pub mod SetSearch
 pub mod FollowRoots
 -- The terms that have not finished, and who is in use.
 pub mod Finishing

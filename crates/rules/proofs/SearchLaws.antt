@@ -31,132 +31,10 @@ use Rattle.rules.specs.Steps.{passesSlot, passes, Passed, Searched}
 use Rattle.rules.proofs.SetLaws.{rooted-out}
 use Rattle.rules.proofs.FollowBound.{all-met}
 use Rattle.rules.proofs.FollowRoots.{roots-met, whole-by-roots, every-root}
-use Rattle.rules.proofs.ClosureLoop.{Meeting, metAfter, todoAfter, round, over, count, waiting, one-fewer}
+use Rattle.rules.proofs.ClosureLoop.{metAfter, todoAfter, over, count, waiting}
+use Rattle.rules.proofs.SetSearch.{Search, so-far, no-more, search-begins, search-round, search-less, here-met, here-todo, search-next}
 use Rattle.rules.proofs.EntryLaws.{live-status}
 use Rattle.rules.proofs.StepLaws.{stops-deep, passes-at, ends-at, passed-at, leads-nowhere, leads-to-roots}
-
--- ---- the loop, over any sets
-
--- What is met so far; of that, all but what is still to do passes, and `ends` are those of it in which following ends.
-pub record Search (first : ℕ → Bool) (leads : ℕ → ℕ → Bool) (pass own met todo ends : ℕ → Bool) : Type 0 where
-  pub meeting : Meeting first leads met todo
-  pub passed : (y : ℕ) → met y ≡ true → todo y ≡ false → pass y ≡ true
-  pub ended : (y : ℕ) → ends y ≡ pick (met y) (pick (todo y) false (own y)) false
-
-module _ (first : ℕ → Bool) (leads : ℕ → ℕ → Bool) (pass own : ℕ → Bool) where
-  pub search-begins : (met ends : ℕ → Bool) → ((y : ℕ) → met y ≡ first y) → ((y : ℕ) → ends y ≡ false) → Search first leads pass own met met ends
-  search-begins met ends e z = record {
-    meeting = record {
-      start = λ x h. e x ∙ h;
-      inside = λ y h. h;
-      added = λ y w h k l. absurd (true≢false (sym h ∙ k));
-      least = λ s a b y h. a y (sym (e y) ∙ h);
-    };
-    passed = λ y h k. absurd (true≢false (sym h ∙ k));
-    ended = λ y. z y ∙ go (met y) (own y);
-  }
-    where
-      go : (b c : Bool) → false ≡ pick b (pick b false c) false
-      go true c = refl
-      go false c = refl
-
-  module _ (met todo ends : ℕ → Bool) (S : Search first leads pass own met todo ends) (x : ℕ) (h : todo x ≡ true) where
-    module _ (met′ todo′ : ℕ → Bool) (me : (z : ℕ) → met′ z ≡ metAfter leads x met z) (te : (z : ℕ) → todo′ z ≡ todoAfter leads x met todo z) where
-      -- The variable x has been looked at: it passes, and counts if following ends in it.
-      pub search-round : (ends′ : ℕ → Bool) → pass x ≡ true → ((y : ℕ) → ends′ y ≡ pick (ends y) true (pick (eqb x y) (own x) false)) → Search first leads pass own met′ todo′ ends′
-      search-round ends′ p ee = record {
-        meeting = round first leads met todo (S .meeting) x h met′ todo′ me te;
-        passed = λ y a b. pass-y y (met y) (todo y) (eqb x y) (leads x y) refl refl refl (sym (me y) ∙ a) (sym (te y) ∙ b);
-        ended = λ y. ee y ∙ ap (λ (b : Bool). pick b true (pick (eqb x y) (own x) false)) (S .ended y)
-            ∙ end-y y (met y) (todo y) (eqb x y) (leads x y) refl refl refl
-            ∙ ap₂ (λ (b c : Bool). pick b (pick c false (own y)) false) (sym (me y)) (sym (te y));
-      }
-        where
-          pass-y : (y : ℕ) (b t q l : Bool) → met y ≡ b → todo y ≡ t → eqb x y ≡ q → pick b true l ≡ true → pick b (pick q false t) l ≡ false → pass y ≡ true
-          pass-y y b t true l e f g i j = ap pass (sym (eqb-true x y g)) ∙ p
-          pass-y y true true false l e f g i j = absurd (true≢false j)
-          pass-y y true false false l e f g i j = S .passed y e f
-          pass-y y false t false true e f g i j = absurd (true≢false j)
-          pass-y y false t false false e f g i j = absurd (false≢true i)
-
-          at-x : (y : ℕ) (b t l : Bool) → b ≡ true → t ≡ true → own x ≡ own y → pick (pick b (pick t false (own y)) false) true (own x) ≡ pick (pick b true l) (pick (pick b false l) false (own y)) false
-          at-x y true true l e f g = g
-          at-x y true false l e f g = absurd (false≢true f)
-          at-x y false t l e f g = absurd (false≢true e)
-
-          other : (b t l o : Bool) → pick (pick b (pick t false o) false) true false ≡ pick (pick b true l) (pick (pick b t l) false o) false
-          other true true l o = refl
-          other true false l true = refl
-          other true false l false = refl
-          other false t true o = refl
-          other false t false o = refl
-
-          end-y : (y : ℕ) (b t q l : Bool) → met y ≡ b → todo y ≡ t → eqb x y ≡ q
-              → pick (pick b (pick t false (own y)) false) true (pick q (own x) false) ≡ pick (pick b true l) (pick (pick b (pick q false t) l) false (own y)) false
-          end-y y b t true l e f g =
-              let z = eqb-true x y g in
-              at-x y b t l (sym e ∙ ap met (sym z) ∙ S .meeting .inside x h) (sym f ∙ ap todo (sym z) ∙ h) (ap own z)
-          end-y y b t false l e f g = other b t l (own y)
-
-      -- One fewer is waiting.
-      pub search-less : (n : ℕ) → x < n → count (waiting met todo) n ≡ suc (count (waiting met′ todo′) n)
-      search-less n l =
-          one-fewer leads n met todo x l h (S .meeting .inside x h)
-          ∙ ap₂ (λ (f g : ℕ → Bool). suc (count (waiting f g) n)) (sym (fun-ext me)) (sym (fun-ext te))
-
-    -- The sets after x in the code: nothing new if it leads nowhere.
-    module _ (todo₁ : ℕ → Bool) (e : (z : ℕ) → todo₁ z ≡ pick (eqb x z) false (todo z)) where
-      -- What is not met is not to be done.
-      unmet : (z : ℕ) → met z ≡ false → todo z ≡ false
-      unmet z k = go (todo z) refl
-        where
-          go : (b : Bool) → todo z ≡ b → b ≡ false
-          go true f = absurd (true≢false (sym (S .meeting .inside z f) ∙ k))
-          go false f = refl
-
-      module _ (none : (z : ℕ) → leads x z ≡ false) where
-        pub here-met : (z : ℕ) → met z ≡ metAfter leads x met z
-        here-met z = go (met z) ∙ ap (λ (l : Bool). pick (met z) true l) (sym (none z))
-          where
-            go : (b : Bool) → b ≡ pick b true false
-            go true = refl
-            go false = refl
-
-        pub here-todo : (z : ℕ) → todo₁ z ≡ todoAfter leads x met todo z
-        here-todo z = e z ∙ go (met z) refl (eqb x z) ∙ ap (λ (l : Bool). pick (met z) (pick (eqb x z) false (todo z)) l) (sym (none z))
-          where
-            off : (t q : Bool) → t ≡ false → pick q false t ≡ false
-            off t true k = refl
-            off t false k = k
-
-            go : (b : Bool) → met z ≡ b → (q : Bool) → pick q false (todo z) ≡ pick b (pick q false (todo z)) false
-            go true k q = refl
-            go false k q = off (todo z) q (unmet z k)
-
-      module _ (new : ℕ → Bool) (some : (z : ℕ) → leads x z ≡ new z) (more : ℕ → Bool) (me : (z : ℕ) → more z ≡ pick (met z) false (new z)) where
-        pub through-met : (met′ : ℕ → Bool) → ((z : ℕ) → met′ z ≡ pick (met z) true (more z)) → (z : ℕ) → met′ z ≡ metAfter leads x met z
-        through-met met′ q z = q z ∙ ap (λ (b : Bool). pick (met z) true b) (me z) ∙ go (met z) (new z) ∙ ap (λ (l : Bool). pick (met z) true l) (sym (some z))
-          where
-            go : (b l : Bool) → pick b true (pick b false l) ≡ pick b true l
-            go true l = refl
-            go false l = refl
-
-        pub through-todo : (todo′ : ℕ → Bool) → ((z : ℕ) → todo′ z ≡ pick (todo₁ z) true (more z)) → (z : ℕ) → todo′ z ≡ todoAfter leads x met todo z
-        through-todo todo′ q z =
-            q z ∙ ap₂ (λ (a b : Bool). pick a true b) (e z) (me z) ∙ go (met z) refl (eqb x z) (new z) ∙ ap (λ (l : Bool). pick (met z) (pick (eqb x z) false (todo z)) l) (sym (some z))
-          where
-            same : (b : Bool) → pick b true false ≡ b
-            same true = refl
-            same false = refl
-
-            off : (t p l : Bool) → t ≡ false → pick (pick p false t) true l ≡ l
-            off t true l k = refl
-            off true false l k = absurd (true≢false k)
-            off false false l k = refl
-
-            go : (b : Bool) → met z ≡ b → (p l : Bool) → pick (pick p false (todo z)) true (pick b false l) ≡ pick b (pick p false (todo z)) l
-            go true k p l = same (pick p false (todo z))
-            go false k p l = off (todo z) p l (unmet z k)
 
 -- ---- in a table
 
@@ -169,15 +47,6 @@ ending env m y = ownLink (environmentOf env y) (linksOf (environmentOf env y) - 
 
 abbrev pub Searching : List ℕ → ℕ → ℕ → Bool → Roots → Roots → Roots → Type 0
 Searching env root m deep met todo es = Search (eqb root) (leads (environmentOf env) m) (passing env m deep) (ending env m) (has met) (has todo) (has es)
-
-so-far : (b o : Bool) → o ≡ true → b ≡ pick b o false
-so-far true o e = sym e
-so-far false o e = refl
-
-no-more : (a b o : Bool) → o ≡ false → a ≡ pick a true (pick b o false)
-no-more true b o e = refl
-no-more false true o e = sym e
-no-more false false o e = refl
 
 module _ (env : List ℕ) (n : ℕ) (T : NeatTable env n) (root m : ℕ) (is : environmentOf env root ≡ live (variableAt env root)) (long : m ≤ longAt env root) where
   abbrev start : Place
@@ -313,30 +182,21 @@ module _ (env : List ℕ) (n : ℕ) (T : NeatTable env n) (root m : ℕ) (is : e
             some : (z : ℕ) → leading x z ≡ has roots z
             some z = leads-to-roots env x m (in-reach .0) (P .through e .1) z ∙ ap (λ (k : Roots). has k z) (sym re)
 
-            more-met : (z : ℕ) → has met′ z ≡ metAfter leading x (has met) z
-            more-met = through-met (eqb root) leading (passing env m deep) (ending env m) (has met) (has todo) (has es) S x h (has todo₁) te (has roots) some (has more) me (has met′) met-is
-
-            more-todo : (z : ℕ) → has todo′ z ≡ todoAfter leading x (has met) (has todo) z
-            more-todo = through-todo (eqb root) leading (passing env m deep) (ending env m) (has met) (has todo) (has es) S x h (has todo₁) te (has roots) some (has more) me (has todo′) todo-is
-
-            pub through-again : Searching env root m deep met′ todo′ es
-            through-again =
-                search-round (eqb root) leading (passing env m deep) (ending env m) (has met) (has todo) (has es) S x h (has met′) (has todo′) more-met more-todo (has es)
+            pub through-round : Searching env root m deep met′ todo′ es × (count (waiting (has met′) (has todo′)) n < count (waiting (has met) (has todo)) n)
+            through-round =
+                search-next (eqb root) leading (passing env m deep) (ending env m) (has met) (has todo) (has es) S x h (has todo₁) te (has roots) some (has more) me (has met′) (has todo′) (has es) met-is todo-is
                 (passes-at env x m (in-reach .0) deep ∙ P .through e .0)
                 (λ y. no-more (has es y) (eqb x y) (ending env m x) (passed-at env x m (in-reach .0) (P .through e .1)))
-
-            pub through-less : count (waiting (has met′) (has todo′)) n < count (waiting (has met) (has todo)) n
-            through-less =
-                let z = search-less (eqb root) leading (passing env m deep) (ending env m) (has met) (has todo) (has es) S x h (has met′) (has todo′) more-met more-todo n (in-reach .2) in
-                omega (arith, z)
+                n
+                (in-reach .2)
 
   -- The root has been looked at, and leads beyond its borrow link: what it records is to do, `none` is left of the first set.
   pub search-goes-on : (deep : Bool) → Passed deep (variableAt env root) (longAt env root - m) step.Through → (one roots more met none : Roots) → ((y : ℕ) → has one y ≡ eqb root y)
       → roots ≡ rootsAt env root → ((z : ℕ) → has more z ≡ pick (has one z) false (has roots z)) → ((z : ℕ) → has met z ≡ pick (has one z) true (has more z)) → ((y : ℕ) → has none y ≡ false)
       → Searching env root m deep met more none
   search-goes-on deep P one roots more met none oe re me met-is ne =
-      through-again deep one one none (search-begins (eqb root) (leads (environmentOf env) m) (passing env m deep) (ending env m) (has one) (has none) oe ne) root (oe root ∙ eq-eqb root root refl)
-      (linksAt env root) (longAt env root) refl refl step.Through P none (λ y. ne y ∙ gone (eqb root y) (has one y) (oe y)) refl roots more met more re me met-is (λ z. ap (λ (b : Bool). pick b true (has more z)) (sym (ne z)))
+      through-round deep one one none (search-begins (eqb root) (leads (environmentOf env) m) (passing env m deep) (ending env m) (has one) (has none) oe ne) root (oe root ∙ eq-eqb root root refl)
+      (linksAt env root) (longAt env root) refl refl step.Through P none (λ y. ne y ∙ gone (eqb root y) (has one y) (oe y)) refl roots more met more re me met-is (λ z. ap (λ (b : Bool). pick b true (has more z)) (sym (ne z))) .0
     where
       gone : (q b : Bool) → b ≡ q → false ≡ pick q false b
       gone true b e = refl

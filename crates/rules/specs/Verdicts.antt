@@ -1,13 +1,14 @@
 -- What the rules' functions answer, in the rules' terms: the refusal or the values of each case (LANGUAGE 3.17).
 use Prim.Native.Nat.{ℕ, _-_, _%_, _<_, _≤_}
 use mathlib.Core.Path.{_≡_}
-use mathlib.Core.Bool.{Bool, true, not}
+use mathlib.Core.Bool.{Bool, true, false, not}
 use mathlib.Core.Option.{Option, none, some}
 use mathlib.Core.List.{List, [], _∷_}
 use lib.ListN.{length, getD, drop}
 use lib.Dec.{leb, ltb, eqb}
 use Rattle.reader.specs.Result.{ok, err, pick, need, _>>=_}
 use Rattle.reader.specs.Script as script
+use Rattle.rules.specs.declared.bars.Leading.{Leading}
 use Rattle.rules.specs.declared.roots.Roots.{Roots}
 use Rattle.rules.specs.declared.rules.Located.{Located}
 use Rattle.rules.specs.declared.rules.Located.the-variants as located
@@ -23,6 +24,7 @@ use Rattle.rules.specs.declared.verdicts.Verdict.the-variants as verdict
 use Rattle.rules.specs.Links.{Link, leadingBoxes, maxLinks}
 use Rattle.rules.specs.Environment.{Borrow, places, Variable, used, live, Environment, Ty, update, isFree, borrowsAt}
 use Rattle.rules.specs.Uses.{Unfinished, namedLater}
+use Rattle.rules.specs.Bars.{borrowsAny, heldBy}
 use Rattle.rules.specs.Rules as rules
 use Rattle.rules.specs.Rules.{Judged, Out, judgeBox}
 use Rattle.rules.specs.Judge.{isAnswer}
@@ -32,7 +34,7 @@ use Rattle.rules.specs.Neat.{place, SameSet, Neat}
 use Rattle.rules.specs.Roots.{lengths, placesOf}
 use Rattle.rules.specs.Chains.{chainOf}
 use Rattle.rules.specs.Masks.{has}
-use Rattle.rules.specs.Table.{TableFor, environmentOf, linksAt, longAt, variableAt, placesIn, endIn}
+use Rattle.rules.specs.Table.{entryWord, TableFor, InScope, environmentOf, linksAt, longAt, variableAt, placesIn, endIn}
 
 abbrev pub typeOf : List Link → Borrow → Ty
 typeOf ks b = record { links = ks; borrow = b }
@@ -151,10 +153,20 @@ begun Γ (requirement.Refused n at) = err (n, at)
 
 -- ---- who is named later
 
--- The terms that have not finished name what is used from a row on, and these variables besides. `uses` has for each variable one more than the
--- last row that names it.
+-- What is used from a row on, and these variables besides. `uses` has for each variable one more than the last row that names it.
+abbrev pub namedFrom : List ℕ → ℕ → (ℕ → Bool) → ℕ → Bool
+namedFrom uses from named x = pick (ltb from (getD uses x 0)) true (named x)
+
+-- The terms that have not finished name these.
 abbrev pub LaterIs : ℕ → List ℕ → ℕ → (ℕ → Bool) → Unfinished → Type 0
-LaterIs nv uses from named ns = (x : ℕ) → x < nv → namedLater ns x ≡ pick (ltb from (getD uses x 0)) true (named x)
+LaterIs nv uses from named ns = (x : ℕ) → x < nv → namedLater ns x ≡ namedFrom uses from named x
+
+-- All these that are in scope, and whoever holds a borrow of a place rooted in one of all; and those of all that are named.
+pub record LeadingTo (env : List ℕ) (these : Roots) (named : ℕ → Bool) (r : Leading) : Type 0 where
+  pub scoped : InScope env (r .all)
+  pub start : (x : ℕ) → 2 ≤ entryWord env x 0 → has these x ≡ true → has (r .all) x ≡ true
+  pub closed : (x y : ℕ) → has (r .all) x ≡ true → heldBy borrowsAny (environmentOf env y) x ≡ true → has (r .all) y ≡ true
+  pub named-are : (x : ℕ) → has (r .named) x ≡ pick (has (r .all) x) (named x) false
 
 -- ---- values
 

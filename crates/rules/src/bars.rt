@@ -3,14 +3,12 @@
 ghost use mathlib.Core.Path.{_≡_};
 ghost use mathlib.Core.Bool.{true, false};
 ghost use Prim.Native.Nat.{ℕ, _<_};
-ghost use lib.Dec.{ltb};
-ghost use lib.ListN.{length, getD};
-ghost use Rattle.reader.specs.Result.{pick};
+ghost use lib.ListN.{length};
 ghost use Rattle.rules.specs.Uses.{Unfinished};
 ghost use Rattle.rules.specs.Bars.{heldBy, held, inUse};
 ghost use Rattle.rules.specs.Masks.{has};
 ghost use Rattle.rules.specs.Table.{TableFor, environmentOf, borrowsBy, MayHold};
-ghost use Rattle.rules.specs.Verdicts.{LaterIs};
+ghost use Rattle.rules.specs.Verdicts.{namedFrom, LaterIs, LeadingTo};
 use crate::chains::leading_boxes;
 use crate::environment::in_scope;
 use crate::roots::Roots;
@@ -19,6 +17,8 @@ use crate::roots::is_empty;
 use crate::roots::is_member;
 use crate::roots::less;
 use crate::roots::lowest;
+use crate::roots::no_roots;
+use crate::roots::only;
 use crate::roots::unite;
 use crate::roots::without;
 use crate::table::BorrowEnd;
@@ -38,7 +38,7 @@ pub struct Later {
 // names it.
 fn is_named(uses: &[u32], x: usize, later: Later) -> bool
     requires { ⌜ x < length (now uses) ⌝ }
-    ensures { λ r. ⌜ r ≡ pick (ltb (later .from) (getD (now (uses .entry)) x 0)) true (has (later .named) x) ⌝ }
+    ensures { λ r. ⌜ r ≡ namedFrom (now (uses .entry)) (later .from) (has (later .named)) x ⌝ }
 {
     if later.from < uses[x] as usize {
         return true;
@@ -46,51 +46,67 @@ fn is_named(uses: &[u32], x: usize, later: Later) -> bool
     is_member(later.named, x)
 }
 
-// Holding (LANGUAGE 3.10): x holds a borrow of a place with the root; any, or an exclusive one.
-fn holds(env: &[u64], variables: usize, x: usize, root: usize, any: bool) -> bool
-    requires { ⌜ TableFor (now env) variables × (root < variables) ⌝ }
-    ensures { λ r. ⌜ r ≡ heldBy (borrowsBy any) (environmentOf (now (env .entry)) x) root ⌝ }
+// Holding (LANGUAGE 3.10): the roots of the places of which x holds a borrow; any, or an exclusive one.
+fn held_by(env: &[u64], variables: usize, x: usize, any: bool) -> Roots
+    requires { ⌜ TableFor (now env) variables ⌝ }
+    ensures { λ r. ⌜ ((root : ℕ) → has r root ≡ heldBy (borrowsBy any) (environmentOf (now (env .entry)) x) root) ⌝ }
 {
+    let none = no_roots();
     let entry = load(env, variables, x);
     let Entry::Live(state) = entry else {
-        return false;
+        return none;
     };
     if state.moved_from <= leading_boxes(state.links) as u64 {
-        return false;
+        return none;
     }
     let end = state.borrow_end;
     match end {
-        BorrowEnd::None => false,
+        BorrowEnd::None => none,
         BorrowEnd::Shared(roots) => {
             if any {
-                return is_member(roots, root);
+                return roots;
             }
-            false
+            none
         }
-        BorrowEnd::Exclusive(roots) => is_member(roots, root),
+        BorrowEnd::Exclusive(roots) => roots,
     }
 }
 
-// Those of the set that hold a borrow of a place with the root; any, or an exclusive one.
-fn holders_among(env: &[u64], variables: usize, root: usize, any: bool, may: Roots) -> Roots
-    requires { ⌜ TableFor (now env) variables × (root < variables) ⌝ }
-    ensures { λ r. ⌜ ((x : ℕ) → has r x ≡ pick (has may x) (heldBy (borrowsBy any) (environmentOf (now (env .entry)) x) root) false) ⌝ }
+// Variables that may lead to a root: those that may hold a borrow of it, those that may hold one of these, and so on; and
+// those of them that are named by a term that has not finished.
+pub struct Leading {
+    pub all: Roots,
+    pub named: Roots,
+}
+
+// All that may lead to a root which these may hold, by the notes alone: no variable's entry is loaded. Each variable is
+// taken up once at most.
+fn leading_to(env: &[u64], variables: usize, uses: &[u32], later: Later, may: Roots) -> Leading
+    requires { ⌜ TableFor (now env) variables × (length (now uses) ≡ variables) ⌝ }
+    ensures { λ r. ⌜ LeadingTo (now (env .entry)) may (namedFrom (now (uses .entry)) (later .from) (has (later .named))) r ⌝ }
 {
-    let mut holders = may;
-    let mut left = may;
+    let scope = in_scope(env, variables);
+    let mut all = common(may, scope);
+    let mut left = all;
+    let mut named = no_roots();
     while !is_empty(left) {
         let x = lowest(left);
-        if !holds(env, variables, x, root, any) {
-            holders = without(holders, x);
+        if is_named(uses, x, later) {
+            named = unite(named, only(x));
         }
-        left = without(left, x);
+        let more = common(less(holders_at(env, x), all), scope);
+        all = unite(all, more);
+        left = unite(without(left, x), more);
     }
-    holders
+    Leading {
+        all: all,
+        named: named,
+    }
 }
 
-// A variable in use (LANGUAGE 3.34) holds a borrow of a place with the root; any, or an exclusive one. The search goes
-// from holders to those that hold them: it takes up each variable once at most, and tests for it those not met yet that
-// may hold it.
+// A variable in use (LANGUAGE 3.34) holds a borrow of a place with the root; any, or an exclusive one. Most often no
+// variable that may lead to the root is named. From those that are, the search goes to what each holds, among those that
+// may lead to the root: all that it meets are in use.
 pub fn is_held(
     env: &[u64],
     variables: usize,
@@ -103,15 +119,15 @@ pub fn is_held(
     requires { ⌜ TableFor (now env) variables × (root < variables) × MayHold (now env) any root may × (length (now uses) ≡ variables) ⌝ }
     ensures { λ r. ⌜ ((ns : Unfinished) → LaterIs variables (now (uses .entry)) (later .from) (has (later .named)) ns → r ≡ held (borrowsBy any) (inUse variables ns (environmentOf (now (env .entry)))) variables (environmentOf (now (env .entry))) root) ⌝ }
 {
-    let mut left = holders_among(env, variables, root, any, may);
-    let mut met = left;
+    let near = leading_to(env, variables, uses, later, may);
+    let mut met = near.named;
+    let mut left = met;
     while !is_empty(left) {
         let x = lowest(left);
-        if is_named(uses, x, later) {
+        if is_member(held_by(env, variables, x, any), root) {
             return true;
         }
-        let others = common(less(holders_at(env, x), met), in_scope(env, variables));
-        let more = holders_among(env, variables, x, true, others);
+        let more = common(less(held_by(env, variables, x, true), met), near.all);
         met = unite(met, more);
         left = unite(without(left, x), more);
     }

@@ -12,7 +12,7 @@ use Rattle.rules.specs.Masks.{has}
 use Rattle.rules.specs.Table.{linksAt}
 use Rattle.rules.proofs.ClosureLoop.{count, waiting}
 use Rattle.rules.proofs.MaskLaws.{none-in}
-use Rattle.rules.proofs.SearchLaws.{Searching, search-goes-on, search-over, in-reach, search-stops, here-again, here-less, through-again, through-less}
+use Rattle.rules.proofs.SearchLaws.{Searching, search-goes-on, search-over, in-reach, search-stops, here-again, here-less, through-round}
 use Rattle.rules.proofs.follow.search_beyond.Statement.{statement}
 use Rattle.rules.proofs.follow.search_beyond.Tie as tie
 
@@ -137,17 +137,24 @@ unite-requires-3 c κs = search needs
 unite-requires-4 : tie.Need-unite-requires-4 Inv-loop μ-loop
 unite-requires-4 c κs = search needs
 
+-- One round beyond the links of x: what the loop keeps holds again, and there is less to do.
+module _ (c : tie.After-unite4 Inv-loop μ-loop) where
+  abbrev stepped : tie.After-step-at Inv-loop μ-loop
+  stepped = c .before .before .before .before .before .before
+
+  abbrev taken : tie.After-without Inv-loop μ-loop
+  taken = stepped .before .before .before
+
+  beyond : Searching (env taken) (start taken .args .root) (start taken .args .remaining) (start taken .args .deep) (c .before .unite3 .result) (c .unite4 .result) (at-loop taken .loop .ends)
+      × (count (waiting (has (c .before .unite3 .result)) (has (c .unite4 .result))) (start taken .args .variables) < count (waiting (has (at-loop taken .loop .met)) (has (at-loop taken .loop .todo))) (start taken .args .variables))
+  beyond =
+      through-round _ _ (start taken .pre .0) _ _ (start taken .pre .1) (start taken .pre .2) _ _ _ _ (at-loop taken .loop .inv) _ (taken .before .lowest .ensures .0) _ _ (stepped .before .before .links-at .ensures) (stepped .before .chain-length .ensures .0) _ (stepped .step-at .ensures) _ (taken .without .ensures) (c .before .before .before .before .enum-told3 .given .1) _ _ _ _ (c .before .before .before .roots-at2 .ensures) (c .before .before .less2 .ensures) (c .before .unite3 .ensures) (c .unite4 .ensures)
+
 loop-less-2 : tie.Need-loop-less-2 Inv-loop μ-loop
-loop-less-2 c =
-    let s = c .before .before .before .before .before .before in
-    let w = s .before .before .before in
-    through-less _ _ (start w .pre .0) _ _ (start w .pre .1) (start w .pre .2) _ _ _ _ (at-loop w .loop .inv) _ (w .before .lowest .ensures .0) _ _ (s .before .before .links-at .ensures) (s .before .chain-length .ensures .0) _ (s .step-at .ensures) _ (w .without .ensures) (c .before .before .before .before .enum-told3 .given .1) _ _ _ _ (c .before .before .before .roots-at2 .ensures) (c .before .before .less2 .ensures) (c .before .unite3 .ensures) (c .unite4 .ensures)
+loop-less-2 c = beyond c .1
 
 loop-again-2 : tie.Need-loop-again-2 Inv-loop μ-loop
-loop-again-2 c =
-    let s = c .before .before .before .before .before .before in
-    let w = s .before .before .before in
-    through-again _ _ (start w .pre .0) _ _ (start w .pre .1) (start w .pre .2) _ _ _ _ (at-loop w .loop .inv) _ (w .before .lowest .ensures .0) _ _ (s .before .before .links-at .ensures) (s .before .chain-length .ensures .0) _ (s .step-at .ensures) _ (w .without .ensures) (c .before .before .before .before .enum-told3 .given .1) _ _ _ _ (c .before .before .before .roots-at2 .ensures) (c .before .before .less2 .ensures) (c .before .unite3 .ensures) (c .unite4 .ensures)
+loop-again-2 c = beyond c .0
 
 returns-2 : tie.Need-returns-2 Inv-loop μ-loop
 returns-2 c =
