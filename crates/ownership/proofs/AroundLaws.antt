@@ -27,7 +27,7 @@ use Rattle.ownership.specs.declared.terms.JudgedTerm.{JudgedTerm}
 use Rattle.ownership.specs.RowUses.{rowNames}
 use Rattle.ownership.specs.JudgeRows.{atRow, ended, judgedAt, judgeAt, Wraps, AllWrap, beginAt, ruleAfter, afterAt}
 use Rattle.rules.proofs.Finishing.{left-after}
-use Rattle.ownership.proofs.FoundUses.{names-one, wrap-one, box-none}
+use Rattle.ownership.proofs.FoundUses.{wrap-one, box-none}
 use Rattle.ownership.proofs.JudgeLaws.{refused-ended, fine-ended, inner-step}
 
 -- What a let asks before its inner term.
@@ -119,7 +119,7 @@ module _ (nv l : ℕ) (rows : List ℕ) (i : ℕ) (good : IsTree (treeAt nv l ro
 
   -- A let and an assign name one variable.
   own-name : (fieldAt rows i 0 ≡ 7 → ⊥) → rowNames rows i ≡ fieldAt rows i 1 ∷ []
-  own-name b = names-one (fieldAt rows i 0) (fieldAt rows i 1) (fieldAt rows i 3) (wrap-one (fieldAt rows i 0) wraps b)
+  own-name b = wrap-one (fieldAt rows i 0) (fieldAt rows i 1) (fieldAt rows i 3) wraps b
 
   module _ (level : ℕ) (later : ℕ → Unfinished) (Γ : Environment) where
     -- The inner term is judged with this one among those that have not finished.

@@ -21,7 +21,7 @@ use Rattle.rules.proofs.MaskLaws.{none-in}
 use Rattle.rules.proofs.InUse.{held-some}
 use Rattle.ownership.proofs.EitherLaws.{swapped, second}
 use Rattle.ownership.proofs.RowUseLaws.{named-one, last-row}
-use Rattle.ownership.proofs.FoundUses.{names-one, wrap-one, box-none}
+use Rattle.ownership.proofs.FoundUses.{wrap-one, box-none}
 
 -- Where no variable may hold a borrow of the root, none of these does.
 pub nobody-holds : (env : List ℕ) (any : Bool) (root : ℕ) (s : Roots) → MayHold env any root s → isEmpty s ≡ true → (these : ℕ → Bool) (n : ℕ) → held (borrowsBy any) these n (environmentOf env) root ≡ false
@@ -66,4 +66,4 @@ module _ (rows : List ℕ) (start k : ℕ) (named all : ℕ → Bool) (so-far : 
   named-other next en kind y ek ey w n more one me oe x =
       me x
       ∙ rw (so-far x, oe x) (swapped (namedWith rows start k named x) (eqb y x) ∙ second (eqb y x) (named x) (namedLater (namings rows start k) x))
-      ∙ sym (one-more next en x (eqb y x) (rw (← ek, names-one kind (fieldAt rows (start + k) 1) (fieldAt rows (start + k) 3) (wrap-one kind (rw ek w) n), ← ey) (named-one y x)))
+      ∙ sym (one-more next en x (eqb y x) (rw (← ek, wrap-one kind (fieldAt rows (start + k) 1) (fieldAt rows (start + k) 3) (rw ek w) n, ← ey) (named-one y x)))

@@ -4,12 +4,13 @@
 ghost use mathlib.Core.Path.{_≡_};
 ghost use Prim.Native.Nat.{ℕ, _<_, _≤_};
 ghost use lib.ListN.{length, getD};
-ghost use Rattle.rules.specs.Uses.{Unfinished};
-ghost use Rattle.rules.specs.Bars.{readBarred, writeBarred};
+ghost use Rattle.reader.specs.Kinds.{newest, kindOf};
+ghost use Rattle.rules.specs.Uses.{Unfinished, names};
+ghost use Rattle.rules.specs.Bars.{held, inUse, readBarred, writeBarred};
 ghost use Rattle.rules.specs.Masks.{has};
-ghost use Rattle.rules.specs.Table.{TableFor, environmentOf};
+ghost use Rattle.rules.specs.Table.{TableFor, environmentOf, borrowsBy, MayHold};
 ghost use Rattle.rules.specs.Verdicts.{LaterIs};
-ghost use Rattle.ownership.specs.RowUses.{NamesBelow, UsesFor, namedWith};
+ghost use Rattle.ownership.specs.RowUses.{namesOf, NamesBelow, UsesFor, namedWith};
 ghost use Rattle.ownership.specs.JudgeRows.{AllWrap};
 use reader::fields::field_at;
 use reader::fields::index_at;
@@ -23,6 +24,25 @@ use rules::may_bar_writing;
 use rules::only;
 use rules::unite;
 
+// The kinds whose terms name the variable in field 1 (LANGUAGE 3.33). One arm for each lets the compiler test one bit; a
+// row costs half as much as where they are joined.
+fn names_first(kind: u32) -> bool
+    ensures { λ r. ⌜ ((x y : ℕ) → r ≡ names (namesOf (kindOf newest kind) x y) x) ⌝ }
+{
+    match kind {
+        kinds::COPY => true,
+        kinds::MOVE => true,
+        kinds::SHARED => true,
+        kinds::EXCLUSIVE => true,
+        kinds::LET => true,
+        kinds::ASSIGN => true,
+        kinds::BELOW => true,
+        kinds::CHOICE => true,
+        kinds::SUM => true,
+        _ => false,
+    }
+}
+
 // For each variable one more than the last row that names it (LANGUAGE 3.33), from all 0 on.
 pub fn find_uses(rows: &[u32], terms: usize, uses: &mut [u32])
     requires { ⌜ NamesBelow (length (now uses)) (now rows) terms × (terms < 4294967295) × ((x : ℕ) → getD (now uses) x 0 ≡ 0) ⌝ }
@@ -31,24 +51,16 @@ pub fn find_uses(rows: &[u32], terms: usize, uses: &mut [u32])
     let mut i: usize = 0;
     while i < terms {
         let kind = field_at(rows, i, 0);
-        match kind {
-            kinds::COPY
-            | kinds::MOVE
-            | kinds::SHARED
-            | kinds::EXCLUSIVE
-            | kinds::LET
-            | kinds::ASSIGN
-            | kinds::CHOICE => {
-                let root = index_at(rows, i, 1);
-                uses[root] = (i + 1) as u32;
+        if names_first(kind) {
+            let first = index_at(rows, i, 1);
+            uses[first] = (i + 1) as u32;
+            match kind {
+                kinds::BELOW | kinds::SUM => {
+                    let second = index_at(rows, i, 3);
+                    uses[second] = (i + 1) as u32;
+                }
+                _ => {}
             }
-            kinds::BELOW | kinds::SUM => {
-                let first = index_at(rows, i, 1);
-                let second = index_at(rows, i, 3);
-                uses[first] = (i + 1) as u32;
-                uses[second] = (i + 1) as u32;
-            }
-            _ => {}
         }
         i += 1;
     }
@@ -71,8 +83,33 @@ pub fn with_named(rows: &[u32], start: usize, count: usize, variables: usize, na
     all
 }
 
-// Reading barred (LANGUAGE 3.11), where the terms from row `from` on have not finished, nor count terms around them from
-// row `start` on, nor those that name the set.
+// A variable in use holds a borrow of a place with the root; any, or an exclusive one (LANGUAGE 3.11, 3.12). The terms
+// from row `from` on have not finished, nor count terms around them from row `start` on, nor those that name the set.
+// All that hold one are among those that may.
+fn is_barred(
+    rows: &[u32],
+    start: usize,
+    count: usize,
+    from: usize,
+    env: &[u64],
+    variables: usize,
+    uses: &[u32],
+    named: Roots,
+    root: usize,
+    any: bool,
+    may: Roots,
+) -> bool
+    requires { ⌜ AllWrap variables (now rows) start count × TableFor (now env) variables × (length (now uses) ≡ variables) × (root < variables) × MayHold (now env) any root may ⌝ }
+    ensures { λ r. ⌜ ((ns : Unfinished) → LaterIs variables (now (uses .entry)) from (namedWith (now (rows .entry)) start count (has named)) ns → r ≡ held (borrowsBy any) (inUse variables ns (environmentOf (now (env .entry)))) variables (environmentOf (now (env .entry))) root) ⌝ }
+{
+    let later = Later {
+        from: from,
+        named: with_named(rows, start, count, variables, named),
+    };
+    is_held(env, variables, uses, later, root, any, may)
+}
+
+// Reading barred (LANGUAGE 3.11), likewise; most often no variable may hold the root, and nothing is searched.
 pub fn read_barred(
     rows: &[u32],
     start: usize,
@@ -91,11 +128,19 @@ pub fn read_barred(
     if is_empty(may) {
         return false;
     }
-    let later = Later {
-        from: from,
-        named: with_named(rows, start, count, variables, named),
-    };
-    is_held(env, variables, uses, later, root, false, may)
+    is_barred(
+        rows,
+        start,
+        count,
+        from,
+        env,
+        variables,
+        uses,
+        named,
+        root,
+        false,
+        may,
+    )
 }
 
 // Writing barred (LANGUAGE 3.12), likewise.
@@ -117,9 +162,17 @@ pub fn write_barred(
     if is_empty(may) {
         return false;
     }
-    let later = Later {
-        from: from,
-        named: with_named(rows, start, count, variables, named),
-    };
-    is_held(env, variables, uses, later, root, true, may)
+    is_barred(
+        rows,
+        start,
+        count,
+        from,
+        env,
+        variables,
+        uses,
+        named,
+        root,
+        true,
+        may,
+    )
 }

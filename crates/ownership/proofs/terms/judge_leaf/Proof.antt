@@ -5,7 +5,7 @@ use mathlib.Core.Logic.{inl, inr, ⊎-elim}
 use borrow.Author.Needs.{needs}
 use Rattle.reader.specs.Kinds.{newest, kindOf, among, kinds, byteOf}
 use Rattle.ownership.specs.JudgeRows.{judgeLeaf}
-use Rattle.ownership.proofs.FoundUses.{one-in, two-in}
+use Rattle.ownership.proofs.FoundUses.{naming-kinds, same-kind, two-in}
 use Rattle.ownership.proofs.BarredLaws.{read-at-root}
 use Rattle.ownership.proofs.LeafLaws.{leaf-number}
 use Rattle.ownership.proofs.terms.judge_leaf.Statement.{statement}
@@ -20,8 +20,7 @@ sub-count c = search needs
 read-barred-requires : tie.Need-read-barred-requires
 read-barred-requires c κs =
     let start = c .before .before .before .before .before .before in
-    let k = c .before .match .keys1 in
-    (start .pre .3, start .pre .0 .0, start .pre .1, omega (arith, c .before .before .index-of .ensures, start .pre .4 _ (one-in _ _ _ (inr (inl (omega (arith, k), omega (arith, k)))))))
+    (start .pre .3, start .pre .0 .0, start .pre .1, omega (arith, c .before .before .index-of .ensures, start .pre .4 _ (sym (same-kind (c .before .match .keys1) (naming-kinds .0) _ _))))
 
 judge-copy-requires : tie.Need-judge-copy-requires
 judge-copy-requires c κs = search needs
@@ -29,8 +28,7 @@ judge-copy-requires c κs = search needs
 write-barred-requires : tie.Need-write-barred-requires
 write-barred-requires c κs =
     let start = c .before .before .before .before .before .before in
-    let k = c .before .match .keys2 in
-    (start .pre .3, start .pre .0 .0, start .pre .1, omega (arith, c .before .before .index-of .ensures, start .pre .4 _ (one-in _ _ _ (inr (inl (omega (arith, k), omega (arith, k)))))))
+    (start .pre .3, start .pre .0 .0, start .pre .1, omega (arith, c .before .before .index-of .ensures, start .pre .4 _ (sym (same-kind (c .before .match .keys2) (naming-kinds .1) _ _))))
 
 judge-move-requires : tie.Need-judge-move-requires
 judge-move-requires c κs = search needs
@@ -38,8 +36,7 @@ judge-move-requires c κs = search needs
 read-barred-requires-2 : tie.Need-read-barred-requires-2
 read-barred-requires-2 c κs =
     let start = c .before .before .before .before .before .before in
-    let k = c .before .match .keys3 in
-    (start .pre .3, start .pre .0 .0, start .pre .1, omega (arith, c .before .before .index-of .ensures, start .pre .4 _ (one-in _ _ _ (inr (inl (omega (arith, k), omega (arith, k)))))))
+    (start .pre .3, start .pre .0 .0, start .pre .1, omega (arith, c .before .before .index-of .ensures, start .pre .4 _ (sym (same-kind (c .before .match .keys3) (naming-kinds .2) _ _))))
 
 judge-shared-requires : tie.Need-judge-shared-requires
 judge-shared-requires c κs = search needs
@@ -47,8 +44,7 @@ judge-shared-requires c κs = search needs
 write-barred-requires-2 : tie.Need-write-barred-requires-2
 write-barred-requires-2 c κs =
     let start = c .before .before .before .before .before .before in
-    let k = c .before .match .keys4 in
-    (start .pre .3, start .pre .0 .0, start .pre .1, omega (arith, c .before .before .index-of .ensures, start .pre .4 _ (one-in _ _ _ (inr (inl (omega (arith, k), omega (arith, k)))))))
+    (start .pre .3, start .pre .0 .0, start .pre .1, omega (arith, c .before .before .index-of .ensures, start .pre .4 _ (sym (same-kind (c .before .match .keys4) (naming-kinds .3) _ _))))
 
 judge-exclusive-requires : tie.Need-judge-exclusive-requires
 judge-exclusive-requires c κs = search needs

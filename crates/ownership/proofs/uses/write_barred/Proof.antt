@@ -2,10 +2,8 @@
 use mathlib.Core.Path.{sym, _∙_}
 use mathlib.Core.Bool.{true}
 use borrow.Author.Needs.{needs}
-use Rattle.rules.specs.Masks.{has}
 use Rattle.rules.specs.Table.{borrowsBy}
-use Rattle.ownership.specs.RowUses.{namedWith}
-use Rattle.ownership.proofs.BarredLaws.{nobody-holds, later-has}
+use Rattle.ownership.proofs.BarredLaws.{nobody-holds}
 use Rattle.ownership.proofs.uses.write_barred.Statement.{statement}
 use Rattle.ownership.proofs.uses.write_barred.Tie as tie
 
@@ -19,17 +17,12 @@ returns : tie.Need-returns
 unfolding borrowsBy
 returns c = λ ns later. sym (nobody-holds _ true _ _ (c .before .before .may-bar-writing .ensures) (sym (c .before .is-empty .ensures) ∙ c .if1 .taken) _ _)
 
-with-named-requires : tie.Need-with-named-requires
-with-named-requires c κs = search needs
-
-is-held-requires : tie.Need-is-held-requires
-is-held-requires c κs = search needs
+is-barred-requires : tie.Need-is-barred-requires
+is-barred-requires c κs = search needs
 
 returns-2 : tie.Need-returns-2
 unfolding borrowsBy
-returns-2 c =
-    let start = c .before .before .before .before .before .before .before .before in
-    λ ns later. c .is-held .ensures ns (later-has _ (start .args .uses .now) (start .args .from) _ (namedWith (start .args .rows .now) (start .args .start) (start .args .count) (has (start .args .named))) ns (c .before .with-named .ensures) later)
+returns-2 c = c .is-barred .ensures
 
 pub write-barred-spec : {M : Type 1} → statement M
 write-barred-spec =
@@ -38,6 +31,5 @@ write-barred-spec =
     may-bar-writing-requires
     is-empty-requires
     returns
-    with-named-requires
-    is-held-requires
+    is-barred-requires
     returns-2)
