@@ -10,8 +10,7 @@ use Rattle.reader.specs.Kinds.{wrapsOf}
 use Rattle.reader.specs.RowParts.{fieldAt}
 use Rattle.rules.specs.declared.roots.Roots.{Roots}
 use Rattle.rules.specs.Uses.{Unfinished, names, namedLater}
-use Rattle.rules.specs.Environment.{Environment}
-use Rattle.rules.specs.Bars.{held, readBarred}
+use Rattle.rules.specs.Bars.{held}
 use Rattle.rules.specs.Masks.{has, isEmpty}
 use Rattle.rules.specs.Table.{environmentOf, borrowsBy, MayHold}
 use Rattle.rules.specs.Verdicts.{LaterIs}
@@ -30,10 +29,6 @@ nobody-holds env any root s may e these n = go (held (borrowsBy any) these n (en
     go : (b : Bool) → held (borrowsBy any) these n (environmentOf env) root ≡ b → b ≡ false
     go true k = let h = held-some (borrowsBy any) these (environmentOf env) root n k in sym (may (h .0) (h .2)) ∙ none-in s e (h .0)
     go false k = refl
-
--- What is barred goes by the root's number, however the code has it.
-pub read-at-root : (nv : ℕ) (ns : Unfinished) (Γ : Environment) {barred : Bool} {x y : ℕ} → x ≡ y → barred ≡ readBarred nv ns Γ x → barred ≡ readBarred nv ns Γ y
-read-at-root nv ns Γ e told = told ∙ ap (λ (x : ℕ). readBarred nv ns Γ x) e
 
 -- The set has what the terms around name.
 pub later-has : (nv : ℕ) (uses : List ℕ) (from : ℕ) (s : Roots) (named : ℕ → Bool) (ns : Unfinished) → ((x : ℕ) → has s x ≡ named x) → LaterIs nv uses from named ns → LaterIs nv uses from (has s) ns

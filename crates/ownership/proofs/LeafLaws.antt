@@ -1,6 +1,7 @@
 -- The terms that have no inner term.
 use Prim.Native.Nat.{ℕ, _+_, _-_, _<_}
 use mathlib.Core.Path.{_≡_, refl, sym, _∙_}
+use mathlib.Core.Logic.{_⊎_, ⊎-elim}
 use mathlib.Core.Bool.{Bool, true}
 use mathlib.Core.Option.{Option, none, some}
 use mathlib.Core.List.{List, _++_}
@@ -8,7 +9,7 @@ use lib.Dec.{ltb}
 use Rattle.reader.specs.Result.{ok}
 use Rattle.reader.specs.Script as script
 use Rattle.reader.specs.Script.{Term}
-use Rattle.reader.specs.Kinds.{Kind, kNumber, kReading, kCopy, kMove, kShared, kExclusive, kBox, kLet, kAssign, kBelow, kBlock, kChoice, kSum, newest, byteOf, kindOf}
+use Rattle.reader.specs.Kinds.{Kind, kNumber, kReading, kCopy, kMove, kShared, kExclusive, kBox, kLet, kAssign, kBelow, kBlock, kChoice, kSum, newest, byteOf, kinds, among, kindOf}
 use Rattle.reader.specs.RowParts.{fieldAt}
 use Rattle.reader.specs.RowTrees.{placeAt, RowTree, IsTree, onlyIf, kindAt, treeAt}
 use Rattle.reader.proofs.KindBytes.{found}
@@ -16,13 +17,23 @@ use Rattle.reader.proofs.RowTreeLaws.{only-in, only-is, tree-kind}
 use Rattle.rules.specs.declared.table.Place.{Place}
 use Rattle.rules.specs.Environment.{Environment}
 use Rattle.rules.specs.Uses.{Unfinished, finishing, names}
-use Rattle.rules.specs.Rules.{numberTy}
+use Rattle.rules.specs.Rules.{numberTy, judgeCopy, judgeMove, judgeShared, judgeExclusive, judgeBelow}
 use Rattle.rules.specs.Judge.{judge}
 use Rattle.rules.specs.Table.{asPlace}
 use Rattle.ownership.specs.declared.terms.JudgedTerm.{JudgedTerm}
 use Rattle.ownership.specs.RowUses.{namesOf}
 use Rattle.ownership.specs.JudgeRows.{rowPlace, atRow, ended, judgedAt, judgeAt, judgeLeaf}
 use Rattle.ownership.proofs.TreeNames.{row-below}
+
+-- The rule of each kind that names places.
+pub leaf-rules : (nv k i : ℕ) (p q : script.Place) (ns : Unfinished) (Γ : Environment)
+    → (k ≡ 3 → judgeCopy nv ns Γ i p ≡ judgeLeaf nv (kindOf newest k) i p q ns Γ)
+    × (k ≡ 4 → judgeMove nv ns Γ i p ≡ judgeLeaf nv (kindOf newest k) i p q ns Γ)
+    × (k ≡ 5 → judgeShared nv ns Γ i p ≡ judgeLeaf nv (kindOf newest k) i p q ns Γ)
+    × (k ≡ 6 → judgeExclusive nv ns Γ i p ≡ judgeLeaf nv (kindOf newest k) i p q ns Γ)
+    × ((k ≡ 10) ⊎ (k ≡ 13) → judgeBelow nv ns Γ i p q ≡ judgeLeaf nv (kindOf newest k) i p q ns Γ)
+unfolding judgeLeaf newest kindOf among kinds byteOf
+leaf-rules nv k i p q ns Γ = (λ e. rw e, λ e. rw e, λ e. rw e, λ e. rw e, ⊎-elim (λ e. rw e) (λ e. rw e))
 
 -- Number and reading, and what the term judge never hands on.
 pub leaf-number : (nv k i : ℕ) (p q : script.Place) (ns : Unfinished) (Γ : Environment) → (k ≡ 3 → ⊥) → (k ≡ 4 → ⊥) → (k ≡ 5 → ⊥) → (k ≡ 6 → ⊥) → (k ≡ 10 → ⊥) → (k ≡ 13 → ⊥) → judgeLeaf nv (kindOf newest k) i p q ns Γ ≡ ok (Γ, some numberTy)

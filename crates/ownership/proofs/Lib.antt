@@ -19,7 +19,6 @@ pub mod LeafLaws
 pub mod BlockLaws
 pub mod ScriptLaws
 pub mod TableStart
-pub mod UsesStart
 pub mod JudgedRows
 pub mod CheckLaws
 pub mod Accepted

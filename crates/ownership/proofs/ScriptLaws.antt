@@ -1,5 +1,6 @@
 -- The whole script: the judge's answer from the term judge's.
 use Prim.Native.Nat.{ℕ}
+use native.Mathlib.Omega.{arith}
 use mathlib.Core.Path.{_≡_, _∙_}
 use mathlib.Core.Bool.{Bool, false}
 use mathlib.Core.Option.{none, some}
@@ -15,8 +16,8 @@ use Rattle.rules.specs.Uses.{Unfinished, finishing}
 use Rattle.rules.specs.Judge.{judge, nothingTaken, judgeScript}
 use Rattle.rules.specs.Verdicts.{asRequirement, judgeAnswer, asValue, verdictOf}
 use Rattle.ownership.specs.declared.terms.JudgedTerm.{JudgedTerm}
-use Rattle.ownership.specs.RowUses.{UsesFor, laterAt}
-use Rattle.ownership.specs.JudgeRows.{ended, judgedAt, judgeAt, restAt, NothingAfter, scriptAt}
+use Rattle.ownership.specs.RowUses.{UsesFor, NamesBelow, laterAt}
+use Rattle.ownership.specs.JudgeRows.{ended, judgedAt, judgeAt, restAt, scriptAt, EndsAt}
 use Rattle.rules.proofs.SameLater.{SameLater, judged-alike}
 use Rattle.ownership.proofs.JudgeLaws.{refused-is, fine-is}
 use Rattle.ownership.proofs.LaterLaws.{nothing-later}
@@ -51,7 +52,11 @@ module _ (nv : ℕ) (f : ℕ → RowTree Term) (i : ℕ) (good : IsTree (f i)) (
       go none h a w = absurd h
       go (some t) h a w = let z = fine-is (judge nv (t .0) 0 (finishing (t .0) ++ later (t .1)) Γ) (t .1) env r w v q in rw (← judged-alone (t .0) (t .1) a, z .0)
 
+pub ends-tree : {A : Type 0} (d : RowTree A) (n : ℕ) → EndsAt d n → IsTree d
+ends-tree none n h = absurd h
+ends-tree (some r) n h = tt
+
 -- Where the rows after the tree name nothing, and no term stands around it.
-pub script-alone : (nv : ℕ) (rows uses : List ℕ) → UsesFor nv rows uses → (named : ℕ → Bool) → ((x : ℕ) → named x ≡ false) → (d : RowTree Term) → NothingAfter rows d → LastTree nv (laterAt nv uses named) d
-script-alone nv rows uses U named e none h = tt
-script-alone nv rows uses U named e (some r) h = nothing-later nv rows uses U named (r .1) h e
+pub script-alone : (nv : ℕ) (rows uses : List ℕ) → UsesFor nv rows uses → (named : ℕ → Bool) → ((x : ℕ) → named x ≡ false) → (d : RowTree Term) (n : ℕ) → EndsAt d n → NamesBelow nv rows n → LastTree nv (laterAt nv uses named) d
+script-alone nv rows uses U named e none n h b = tt
+script-alone nv rows uses U named e (some r) n h b = nothing-later nv rows uses U named (r .1) (λ k a. b .nothing k (omega arith)) e

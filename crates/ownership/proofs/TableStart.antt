@@ -1,7 +1,7 @@
--- The table with which the judge starts: its words are all 0, so nothing is taken, and its notes are right.
+-- The tables with which the judge starts, all 0: in that of the variables nothing is taken, and its notes are right.
 use Prim.Native.Nat.{ℕ, zero, suc, _+_, _*_, _≤_}
 use native.Mathlib.Omega.{arith}
-use mathlib.Core.Path.{_≡_, refl, ap, _∙_, fun-ext}
+use mathlib.Core.Path.{_≡_, refl, sym, ap, _∙_, fun-ext}
 use mathlib.Core.List.{List}
 use lib.ListN.{length, getD, take, replicate, length-replicate}
 use lib.Seq.{length-take-le}
@@ -26,17 +26,32 @@ module _ (l : List ℕ) (zeros : (k : ℕ) → _≡_ {A = ℕ} (getD l k 0) 0) w
   }
 
 -- The first w of m words.
-pub first-words : (m w k : ℕ) → _≡_ {A = ℕ} (getD (take w (replicate m 0)) k 0) 0
+first-words : (m w k : ℕ) → _≡_ {A = ℕ} (getD (take w (replicate m 0)) k 0) 0
 first-words m zero k = refl
 first-words zero (suc w) k = refl
 first-words (suc m) (suc w) zero = refl
 first-words (suc m) (suc w) (suc k) = first-words m w k
 
-pub part-length : (m w : ℕ) → w ≤ m → length {A = ℕ} (take w (replicate m 0)) ≡ w
+part-length : (m w : ℕ) → w ≤ m → length {A = ℕ} (take w (replicate m 0)) ≡ w
 part-length m w h = length-take-le w (replicate m 0) (rw (length-replicate {A = ℕ} m 0) h)
 
-pub part-free : (m w nv : ℕ) → environmentOf (take w (replicate m 0)) ≡ nothingTaken nv
-part-free m w nv = all-free (take w (replicate m 0)) (first-words m w) nv
+-- The parts of two arrays for m variables that nv variables take.
+module _ (m nv : ℕ) (fits : nv ≤ m) where
+  abbrev table : List ℕ
+  table = take (nv * 8 + 16) (replicate (m * 8 + 16) 0)
 
-pub part-table : (m n : ℕ) → n * 8 + 16 ≤ m → n ≤ 128 → TableFor (take (n * 8 + 16) (replicate m 0)) n
-part-table m n h most = (part-length m (n * 8 + 16) h, most, all-noted (take (n * 8 + 16) (replicate m 0)) (first-words m (n * 8 + 16)) n)
+  abbrev uses : List ℕ
+  uses = take nv (replicate m 0)
+
+  pub table-long : nv * 8 + 16 ≡ length table
+  table-long = sym (part-length (m * 8 + 16) (nv * 8 + 16) (omega (arith, fits)))
+
+  pub uses-long : nv ≡ length uses
+  uses-long = sym (part-length m nv fits)
+
+  -- What is asked of both before the script is judged.
+  pub tables-ready : m ≤ 128 → TableFor table nv × (environmentOf table ≡ nothingTaken nv) × (length uses ≡ nv) × ((x : ℕ) → _≡_ {A = ℕ} (getD uses x 0) 0)
+  tables-ready most = ((sym table-long, omega (arith, fits, most), all-noted table zeros nv), all-free table zeros nv, sym uses-long, first-words m nv)
+    where
+      zeros : (k : ℕ) → _≡_ {A = ℕ} (getD table k 0) 0
+      zeros = first-words (m * 8 + 16) (nv * 8 + 16)

@@ -21,10 +21,10 @@ use Rattle.rules.specs.Rules.{Judged, Out, numberTy, judgeCopy, judgeMove, judg
 use Rattle.rules.specs.Judge.{judge, judges, judgeScript}
 use Rattle.rules.specs.Neat.{Neat, NeatValue}
 use Rattle.rules.specs.Met.{judgeBranch}
-use Rattle.rules.specs.Table.{environmentOf}
+use Rattle.rules.specs.Table.{environmentOf, TableFor}
 use Rattle.rules.specs.Verdicts.{verdictOf, beginLet, asValue, answered}
 use Rattle.ownership.specs.declared.terms.JudgedTerm.{JudgedTerm}
-use Rattle.ownership.specs.RowUses.{rowNames}
+use Rattle.ownership.specs.RowUses.{rowNames, UsesFor}
 
 -- The place in fields k and k + 1 of row i, as the code has it.
 abbrev pub rowPlace : List ℕ → ℕ → ℕ → table.Place
@@ -82,6 +82,13 @@ pub record AfterReady (nv level : ℕ) (rows : List ℕ) (i : ℕ) (env : List �
   pub value : (v : Value) → verdictOf (inner .told) ≡ verdict.Fine v → NeatValue (environmentOf env) level (asValue env v)
   pub taken : (v : Value) → verdictOf (inner .told) ≡ verdict.Fine v → fieldAt rows i 0 ≡ 8 → environmentOf env (fieldAt rows i 1) ≡ used
 
+-- What is asked of the tables where a term, a block or a choice is judged at this level, with so many levels left below it.
+pub record Ready (nv level levels : ℕ) (rows env uses : List ℕ) : Type 0 where
+  pub table : TableFor env nv
+  pub neat : Neat nv (environmentOf env) level
+  pub deep : level + levels < 4294967296
+  pub last-uses : UsesFor nv rows uses
+
 -- What is left of a block: n terms from row i on, after one with this value.
 unfoldable pub restAt : ℕ → (ℕ → RowTree Term) → ℕ → (ℕ → Unfinished) → ℕ → ℕ → Option Ty → Environment → Ended
 restAt nv term level later zero i o Γ = ok ((Γ, o), i)
@@ -125,8 +132,3 @@ scriptAt nv (some r) = judgeScript nv (r .0)
 abbrev pub EndsAt : {A : Type 0} → RowTree A → ℕ → Type 0
 EndsAt none n = ⊥
 EndsAt (some r) n = r .1 ≡ n
-
--- The rows after it name nothing.
-abbrev pub NothingAfter : {A : Type 0} → List ℕ → RowTree A → Type 0
-NothingAfter rows none = ⊥
-NothingAfter rows (some r) = (k : ℕ) → r .1 ≤ k → rowNames rows k ≡ []

@@ -4,24 +4,24 @@
 ghost use mathlib.Core.Path.{_≡_};
 ghost use mathlib.Core.Bool.{false};
 ghost use mathlib.Core.Option.{none};
-ghost use Prim.Native.Nat.{suc, _<_, _≤_, _+_, _-_, _*_};
-ghost use lib.ListN.{length};
+ghost use Prim.Native.Nat.{ℕ, suc, _<_, _≤_, _-_, _*_};
+ghost use lib.ListN.{length, getD};
 ghost use Rattle.reader.specs.Kinds.{wrapsOf};
 ghost use Rattle.reader.specs.RowParts.{fieldAt};
 ghost use Rattle.reader.specs.RowTrees.{IsTree, IsRest, treeAt};
 ghost use Rattle.rules.specs.Judge.{nothingTaken};
 ghost use Rattle.rules.specs.Masks.{has};
-ghost use Rattle.rules.specs.Neat.{Neat};
 ghost use Rattle.rules.specs.Table.{TableFor, environmentOf, noteAt};
 ghost use Rattle.rules.specs.Verdicts.{asRequirement};
-ghost use Rattle.ownership.specs.RowUses.{UsesFor, laterAt, laterIn};
-ghost use Rattle.ownership.specs.JudgeRows.{ended, judgeAt, AllWrap, restAt, branchesAt, NothingAfter, scriptAt};
+ghost use Rattle.ownership.specs.RowUses.{NamesBelow, laterAt, laterIn};
+ghost use Rattle.ownership.specs.JudgeRows.{ended, judgeAt, AllWrap, Ready, restAt, branchesAt, EndsAt, scriptAt};
 use crate::row::place_at;
 use crate::terms::JudgedTerm;
 use crate::terms::judge_after;
 use crate::terms::judge_before;
 use crate::terms::judge_leaf;
 use crate::terms::judged_term;
+use crate::uses::find_uses;
 use crate::uses::read_barred;
 use crate::uses::with_named;
 use reader::fields::field_at;
@@ -70,7 +70,7 @@ fn judge_block(
     uses: &[u32],
     named: Roots,
 ) -> JudgedTerm
-    requires { ⌜ IsTree (treeAt variables levels (now rows) i) × (fieldAt (now rows) i 0 ≡ 11) × TableFor (now env) variables × Neat variables (environmentOf (now env)) level × (level + levels < 4294967296) × UsesFor variables (now rows) (now uses) × (start ≤ i) × AllWrap variables (now rows) start (i - start) ⌝ }
+    requires { ⌜ IsTree (treeAt variables levels (now rows) i) × (fieldAt (now rows) i 0 ≡ 11) × Ready variables level levels (now rows) (now env) (now uses) × (start ≤ i) × AllWrap variables (now rows) start (i - start) ⌝ }
     ensures { λ r. ⌜ (ended (now (env .exit)) r ≡ judgeAt variables (treeAt variables levels (now (rows .entry)) i) level (λ next. laterIn (now (rows .entry)) start (i - start) (laterAt variables (now (uses .entry)) (has named) next)) (environmentOf (now (env .entry)))) × TableFor (now (env .exit)) variables ⌝ }
 {
     let count = index_at(rows, i, 1);
@@ -113,7 +113,7 @@ fn judge_branches(
     kept: &mut [u64],
     count: usize,
 ) -> JudgedTerm
-    requires { ⌜ IsTree (treeAt variables levels (now rows) i) × (fieldAt (now rows) i 0 ≡ 12) × TableFor (now env) variables × Neat variables (environmentOf (now env)) level × (level + levels < 4294967296) × UsesFor variables (now rows) (now uses) × (count ≡ noteAt (now env) (suc variables)) × (count * 3 ≤ length (now kept)) ⌝ }
+    requires { ⌜ IsTree (treeAt variables levels (now rows) i) × (fieldAt (now rows) i 0 ≡ 12) × Ready variables level levels (now rows) (now env) (now uses) × (count ≡ noteAt (now env) (suc variables)) × (count * 3 ≤ length (now kept)) ⌝ }
     ensures { λ r. ⌜ (ended (now (env .exit)) r ≡ branchesAt variables levels (now (rows .entry)) i level (laterAt variables (now (uses .entry)) (has named)) (environmentOf (now (env .entry)))) × TableFor (now (env .exit)) variables ⌝ }
 {
     keep(env, variables, kept, count);
@@ -164,7 +164,7 @@ fn judge_few_kept(
     named: Roots,
     count: usize,
 ) -> JudgedTerm
-    requires { ⌜ IsTree (treeAt variables levels (now rows) i) × (fieldAt (now rows) i 0 ≡ 12) × TableFor (now env) variables × Neat variables (environmentOf (now env)) level × (level + levels < 4294967296) × UsesFor variables (now rows) (now uses) × (count ≡ noteAt (now env) (suc variables)) × (count ≤ 16) ⌝ }
+    requires { ⌜ IsTree (treeAt variables levels (now rows) i) × (fieldAt (now rows) i 0 ≡ 12) × Ready variables level levels (now rows) (now env) (now uses) × (count ≡ noteAt (now env) (suc variables)) × (count ≤ 16) ⌝ }
     ensures { λ r. ⌜ (ended (now (env .exit)) r ≡ branchesAt variables levels (now (rows .entry)) i level (laterAt variables (now (uses .entry)) (has named)) (environmentOf (now (env .entry)))) × TableFor (now (env .exit)) variables ⌝ }
 {
     let mut kept: [u64; FEW * KEPT] = [0; FEW * KEPT];
@@ -194,7 +194,7 @@ fn judge_many_kept(
     named: Roots,
     count: usize,
 ) -> JudgedTerm
-    requires { ⌜ IsTree (treeAt variables levels (now rows) i) × (fieldAt (now rows) i 0 ≡ 12) × TableFor (now env) variables × Neat variables (environmentOf (now env)) level × (level + levels < 4294967296) × UsesFor variables (now rows) (now uses) × (count ≡ noteAt (now env) (suc variables)) ⌝ }
+    requires { ⌜ IsTree (treeAt variables levels (now rows) i) × (fieldAt (now rows) i 0 ≡ 12) × Ready variables level levels (now rows) (now env) (now uses) × (count ≡ noteAt (now env) (suc variables)) ⌝ }
     ensures { λ r. ⌜ (ended (now (env .exit)) r ≡ branchesAt variables levels (now (rows .entry)) i level (laterAt variables (now (uses .entry)) (has named)) (environmentOf (now (env .entry)))) × TableFor (now (env .exit)) variables ⌝ }
 {
     let mut kept: [u64; MANY * KEPT] = [0; MANY * KEPT];
@@ -225,7 +225,7 @@ fn judge_inmost(
     uses: &[u32],
     named: Roots,
 ) -> JudgedTerm
-    requires { ⌜ IsTree (treeAt variables levels (now rows) i) × (wrapsOf (fieldAt (now rows) i 0) ≡ false) × TableFor (now env) variables × Neat variables (environmentOf (now env)) level × (level + levels < 4294967296) × UsesFor variables (now rows) (now uses) × (start ≤ i) × AllWrap variables (now rows) start (i - start) ⌝ }
+    requires { ⌜ IsTree (treeAt variables levels (now rows) i) × (wrapsOf (fieldAt (now rows) i 0) ≡ false) × Ready variables level levels (now rows) (now env) (now uses) × (start ≤ i) × AllWrap variables (now rows) start (i - start) ⌝ }
     ensures { λ r. ⌜ (ended (now (env .exit)) r ≡ judgeAt variables (treeAt variables levels (now (rows .entry)) i) level (λ next. laterIn (now (rows .entry)) start (i - start) (laterAt variables (now (uses .entry)) (has named) next)) (environmentOf (now (env .entry)))) × TableFor (now (env .exit)) variables ⌝ }
 {
     let kind = field_at(rows, i, 0);
@@ -282,7 +282,7 @@ fn judge_term(
     uses: &[u32],
     named: Roots,
 ) -> JudgedTerm
-    requires { ⌜ IsTree (treeAt variables levels (now rows) i) × TableFor (now env) variables × Neat variables (environmentOf (now env)) level × (level + levels < 4294967296) × UsesFor variables (now rows) (now uses) ⌝ }
+    requires { ⌜ IsTree (treeAt variables levels (now rows) i) × Ready variables level levels (now rows) (now env) (now uses) ⌝ }
     ensures { λ r. ⌜ (ended (now (env .exit)) r ≡ judgeAt variables (treeAt variables levels (now (rows .entry)) i) level (laterAt variables (now (uses .entry)) (has named)) (environmentOf (now (env .entry)))) × TableFor (now (env .exit)) variables ⌝ }
 {
     let mut around: usize = 0;
@@ -336,7 +336,7 @@ fn judge_terms(
     uses: &[u32],
     named: Roots,
 ) -> JudgedTerm
-    requires { ⌜ IsRest (treeAt variables levels (now rows)) count i × TableFor (now env) variables × Neat variables (environmentOf (now env)) level × (level + levels < 4294967296) × UsesFor variables (now rows) (now uses) ⌝ }
+    requires { ⌜ IsRest (treeAt variables levels (now rows)) count i × Ready variables level levels (now rows) (now env) (now uses) ⌝ }
     ensures { λ r. ⌜ (ended (now (env .exit)) r ≡ restAt variables (treeAt variables levels (now (rows .entry))) level (laterAt variables (now (uses .entry)) (has named)) count i none (environmentOf (now (env .entry)))) × TableFor (now (env .exit)) variables ⌝ }
 {
     let mut judged = JudgedTerm {
@@ -364,17 +364,20 @@ fn judge_terms(
     judged
 }
 
-// The script (LANGUAGE 3.29), with no number taken before it (3.1).
+// The script (LANGUAGE 3.29) of so many terms, with no number taken before it (3.1): first the last uses of its variables,
+// whose table is all 0 before.
 pub fn judge_script(
     rows: &[u32],
+    terms: usize,
     levels: usize,
     env: &mut [u64],
     variables: usize,
-    uses: &[u32],
+    uses: &mut [u32],
 ) -> Requirement
-    requires { ⌜ IsTree (treeAt variables levels (now rows) 0) × TableFor (now env) variables × (environmentOf (now env) ≡ nothingTaken variables) × (levels < 4294967296) × UsesFor variables (now rows) (now uses) × NothingAfter (now rows) (treeAt variables levels (now rows) 0) ⌝ }
+    requires { ⌜ EndsAt (treeAt variables levels (now rows) 0) terms × NamesBelow variables (now rows) terms × (terms < 4294967295) × (levels < 4294967296) × TableFor (now env) variables × (environmentOf (now env) ≡ nothingTaken variables) × (length (now uses) ≡ variables) × ((x : ℕ) → getD (now uses) x 0 ≡ 0) ⌝ }
     ensures { λ r. ⌜ asRequirement r ≡ scriptAt variables (treeAt variables levels (now (rows .entry)) 0) ⌝ }
 {
+    find_uses(rows, terms, uses);
     let judged = judge_terms(rows, 0, 1, levels, env, variables, 0, uses, no_roots());
     let verdict = verdict_of(judged.told);
     match verdict {

@@ -8,7 +8,6 @@ ghost use Rattle.rules.specs.Verdicts.{asRequirement};
 ghost use Rattle.ownership.specs.RowUses.{NamesBelow};
 ghost use Rattle.ownership.specs.JudgeRows.{EndsAt, scriptAt};
 use crate::judge::judge_script;
-use crate::uses::find_uses;
 use reader::limits;
 use rules::Requirement;
 
@@ -35,13 +34,13 @@ fn judge_few(rows: &[u32], levels: usize, variables: usize, terms: usize) -> Req
     let mut env: [u64; SMALLER] = [0; SMALLER];
     let words = variables * ENTRY + NOTES;
     let mut uses: [u32; FEW] = [0; FEW];
-    find_uses(rows, terms, &mut uses[..variables]);
     judge_script(
         rows,
+        terms,
         levels,
         &mut env[..words],
         variables,
-        &uses[..variables],
+        &mut uses[..variables],
     )
 }
 
@@ -53,13 +52,13 @@ fn judge_many(rows: &[u32], levels: usize, variables: usize, terms: usize) -> Re
     let mut env: [u64; LARGER] = [0; LARGER];
     let words = variables * ENTRY + NOTES;
     let mut uses: [u32; MANY] = [0; MANY];
-    find_uses(rows, terms, &mut uses[..variables]);
     judge_script(
         rows,
+        terms,
         levels,
         &mut env[..words],
         variables,
-        &uses[..variables],
+        &mut uses[..variables],
     )
 }
 

@@ -2,32 +2,46 @@
 use native.Mathlib.Omega.{arith}
 use mathlib.Core.Path.{sym, _∙_}
 use borrow.Author.Needs.{needs}
-use Rattle.reader.specs.RowTrees.{treeAt}
+use Rattle.reader.specs.RowTrees.{IsTree, treeAt}
 use Rattle.reader.proofs.RowTreeLaws.{rest-one}
 use Rattle.rules.specs.Masks.{has}
-use Rattle.ownership.specs.RowUses.{laterAt}
 use Rattle.rules.specs.Verdicts.{asRequirement}
 use Rattle.rules.proofs.NeatJudged.{neat-start}
-use Rattle.ownership.proofs.ScriptLaws.{LastTree, script-alone, script-refused, script-fine}
+use Rattle.ownership.specs.RowUses.{UsesFor, laterAt}
+use Rattle.ownership.proofs.ScriptLaws.{LastTree, script-refused, script-fine, ends-tree, script-alone}
 use Rattle.ownership.proofs.judge.judge_script.Statement.{statement}
 use Rattle.ownership.proofs.judge.judge_script.Tie as tie
 
+-- The last uses are found before the script is judged.
+module _ (f : tie.After-find-uses) where
+  abbrev start : tie.Start
+  start = f .before .before .before .before .before
+
+  tree-stands : IsTree (treeAt (start .args .variables) (start .args .levels) (start .args .rows .now) 0)
+  tree-stands = ends-tree (treeAt _ _ _ _) _ (start .pre .0)
+
+  found : UsesFor (start .args .variables) (start .args .rows .now) (f .find-uses .last .1 .1 .0)
+  found = rw (start .pre .6) at (f .find-uses .ensures)
+
 -- Where it is judged: nothing is named after it, nor around it.
 module _ (j : tie.After-judge-terms) where
-  abbrev start : tie.Start
-  start = j .before .before .before .before .before .before
+  abbrev at-find-uses : tie.After-find-uses
+  at-find-uses = j .before .before .before .before .before .before
 
-  alone : LastTree (start .args .variables) (laterAt (start .args .variables) (start .args .uses .now) (has (j .before .no-roots .result))) (treeAt (start .args .variables) (start .args .levels) (start .args .rows .now) 0)
-  alone = script-alone _ _ _ (start .pre .4) _ (j .before .no-roots .ensures) (treeAt _ _ _ _) (start .pre .5)
+  alone : LastTree (start at-find-uses .args .variables) (laterAt (start at-find-uses .args .variables) (at-find-uses .find-uses .last .1 .1 .0) (has (j .before .no-roots .result))) (treeAt (start at-find-uses .args .variables) (start at-find-uses .args .levels) (start at-find-uses .args .rows .now) 0)
+  alone = let p = start at-find-uses .pre in script-alone _ _ _ (found at-find-uses) _ (j .before .no-roots .ensures) (treeAt _ _ _ _) _ (p .0) (p .1)
+
+find-uses-requires : tie.Need-find-uses-requires
+find-uses-requires c κs = let p = c .before .before .before .before .pre in (rw (p .6) (p .1), p .2, p .7)
 
 no-roots-requires : tie.Need-no-roots-requires
 no-roots-requires c κs = search needs
 
 judge-terms-requires : tie.Need-judge-terms-requires
 judge-terms-requires c κs =
-    let start = c .before .before .before .before .before in
-    let p = start .pre in
-    (rest-one _ _ (p .0), p .1, rw (p .2) (neat-start _), omega (arith, p .3), p .4)
+    let f = c .before .before .before .before .before in
+    let p = start f .pre in
+    (rest-one _ _ (tree-stands f), record { table = p .4; neat = rw (p .5) (neat-start _); deep = omega (arith, p .3); last-uses = found f })
 
 verdict-of-requires : tie.Need-verdict-of-requires
 verdict-of-requires c κs = search needs
@@ -35,43 +49,48 @@ verdict-of-requires c κs = search needs
 enum-known-verdict : tie.Need-enum-known-verdict
 enum-known-verdict c = search needs
 
-enum-known-verdict-2 : tie.Need-enum-known-verdict-2
-enum-known-verdict-2 c = search needs
-
-judge-answer-requires : tie.Need-judge-answer-requires
-judge-answer-requires c κs = search needs
-
-same-length : tie.Need-same-length
-same-length c =
-    let at-judge-terms = c .before .before .before .before .before .before in
-    at-judge-terms .judge-terms .kept .1 .1 .1 .1 .0
-
 returns : tie.Need-returns
 unfolding asRequirement
 returns c =
     let at-verdict = c .before in
     let at-verdict-of = at-verdict .before .before in
     let j = at-verdict-of .before .before .before in
+    let f = at-find-uses j in
     let refused = sym (at-verdict-of .verdict-of .ensures) ∙ at-verdict .verdict .given .1 in
-    script-refused _ (treeAt _ _ _) _ (start j .pre .0) _ (alone j) _ (start j .pre .2) _ _ (j .judge-terms .ensures .0) _ refused
+    script-refused _ (treeAt _ _ _) _ (tree-stands f) _ (alone j) _ (start f .pre .5) _ _ (j .judge-terms .ensures .0) _ refused
 
-same-length-2 : tie.Need-same-length-2
-same-length-2 c =
-    let at-judge-terms = c .before .before .before .before .before .before .before in
-    at-judge-terms .judge-terms .kept .1 .1 .1 .1 .0
+enum-known-verdict-2 : tie.Need-enum-known-verdict-2
+enum-known-verdict-2 c = search needs
+
+judge-answer-requires : tie.Need-judge-answer-requires
+judge-answer-requires c κs = search needs
 
 returns-2 : tie.Need-returns-2
 returns-2 c =
     let at-verdict2 = c .before .before in
     let at-verdict-of = at-verdict2 .before .before in
     let j = at-verdict-of .before .before .before in
+    let f = at-find-uses j in
     let fine = sym (at-verdict-of .verdict-of .ensures) ∙ at-verdict2 .verdict2 .given .1 in
-    script-fine _ (treeAt _ _ _) _ (start j .pre .0) _ (alone j) _ (start j .pre .2) _ _ (j .judge-terms .ensures .0) _ fine _ (c .judge-answer .ensures)
+    script-fine _ (treeAt _ _ _) _ (tree-stands f) _ (alone j) _ (start f .pre .5) _ _ (j .judge-terms .ensures .0) _ fine _ (c .judge-answer .ensures)
+
+same-length : tie.Need-same-length
+same-length c = search needs
+
+same-length-2 : tie.Need-same-length-2
+same-length-2 c = search needs
+
+same-length-3 : tie.Need-same-length-3
+same-length-3 c = search needs
+
+same-length-4 : tie.Need-same-length-4
+same-length-4 c = search needs
 
 pub judge-script-spec : {M : Type 1} → statement M
 judge-script-spec =
     tie.close
     (tie.spec
+    find-uses-requires
     no-roots-requires
     judge-terms-requires
     verdict-of-requires
@@ -79,6 +98,8 @@ judge-script-spec =
     enum-known-verdict-2
     judge-answer-requires
     same-length
-    returns
     same-length-2
+    returns
+    same-length-3
+    same-length-4
     returns-2)

@@ -18,7 +18,6 @@ use Rattle.ownership.proofs.BlockTerm.{block-refused, block-fine, block
 use Rattle.ownership.proofs.ScopeLaws.{scope-around}
 use Rattle.ownership.proofs.judge.judge_block.Reads as judge-block
 use Rattle.ownership.proofs.judge.+judge_block+judge_branches+judge_few_kept+judge_inmost+judge_many_kept+judge_term+judge_terms.Lts-judge_block as judge-block-lts
-use Rattle.ownership.proofs.judge.judge_terms.Reads as judge-terms
 use Rattle.ownership.proofs.judge.+judge_block+judge_branches+judge_few_kept+judge_inmost+judge_many_kept+judge_term+judge_terms.Proof.Cycle.{judge-block-at, judge-block-claims}
 
 -- Where its terms are judged.
@@ -52,17 +51,17 @@ judge-block-index-at-requires t c κs =
 pub judge-block-in-scope-requires : (t : ℕ) → judge-block-lts.Need-in-scope-requires (judge-block-claims t) (judge-block-at t) judge-block.Post
 judge-block-in-scope-requires t c κs =
     let start = c .before .before .before .before .before in
-    start .pre .1 .2
+    start .pre .1 .2 .table
 
 pub judge-block-sub-with-named : (t : ℕ) → judge-block-lts.Need-sub-with-named (judge-block-claims t) (judge-block-at t) judge-block.Post
 judge-block-sub-with-named t c =
     let start = c .before .before .before .before .before .before in
-    start .pre .1 .6
+    start .pre .1 .3
 
 pub judge-block-with-named-requires : (t : ℕ) → judge-block-lts.Need-with-named-requires (judge-block-claims t) (judge-block-at t) judge-block.Post
 judge-block-with-named-requires t c κs =
     let start = c .before .before .before .before .before .before in
-    (start .pre .1 .7, start .pre .1 .2 .1)
+    (start .pre .1 .4, start .pre .1 .2 .table .1)
 
 pub judge-block-add-judge-terms : (t : ℕ) → judge-block-lts.Need-add-judge-terms (judge-block-claims t) (judge-block-at t) judge-block.Post
 judge-block-add-judge-terms t c =
@@ -77,7 +76,7 @@ judge-block-sub-judge-terms t c =
 pub judge-block-add-judge-terms-2 : (t : ℕ) → judge-block-lts.Need-add-judge-terms-2 (judge-block-claims t) (judge-block-at t) judge-block.Post
 judge-block-add-judge-terms-2 t c =
     let start = c .before .before .before .before .before .before .before .before in
-    omega (arith, start .pre .1 .4, has-level _ _ _ _ (start .pre .1 .0))
+    omega (arith, start .pre .1 .2 .deep, has-level _ _ _ _ (start .pre .1 .0))
 
 pub judge-block-judge-terms-requires : (t : ℕ) → judge-block-lts.Need-judge-terms-requires (judge-block-claims t) (judge-block-at t) judge-block.Post
 judge-block-judge-terms-requires t c κs =
@@ -85,7 +84,7 @@ judge-block-judge-terms-requires t c κs =
     let start = at-index-at .before .before .before .before in
     let p = start .pre .1 in
     let h = has-level _ _ _ _ (p .0) in
-    (omega (arith, start .pre .0, h), (block-rest _ _ _ _ (p .0) (p .1) _ (at-index-at .index-at .ensures), p .2, rw (add-one _) (neat-enter (p .3)), omega (arith, p .4, h), p .5))
+    (omega (arith, start .pre .0, h), (block-rest _ _ _ _ (p .0) (p .1) _ (at-index-at .index-at .ensures), record { table = p .2 .table; neat = rw (add-one _) (neat-enter (p .2 .neat)); deep = omega (arith, p .2 .deep, h); last-uses = p .2 .last-uses }))
 
 pub judge-block-verdict-of-requires : (t : ℕ) → judge-block-lts.Need-verdict-of-requires (judge-block-claims t) (judge-block-at t) judge-block.Post
 judge-block-verdict-of-requires t c κs = search needs
@@ -112,8 +111,8 @@ pub judge-block-judge-block-end-requires : (t : ℕ) → judge-block-lts.Need-ju
 judge-block-judge-block-end-requires t c κs =
     let j = at-terms t (c .before) in
     let p = start t j .pre .1 in
-    let inside = block-inside _ _ _ _ (p .0) _ (later t j) _ (same t j) _ (p .1) _ (at-count t j .index-at .ensures) _ _ _ (j .judge-terms .ensures .0) _ (fine t (c .before)) (p .3) in
-    (j .judge-terms .ensures .1, scope-around _ _ _ _ (p .2) (p .3) _ inside _ (j .before .before .before .in-scope .ensures))
+    let inside = block-inside _ _ _ _ (p .0) _ (later t j) _ (same t j) _ (p .1) _ (at-count t j .index-at .ensures) _ _ _ (j .judge-terms .ensures .0) _ (fine t (c .before)) (p .2 .neat) in
+    (j .judge-terms .ensures .1, scope-around _ _ _ _ (p .2 .table) (p .2 .neat) _ inside _ (j .before .before .before .in-scope .ensures))
 
 pub judge-block-judged-term-requires : (t : ℕ) → judge-block-lts.Need-judged-term-requires (judge-block-claims t) (judge-block-at t) judge-block.Post
 judge-block-judged-term-requires t c κs = search needs

@@ -23,7 +23,6 @@ use Rattle.ownership.proofs.LaterLaws.{Follows, tree-follows}
 use Rattle.ownership.proofs.BlockLaws.{one-judged}
 use Rattle.ownership.proofs.BranchLaws.{first-ready, first-refused, first-neat, first-stays, second-ready, second-start, second-refused, second-neat, second-stays, branches-fine}
 use Rattle.ownership.proofs.judge.judge_branches.Reads as judge-branches
-use Rattle.ownership.proofs.judge.judge_terms.Reads as judge-terms
 use Rattle.ownership.proofs.judge.+judge_block+judge_branches+judge_few_kept+judge_inmost+judge_many_kept+judge_term+judge_terms.Lts-judge_branches as judge-branches-lts
 use Rattle.ownership.proofs.judge.+judge_block+judge_branches+judge_few_kept+judge_inmost+judge_many_kept+judge_term+judge_terms.Proof.Cycle.{judge-branches-at, judge-branches-claims}
 
@@ -48,7 +47,7 @@ module _ (t : ℕ) (k : judge-branches-lts.After-known-told (judge-branches-clai
   later = laterAt (start .args .variables) (start .args .uses .now) (has (start .args .named))
 
   follows : Follows (start .args .variables) later inside
-  follows = tree-follows _ _ _ (start .pre .1 .5) _ _
+  follows = tree-follows _ _ _ (start .pre .1 .2 .last-uses) _ _
 
   abbrev one : JudgedTerm
   one = at-one .judge-terms .result
@@ -63,10 +62,10 @@ module _ (t : ℕ) (k : judge-branches-lts.After-known-told (judge-branches-clai
   fine₁ = sym (k .before .before .before .verdict-of .ensures) ∙ k .before .verdict .given .1
 
   neat₁ : Neat (start .args .variables) (environmentOf env₁) (start .args .level)
-  neat₁ = first-neat _ _ _ _ (start .pre .1 .0) (start .pre .1 .1) _ _ follows _ _ _ judged₁ (start .pre .1 .3) _ fine₁
+  neat₁ = first-neat _ _ _ _ (start .pre .1 .0) (start .pre .1 .1) _ _ follows _ _ _ judged₁ (start .pre .1 .2 .neat) _ fine₁
 
   stays₁ : Stays Γ (environmentOf env₁)
-  stays₁ = first-stays _ _ _ _ (start .pre .1 .0) (start .pre .1 .1) _ _ follows _ _ _ judged₁ (start .pre .1 .3) _ fine₁
+  stays₁ = first-stays _ _ _ _ (start .pre .1 .0) (start .pre .1 .1) _ _ follows _ _ _ judged₁ (start .pre .1 .2 .neat) _ fine₁
 
 -- Where the second block begins.
 module _ (t : ℕ) (x : judge-branches-lts.After-exchange (judge-branches-claims t) (judge-branches-at t) judge-branches.Post) where
@@ -74,7 +73,7 @@ module _ (t : ℕ) (x : judge-branches-lts.After-exchange (judge-branches-claims
   fine-one = x .before .before .before
 
   exchanged : (environmentOf (x .exchange .last .0) ≡ carried (Γ t fine-one) (environmentOf (env₁ t fine-one))) × KeepsAll (x .exchange .last .1 .1 .0) (start t fine-one .args .count) (environmentOf (env₁ t fine-one))
-  exchanged = x .exchange .ensures .0 _ _ (start t fine-one .pre .1 .3) (at-keep t fine-one .keep .ensures) (stays₁ t fine-one)
+  exchanged = x .exchange .ensures .0 _ _ (start t fine-one .pre .1 .2 .neat) (at-keep t fine-one .keep .ensures) (stays₁ t fine-one)
 
 -- Where it is judged.
 module _ (t : ℕ) (j : judge-branches-lts.After-judge-terms2 (judge-branches-claims t) (judge-branches-at t) judge-branches.Post) where
@@ -96,7 +95,7 @@ pub judge-branches-keep-requires : (t : ℕ) → judge-branches-lts.Need-keep-re
 judge-branches-keep-requires t c κs =
     let start = c .before .before .before .before .before .before in
     let p = start .pre .1 in
-    ((p .2, (_, p .3)), p .6, p .7)
+    ((p .2 .table, (_, p .2 .neat)), p .3, p .4)
 
 pub judge-branches-add-judge-terms : (t : ℕ) → judge-branches-lts.Need-add-judge-terms (judge-branches-claims t) (judge-branches-at t) judge-branches.Post
 judge-branches-add-judge-terms t c =
@@ -113,7 +112,7 @@ judge-branches-judge-terms-requires t c κs =
     let start = c .before .before .before .before .before .before .before .before .before .before in
     let p = start .pre .1 in
     let first = first-ready _ _ _ _ (p .0) (p .1) in
-    (omega (arith, start .pre .0, has-level _ _ _ _ (p .0)), (rest-one _ _ (first .0), p .2, p .3, omega (arith, p .4), p .5))
+    (omega (arith, start .pre .0, has-level _ _ _ _ (p .0)), (rest-one _ _ (first .0), record { table = p .2 .table; neat = p .2 .neat; deep = omega (arith, p .2 .deep); last-uses = p .2 .last-uses }))
 
 pub judge-branches-verdict-of-requires : (t : ℕ) → judge-branches-lts.Need-verdict-of-requires (judge-branches-claims t) (judge-branches-at t) judge-branches.Post
 judge-branches-verdict-of-requires t c κs = search needs
@@ -142,13 +141,13 @@ judge-branches-returns t c =
     let p = start .pre .1 in
     let e = at-judge-terms .judge-terms .ensures .0 ∙ one-judged _ _ _ _ _ _ _ in
     let refused = sym (at-verdict-of .verdict-of .ensures) ∙ c .enum-told .given .1 in
-    (first-refused _ _ _ _ (p .0) (p .1) _ _ (tree-follows _ _ _ (p .5) _ _) _ _ _ e _ refused, at-judge-terms .judge-terms .ensures .1)
+    (first-refused _ _ _ _ (p .0) (p .1) _ _ (tree-follows _ _ _ (p .2 .last-uses) _ _) _ _ _ e _ refused, at-judge-terms .judge-terms .ensures .1)
 
 pub judge-branches-exchange-requires : (t : ℕ) → judge-branches-lts.Need-exchange-requires (judge-branches-claims t) (judge-branches-at t) judge-branches.Post
 judge-branches-exchange-requires t c κs =
     let k = c .before .before in
     let p = start t k .pre .1 in
-    ((at-one t k .judge-terms .ensures .1, (_, neat₁ t k)), omega (arith, p .6, p .2 .2 .most), omega (arith, p .7, at-keep t k .keep .kept .1 .1 .0))
+    ((at-one t k .judge-terms .ensures .1, (_, neat₁ t k)), omega (arith, p .3, p .2 .table .2 .most), omega (arith, p .4, at-keep t k .keep .kept .1 .1 .0))
 
 pub judge-branches-sub-judge-terms-2 : (t : ℕ) → judge-branches-lts.Need-sub-judge-terms-2 (judge-branches-claims t) (judge-branches-at t) judge-branches.Post
 judge-branches-sub-judge-terms-2 t c =
@@ -160,8 +159,8 @@ judge-branches-judge-terms-requires-2 t c κs =
     let x = c .before .before .before .before .before in
     let k = fine-one t x in
     let p = start t k .pre .1 in
-    let second = second-ready _ _ _ _ (p .0) (p .1) _ _ (follows t k) _ _ _ (judged₁ t k) (p .3) _ (fine₁ t k) in
-    (omega (arith, start t k .pre .0, has-level _ _ _ _ (p .0)), (rest-one _ _ (second .0), x .exchange .ensures .1, second-start _ _ _ _ (p .0) (p .1) _ _ (follows t k) _ _ _ (judged₁ t k) (p .3) _ (fine₁ t k) _ (exchanged t x .0), omega (arith, p .4), p .5))
+    let second = second-ready _ _ _ _ (p .0) (p .1) _ _ (follows t k) _ _ _ (judged₁ t k) (p .2 .neat) _ (fine₁ t k) in
+    (omega (arith, start t k .pre .0, has-level _ _ _ _ (p .0)), (rest-one _ _ (second .0), record { table = x .exchange .ensures .1; neat = second-start _ _ _ _ (p .0) (p .1) _ _ (follows t k) _ _ _ (judged₁ t k) (p .2 .neat) _ (fine₁ t k) _ (exchanged t x .0); deep = omega (arith, p .2 .deep); last-uses = p .2 .last-uses }))
 
 pub judge-branches-verdict-of-requires-2 : (t : ℕ) → judge-branches-lts.Need-verdict-of-requires-2 (judge-branches-claims t) (judge-branches-at t) judge-branches.Post
 judge-branches-verdict-of-requires-2 t c κs = search needs
@@ -190,7 +189,7 @@ judge-branches-returns-2 t c =
     let k = fine-one t x in
     let p = start t k .pre .1 in
     let refused = sym (c .before .before .verdict-of2 .ensures) ∙ c .enum-told2 .given .1 in
-    (second-refused _ _ _ _ (p .0) (p .1) _ _ (follows t k) _ _ _ (judged₁ t k) (p .3) _ (fine₁ t k) _ (exchanged t x .0) _ _ (judged₂ t j) _ refused, j .judge-terms2 .ensures .1)
+    (second-refused _ _ _ _ (p .0) (p .1) _ _ (follows t k) _ _ _ (judged₁ t k) (p .2 .neat) _ (fine₁ t k) _ (exchanged t x .0) _ _ (judged₂ t j) _ refused, j .judge-terms2 .ensures .1)
 
 pub judge-branches-join-requires : (t : ℕ) → judge-branches-lts.Need-join-requires (judge-branches-claims t) (judge-branches-at t) judge-branches.Post
 judge-branches-join-requires t c κs =
@@ -198,8 +197,8 @@ judge-branches-join-requires t c κs =
     let x = at-exchange t j in
     let k = fine-one t x in
     let p = start t k .pre .1 in
-    let neat = second-neat _ _ _ _ (p .0) (p .1) _ _ (follows t k) _ _ _ (judged₁ t k) (p .3) _ (fine₁ t k) _ (exchanged t x .0) _ _ (judged₂ t j) _ (fine₂ t (c .before .before)) in
-    ((j .judge-terms2 .ensures .1, (_, neat)), omega (arith, p .6, p .2 .2 .most), omega (arith, p .7, at-keep t k .keep .kept .1 .1 .0, x .exchange .kept .1 .1 .0))
+    let neat = second-neat _ _ _ _ (p .0) (p .1) _ _ (follows t k) _ _ _ (judged₁ t k) (p .2 .neat) _ (fine₁ t k) _ (exchanged t x .0) _ _ (judged₂ t j) _ (fine₂ t (c .before .before)) in
+    ((j .judge-terms2 .ensures .1, (_, neat)), omega (arith, p .3, p .2 .table .2 .most), omega (arith, p .4, at-keep t k .keep .kept .1 .1 .0, x .exchange .kept .1 .1 .0))
 
 pub judge-branches-judge-either-requires : (t : ℕ) → judge-branches-lts.Need-judge-either-requires (judge-branches-claims t) (judge-branches-at t) judge-branches.Post
 judge-branches-judge-either-requires t c κs = search needs
@@ -227,6 +226,6 @@ judge-branches-returns-3 t c =
     let x = at-exchange t j in
     let k = fine-one t x in
     let p = start t k .pre .1 in
-    let stays₂ = second-stays _ _ _ _ (p .0) (p .1) _ _ (follows t k) _ _ _ (judged₁ t k) (p .3) _ (fine₁ t k) _ (exchanged t x .0) _ _ (judged₂ t j) _ (fine₂ t m) in
+    let stays₂ = second-stays _ _ _ _ (p .0) (p .1) _ _ (follows t k) _ _ _ (judged₁ t k) (p .2 .neat) _ (fine₁ t k) _ (exchanged t x .0) _ _ (judged₂ t j) _ (fine₂ t m) in
     let joins = at-join .join .ensures .0 _ _ _ (neat₁ t k) (exchanged t x .1) (stays₁ t k) stays₂ in
-    (branches-fine _ _ _ _ (p .0) (p .1) _ _ (follows t k) _ _ _ (judged₁ t k) (p .3) _ (fine₁ t k) _ (exchanged t x .0) _ _ (judged₂ t j) _ (fine₂ t m) _ (at-join .join .ensures .2) joins _ (c .before .judge-either .ensures) _ (c .judged-term .ensures), at-join .join .ensures .1)
+    (branches-fine _ _ _ _ (p .0) (p .1) _ _ (follows t k) _ _ _ (judged₁ t k) (p .2 .neat) _ (fine₁ t k) _ (exchanged t x .0) _ _ (judged₂ t j) _ (fine₂ t m) _ (at-join .join .ensures .2) joins _ (c .before .judge-either .ensures) _ (c .judged-term .ensures), at-join .join .ensures .1)

@@ -10,11 +10,10 @@ use Rattle.rules.specs.declared.verdicts.Value.{Value}
 use Rattle.rules.specs.declared.verdicts.Verdict.the-variants as verdict
 use Rattle.rules.specs.Environment.{Environment}
 use Rattle.rules.specs.Masks.{has}
-use Rattle.rules.specs.Neat.{Neat}
 use Rattle.rules.specs.Table.{TableFor, environmentOf}
 use Rattle.rules.specs.Verdicts.{asValue, verdictOf}
 use Rattle.ownership.specs.RowUses.{laterAt}
-use Rattle.ownership.specs.JudgeRows.{restAt}
+use Rattle.ownership.specs.JudgeRows.{Ready, restAt}
 use Rattle.ownership.proofs.InwardsLaws.{Inwards, Outwards}
 use borrow.Fn.Kinds.{In}
 use borrow.Fn.PlainCycle.{Measures, is, falls, and}
@@ -145,7 +144,7 @@ judge-term-μ-loop2 rows i levels env₁ variables level uses named around₁ ju
 -- The last verdict is fine, and what is left gives the answer of all.
 abbrev pub judge-terms-Inv-loop : judge-terms-lts.InvT-loop
 judge-terms-Inv-loop rows i count levels env₀ variables level uses named judged₀ left₀ env judged left =
-    IsRest (treeAt variables levels rows) left (judged .next) × (length env ≡ length env₀) × TableFor env variables × Neat variables (environmentOf env) level
+    IsRest (treeAt variables levels rows) left (judged .next) × (length env ≡ length env₀) × Ready variables level levels rows env uses
     × (v : Value) × (verdictOf (judged .told) ≡ verdict.Fine v)
     × (restAt variables (treeAt variables levels rows) level (laterAt variables uses (has named)) left (judged .next) (asValue env v) (environmentOf env) ≡ restAt variables (treeAt variables levels rows) level (laterAt variables uses (has named)) count i none (environmentOf env₀))
 

@@ -29,11 +29,8 @@ use Rattle.ownership.proofs.LaterLaws.{choice-later, tree-later}
 use Rattle.ownership.proofs.JudgeLaws.{told-ended}
 use Rattle.ownership.proofs.BranchLaws.{choice-refused, choice-met}
 use Rattle.ownership.proofs.LeafLaws.{leaf-judged, leaf-below}
-use Rattle.ownership.proofs.judge.judge_block.Reads as judge-block
-use Rattle.ownership.proofs.judge.judge_few_kept.Reads as judge-few-kept
 use Rattle.ownership.proofs.judge.judge_inmost.Reads as judge-inmost
 use Rattle.ownership.proofs.judge.+judge_block+judge_branches+judge_few_kept+judge_inmost+judge_many_kept+judge_term+judge_terms.Lts-judge_inmost as judge-inmost-lts
-use Rattle.ownership.proofs.judge.judge_many_kept.Reads as judge-many-kept
 use Rattle.ownership.proofs.judge.+judge_block+judge_branches+judge_few_kept+judge_inmost+judge_many_kept+judge_term+judge_terms.Proof.Cycle.{judge-inmost-at, judge-inmost-claims}
 
 -- What has not finished once the term has.
@@ -69,7 +66,7 @@ module _ (t : ℕ) (n : judge-inmost-lts.After-judge-number (judge-inmost-claims
   judged u next q =
       let ns = finishing u ++ later t here next in
       n .judge-number .ensures (here .args .i) ns
-      (n .before .before .read-barred .ensures ns (tree-later _ _ _ (here .pre .1 .5) (has (here .args .named)) _ _ _ _ u next q)
+      (n .before .before .read-barred .ensures ns (tree-later _ _ _ (here .pre .1 .2 .last-uses) (has (here .args .named)) _ _ _ _ u next q)
       ∙ ap (readBarred (here .args .variables) ns (environmentOf (here .args .env .now))) (at-root .index-of .ensures))
 
 -- Where what its blocks are judged with is known, the answer is that of its blocks.
@@ -107,7 +104,7 @@ judge-inmost-judge-block-requires t c κs =
     let at-field-at = at-if1 .before in
     let start = at-field-at .before .before .before .before in
     let p = start .pre .1 in
-    (omega (arith, start .pre .0), (p .0, sym (at-field-at .field-at .ensures) ∙ at-if1 .if1 .taken, p .2, p .3, p .4, p .5, p .6, p .7))
+    (omega (arith, start .pre .0), (p .0, sym (at-field-at .field-at .ensures) ∙ at-if1 .if1 .taken, p .2, p .3, p .4))
 
 pub judge-inmost-same-length : (t : ℕ) → judge-inmost-lts.Need-same-length (judge-inmost-claims t) (judge-inmost-at t) judge-inmost.Post
 judge-inmost-same-length t c = c .before .before .judge-block .kept .1 .1 .1 .1 .0
@@ -124,18 +121,18 @@ pub judge-inmost-index-of-requires : (t : ℕ) → judge-inmost-lts.Need-index-o
 judge-inmost-index-of-requires t c κs = search needs
 
 pub judge-inmost-sub-read-barred : (t : ℕ) → judge-inmost-lts.Need-sub-read-barred (judge-inmost-claims t) (judge-inmost-at t) judge-inmost.Post
-judge-inmost-sub-read-barred t c = start t (c .before) .pre .1 .6
+judge-inmost-sub-read-barred t c = start t (c .before) .pre .1 .3
 
 pub judge-inmost-read-barred-requires : (t : ℕ) → judge-inmost-lts.Need-read-barred-requires (judge-inmost-claims t) (judge-inmost-at t) judge-inmost.Post
 judge-inmost-read-barred-requires t c κs =
     let x = c .before in
     let p = start t (x .before) .pre .1 in
-    (p .7, p .2, p .5 .long, root-below t x)
+    (p .4, p .2 .table, p .2 .last-uses .long, root-below t x)
 
 pub judge-inmost-judge-number-requires : (t : ℕ) → judge-inmost-lts.Need-judge-number-requires (judge-inmost-claims t) (judge-inmost-at t) judge-inmost.Post
 judge-inmost-judge-number-requires t c κs =
     let p = start t (c .before .before .before .before) .pre .1 in
-    (p .2, (_, p .3))
+    (p .2 .table, (_, p .2 .neat))
 
 pub judge-inmost-enum-known-number : (t : ℕ) → judge-inmost-lts.Need-enum-known-number (judge-inmost-claims t) (judge-inmost-at t) judge-inmost.Post
 judge-inmost-enum-known-number t c = search needs
@@ -152,36 +149,36 @@ judge-inmost-returns-2 t c =
     let n = at-number .before .before in
     let h = at-root t n .before in
     let p = start t h .pre .1 in
-    (choice-refused _ _ _ _ (p .0) (is-choice t h) _ (h .before .place-at .ensures) _ (later t (start t h)) _ _ (judged t n) _ (at-number .number .given .1) _ (c .refused .ensures) _, p .2)
+    (choice-refused _ _ _ _ (p .0) (is-choice t h) _ (h .before .place-at .ensures) _ (later t (start t h)) _ _ (judged t n) _ (at-number .number .given .1) _ (c .refused .ensures) _, p .2 .table)
 
 pub judge-inmost-enum-told : (t : ℕ) → judge-inmost-lts.Need-enum-told (judge-inmost-claims t) (judge-inmost-at t) judge-inmost.Post
 judge-inmost-enum-told t c = search needs
 
 pub judge-inmost-sub-with-named : (t : ℕ) → judge-inmost-lts.Need-sub-with-named (judge-inmost-claims t) (judge-inmost-at t) judge-inmost.Post
-judge-inmost-sub-with-named t c = here t (c .before .before) .pre .1 .6
+judge-inmost-sub-with-named t c = here t (c .before .before) .pre .1 .3
 
 pub judge-inmost-with-named-requires : (t : ℕ) → judge-inmost-lts.Need-with-named-requires (judge-inmost-claims t) (judge-inmost-at t) judge-inmost.Post
 judge-inmost-with-named-requires t c κs =
     let p = here t (c .before .before) .pre .1 in
-    (p .7, p .2 .1)
+    (p .4, p .2 .table .1)
 
 pub judge-inmost-only-requires : (t : ℕ) → judge-inmost-lts.Need-only-requires (judge-inmost-claims t) (judge-inmost-at t) judge-inmost.Post
 judge-inmost-only-requires t c κs =
     let n = c .before .before .before in
-    omega (arith, root-below t (at-root t n), here t n .pre .1 .2 .1)
+    omega (arith, root-below t (at-root t n), here t n .pre .1 .2 .table .1)
 
 pub judge-inmost-unite-requires : (t : ℕ) → judge-inmost-lts.Need-unite-requires (judge-inmost-claims t) (judge-inmost-at t) judge-inmost.Post
 judge-inmost-unite-requires t c κs = search needs
 
 pub judge-inmost-numbers-taken-requires : (t : ℕ) → judge-inmost-lts.Need-numbers-taken-requires (judge-inmost-claims t) (judge-inmost-at t) judge-inmost.Post
-judge-inmost-numbers-taken-requires t c κs = chosen t (c .before) .pre .1 .2
+judge-inmost-numbers-taken-requires t c κs = chosen t (c .before) .pre .1 .2 .table
 
 pub judge-inmost-judge-few-kept-requires : (t : ℕ) → judge-inmost-lts.Need-judge-few-kept-requires (judge-inmost-claims t) (judge-inmost-at t) judge-inmost.Post
 judge-inmost-judge-few-kept-requires t c κs =
     let at-numbers-taken = c .before .before in
     let w = at-numbers-taken .before .before in
     let p = chosen t w .pre .1 in
-    (omega (arith, chosen t w .pre .0), (p .0, is-choice t (at-root t (number t w) .before), p .2, p .3, p .4, p .5, at-numbers-taken .numbers-taken .ensures, c .before .if3 .taken))
+    (omega (arith, chosen t w .pre .0), (p .0, is-choice t (at-root t (number t w) .before), p .2, at-numbers-taken .numbers-taken .ensures, c .before .if3 .taken))
 
 pub judge-inmost-same-length-3 : (t : ℕ) → judge-inmost-lts.Need-same-length-3 (judge-inmost-claims t) (judge-inmost-at t) judge-inmost.Post
 judge-inmost-same-length-3 t c = c .before .before .judge-few-kept .kept .1 .1 .1 .0
@@ -196,7 +193,7 @@ judge-inmost-judge-many-kept-requires t c κs =
     let at-numbers-taken = c .before .before in
     let w = at-numbers-taken .before .before in
     let p = chosen t w .pre .1 in
-    (omega (arith, chosen t w .pre .0), (p .0, is-choice t (at-root t (number t w) .before), p .2, p .3, p .4, p .5, at-numbers-taken .numbers-taken .ensures))
+    (omega (arith, chosen t w .pre .0), (p .0, is-choice t (at-root t (number t w) .before), p .2, at-numbers-taken .numbers-taken .ensures))
 
 pub judge-inmost-same-length-4 : (t : ℕ) → judge-inmost-lts.Need-same-length-4 (judge-inmost-claims t) (judge-inmost-at t) judge-inmost.Post
 judge-inmost-same-length-4 t c = c .before .before .judge-many-kept .kept .1 .1 .1 .0
@@ -217,7 +214,7 @@ judge-inmost-judge-leaf-requires t c κs =
     let at-place-at = at-place-at2 .before .before in
     let at-field-at = at-place-at .before .before in
     let p = at-field-at .before .before .before .before .pre .1 in
-    ((p .2, (_, p .3)), p .5 .long, p .6, p .7, leaf-below _ _ _ _ (p .0) _ (at-field-at .field-at .ensures) _ _ (at-place-at .place-at .ensures) (at-place-at2 .place-at2 .ensures))
+    ((p .2 .table, (_, p .2 .neat)), p .2 .last-uses .long, p .3, p .4, leaf-below _ _ _ _ (p .0) _ (at-field-at .field-at .ensures) _ _ (at-place-at .place-at .ensures) (at-place-at2 .place-at2 .ensures))
 
 pub judge-inmost-add-judged-term : (t : ℕ) → judge-inmost-lts.Need-add-judged-term (judge-inmost-claims t) (judge-inmost-at t) judge-inmost.Post
 judge-inmost-add-judged-term t c =
@@ -244,6 +241,6 @@ judge-inmost-returns-5 t c =
     let p = start .pre .1 in
     let k = at-field-at .field-at .ensures in (
       leaf-judged _ _ _ _ (p .0) _ (later t start) _ _ k (not-wrapping k (p .1)) (at-if1 .if1 .left) (at-if2 .if2 .left) _ _ (at-place-at .place-at .ensures) (at-place-at2 .place-at2 .ensures) _ _
-          (λ u q. told-ended _ _ _ _ _ (c .judged-term .ensures) _ (at-judge-leaf .judge-leaf .ensures .0 _ (tree-later _ _ _ (p .5) (has (start .args .named)) _ _ _ _ u _ q))),
+          (λ u q. told-ended _ _ _ _ _ (c .judged-term .ensures) _ (at-judge-leaf .judge-leaf .ensures .0 _ (tree-later _ _ _ (p .2 .last-uses) (has (start .args .named)) _ _ _ _ u _ q))),
       at-judge-leaf .judge-leaf .ensures .1,
     )

@@ -2,7 +2,6 @@
 use Prim.Native.Nat.{ℕ}
 use native.Mathlib.Omega.{arith}
 use mathlib.Core.Path.{refl}
-use Rattle.ownership.proofs.judge.judge_branches.Reads as judge-branches
 use Rattle.ownership.proofs.judge.judge_few_kept.Reads as judge-few-kept
 use Rattle.ownership.proofs.judge.+judge_block+judge_branches+judge_few_kept+judge_inmost+judge_many_kept+judge_term+judge_terms.Lts-judge_few_kept as judge-few-kept-lts
 use Rattle.ownership.proofs.judge.judge_many_kept.Reads as judge-many-kept
@@ -16,7 +15,7 @@ pub judge-few-kept-judge-branches-requires : (t : ℕ) → judge-few-kept-lts.Ne
 judge-few-kept-judge-branches-requires t c κs =
     let start = c .before .before .before .before .before in
     let p = start .pre .1 in
-    (omega (arith, start .pre .0), (p .0, p .1, p .2, p .3, p .4, p .5, p .6, omega (arith, p .7)))
+    (omega (arith, start .pre .0), (p .0, p .1, p .2, p .3, omega (arith, p .4)))
 
 pub judge-few-kept-same-length : (t : ℕ) → judge-few-kept-lts.Need-same-length (judge-few-kept-claims t) (judge-few-kept-at t) judge-few-kept.Post
 judge-few-kept-same-length t c = c .before .before .before .judge-branches .kept .1 .1 .1 .0
@@ -31,7 +30,7 @@ pub judge-many-kept-judge-branches-requires : (t : ℕ) → judge-many-kept-lts.
 judge-many-kept-judge-branches-requires t c κs =
     let start = c .before .before .before .before .before in
     let p = start .pre .1 in
-    (omega (arith, start .pre .0), (p .0, p .1, p .2, p .3, p .4, p .5, p .6, omega (arith, p .6, p .2 .1, p .2 .2 .most)))
+    (omega (arith, start .pre .0), (p .0, p .1, p .2, p .3, omega (arith, p .3, p .2 .table .1, p .2 .table .2 .most)))
 
 pub judge-many-kept-same-length : (t : ℕ) → judge-many-kept-lts.Need-same-length (judge-many-kept-claims t) (judge-many-kept-at t) judge-many-kept.Post
 judge-many-kept-same-length t c = c .before .before .before .judge-branches .kept .1 .1 .1 .0

@@ -13,7 +13,6 @@ use Rattle.ownership.specs.RowUses.{laterAt}
 use Rattle.ownership.proofs.JudgeLaws.{refused-ended}
 use Rattle.ownership.proofs.AroundLaws.{met-begun, refused-begun, wrapped}
 use Rattle.ownership.proofs.InwardsLaws.{Outwards, inwards-start, inwards-more, inwards-neat, inwards-tree, inwards-around, inwards-refused, outwards-start, outwards-none, outwards-less, outwards-around, outwards-ready}
-use Rattle.ownership.proofs.judge.judge_inmost.Reads as judge-inmost
 use Rattle.ownership.proofs.judge.judge_term.Reads as judge-term
 use Rattle.ownership.proofs.judge.+judge_block+judge_branches+judge_few_kept+judge_inmost+judge_many_kept+judge_term+judge_terms.Lts-judge_term as judge-term-lts
 use Rattle.ownership.proofs.judge.+judge_block+judge_branches+judge_few_kept+judge_inmost+judge_many_kept+judge_term+judge_terms.Proof.Cycle.{judge-term-at, judge-term-Inv-loop, judge-term-μ-loop, judge-term-Inv-loop2, judge-term-μ-loop2, judge-term-claims}
@@ -46,7 +45,7 @@ module _ (t : ℕ) (o : judge-term-lts.At-loop2 (judge-term-claims t) (judge-ter
   outwards = o .loop2 .inv .3 _ (outwards-start _ _ _ _ _ _ _ _ _ (inmost .loop .inv .2) _ _ (at-inmost .judge-inmost .ensures .0))
 
 pub judge-term-loop-holds : (t : ℕ) → judge-term-lts.Need-loop-holds (judge-term-claims t) (judge-term-at t) judge-term.Post judge-term-Inv-loop judge-term-μ-loop judge-term-Inv-loop2 judge-term-μ-loop2
-judge-term-loop-holds t c = (refl, c .before .before .before .pre .1 .1, inwards-start _ _ _)
+judge-term-loop-holds t c = (refl, c .before .before .before .pre .1 .1 .table, inwards-start _ _ _)
 
 pub judge-term-add-field-at : (t : ℕ) → judge-term-lts.Need-add-field-at (judge-term-claims t) (judge-term-at t) judge-term.Post judge-term-Inv-loop judge-term-μ-loop judge-term-Inv-loop2 judge-term-μ-loop2
 judge-term-add-field-at t c = omega (arith, has-room _ _ _ _ (tree t c))
@@ -113,7 +112,7 @@ judge-term-judge-inmost-requires t c κs =
     let w = c .before .before in
     let l = inwards t w in
     let p = start t l .pre .1 in
-    (omega (arith, start t l .pre .0), (tree t l, sym (wraps-is t w) ∙ c .before .if1 .left, l .loop .inv .1, inwards-neat _ _ _ _ _ (p .2) _ _ (l .loop .inv .2), omega (arith, p .3), p .4, omega arith, inwards-around _ _ _ _ (p .0) _ _ _ (l .loop .inv .2)))
+    (omega (arith, start t l .pre .0), (tree t l, sym (wraps-is t w) ∙ c .before .if1 .left, record { table = l .loop .inv .1; neat = inwards-neat _ _ _ _ _ (p .1 .neat) _ _ (l .loop .inv .2); deep = omega (arith, p .1 .deep); last-uses = p .1 .last-uses }, omega arith, inwards-around _ _ _ _ (p .0) _ _ _ (l .loop .inv .2)))
 
 pub judge-term-loop2-holds : (t : ℕ) → judge-term-lts.Need-loop2-holds (judge-term-claims t) (judge-term-at t) judge-term.Post judge-term-Inv-loop judge-term-μ-loop judge-term-Inv-loop2 judge-term-μ-loop2
 judge-term-loop2-holds t c = (omega arith, refl, c .before .before .judge-inmost .ensures .1, λ Γ O. O)
@@ -129,7 +128,7 @@ judge-term-judge-after-requires t c κs =
     let o = c .before .before in
     let p = start t (inmost t o) .pre .1 in
     let more = c .before .loop2-test .taken in
-    (omega arith, outwards-around _ _ _ _ (p .0) _ _ _ _ more refl (outwards t o .1), o .loop2 .inv .2, p .4 .long, outwards-ready _ _ _ _ _ (p .0) _ _ _ _ _ _ more refl (p .2) (outwards t o))
+    (omega arith, outwards-around _ _ _ _ (p .0) _ _ _ _ more refl (outwards t o .1), o .loop2 .inv .2, p .1 .last-uses .long, outwards-ready _ _ _ _ _ (p .0) _ _ _ _ _ _ more refl (p .1 .neat) (outwards t o))
 
 pub judge-term-loop2-less : (t : ℕ) → judge-term-lts.Need-loop2-less (judge-term-claims t) (judge-term-at t) judge-term.Post judge-term-Inv-loop judge-term-μ-loop judge-term-Inv-loop2 judge-term-μ-loop2
 judge-term-loop2-less t c = omega arith

@@ -9,7 +9,6 @@ use Rattle.rules.specs.Verdicts.{asValue}
 use Rattle.ownership.proofs.LaterLaws.{terms-follow}
 use Rattle.ownership.proofs.TreeStates.{fine-tree}
 use Rattle.ownership.proofs.BlockLaws.{rest-refused, rest-fine, rest-none}
-use Rattle.ownership.proofs.judge.judge_term.Reads as judge-term
 use Rattle.ownership.proofs.judge.judge_terms.Reads as judge-terms
 use Rattle.ownership.proofs.judge.+judge_block+judge_branches+judge_few_kept+judge_inmost+judge_many_kept+judge_term+judge_terms.Lts-judge_terms as judge-terms-lts
 use Rattle.ownership.proofs.judge.+judge_block+judge_branches+judge_few_kept+judge_inmost+judge_many_kept+judge_term+judge_terms.Proof.Cycle.{judge-terms-at, judge-terms-Inv-loop, judge-terms-μ-loop, judge-terms-claims}
@@ -22,7 +21,7 @@ unfolding asValue
 judge-terms-loop-holds t c =
     let start = c .before .before .before .before in
     let p = start .pre .1 in
-    (p .0, refl, p .1, p .2, value.None, c .fine .ensures, refl)
+    (p .0, refl, p .1, value.None, c .fine .ensures, refl)
 
 pub judge-terms-judge-term-requires : (t : ℕ) → judge-terms-lts.Need-judge-term-requires (judge-terms-claims t) (judge-terms-at t) judge-terms.Post judge-terms-Inv-loop judge-terms-μ-loop
 judge-terms-judge-term-requires t c κs =
@@ -30,7 +29,7 @@ judge-terms-judge-term-requires t c κs =
     let at-loop = at-loop-test .before in
     let start = at-loop .before .before .before .before .before in
     let v = at-loop .loop .inv in
-    (omega (arith, start .pre .0), (rest-first _ _ _ (at-loop-test .loop-test .taken) (v .0), v .2, v .3, start .pre .1 .3, start .pre .1 .4))
+    (omega (arith, start .pre .0), (rest-first _ _ _ (at-loop-test .loop-test .taken) (v .0), v .2))
 
 pub judge-terms-verdict-of-requires : (t : ℕ) → judge-terms-lts.Need-verdict-of-requires (judge-terms-claims t) (judge-terms-at t) judge-terms.Post judge-terms-Inv-loop judge-terms-μ-loop
 judge-terms-verdict-of-requires t c κs = search needs
@@ -53,10 +52,9 @@ judge-terms-returns t c =
     let at-judge-term = at-verdict-of .before .before .before in
     let at-loop-test = at-judge-term .before .before in
     let at-loop = at-loop-test .before in
-    let start = at-loop .before .before .before .before .before in
     let v = at-loop .loop .inv in
     let refused = sym (at-verdict-of .verdict-of .ensures) ∙ c .enum-told2 .given .1 in
-    (rest-refused _ _ _ _ (terms-follow _ _ _ (start .pre .1 .4) _ _) _ _ (at-loop-test .loop-test .taken) (v .0) _ _ _ (at-judge-term .judge-term .ensures .0) _ _ refused ∙ v .6, at-judge-term .judge-term .ensures .1)
+    (rest-refused _ _ _ _ (terms-follow _ _ _ (v .2 .last-uses) _ _) _ _ (at-loop-test .loop-test .taken) (v .0) _ _ _ (at-judge-term .judge-term .ensures .0) _ _ refused ∙ v .5, at-judge-term .judge-term .ensures .1)
 
 pub judge-terms-sub-left : (t : ℕ) → judge-terms-lts.Need-sub-left (judge-terms-claims t) (judge-terms-at t) judge-terms.Post judge-terms-Inv-loop judge-terms-μ-loop
 judge-terms-sub-left t c = omega arith
@@ -70,13 +68,12 @@ judge-terms-loop-again t c =
     let at-judge-term = at-verdict-of .before .before .before in
     let at-loop-test = at-judge-term .before .before in
     let at-loop = at-loop-test .before in
-    let start = at-loop .before .before .before .before .before in
     let v = at-loop .loop .inv in
     let e = at-judge-term .judge-term .ensures .0 in
     let fine = sym (at-verdict-of .verdict-of .ensures) ∙ c .enum-told .given .1 in
-    let rest = rest-fine _ _ _ _ (terms-follow _ _ _ (start .pre .1 .4) _ _) _ _ (at-loop-test .loop-test .taken) (v .0) _ _ _ e _ _ fine in
-    let after = fine-tree _ _ _ _ (v .3) _ _ _ fine _ _ _ (rest-first _ _ _ (at-loop-test .loop-test .taken) (v .0)) e in
-    (rest .0, at-judge-term .judge-term .kept .1 .1 .1 .0 ∙ v .1, at-judge-term .judge-term .ensures .1, after .neat, _, fine, rest .1 ∙ v .6)
+    let rest = rest-fine _ _ _ _ (terms-follow _ _ _ (v .2 .last-uses) _ _) _ _ (at-loop-test .loop-test .taken) (v .0) _ _ _ e _ _ fine in
+    let after = fine-tree _ _ _ _ (v .2 .neat) _ _ _ fine _ _ _ (rest-first _ _ _ (at-loop-test .loop-test .taken) (v .0)) e in
+    (rest .0, at-judge-term .judge-term .kept .1 .1 .1 .0 ∙ v .1, record { table = at-judge-term .judge-term .ensures .1; neat = after .neat; deep = v .2 .deep; last-uses = v .2 .last-uses }, _, fine, rest .1 ∙ v .5)
 
 pub judge-terms-same-length-2 : (t : ℕ) → judge-terms-lts.Need-same-length-2 (judge-terms-claims t) (judge-terms-at t) judge-terms.Post judge-terms-Inv-loop judge-terms-μ-loop
 judge-terms-same-length-2 t c = c .before .loop .inv .1
@@ -85,4 +82,4 @@ pub judge-terms-returns-2 : (t : ℕ) → judge-terms-lts.Need-returns-2 (judge-
 judge-terms-returns-2 t c =
     let at-loop = c .before in
     let v = at-loop .loop .inv in
-    (rest-none _ _ _ _ _ _ _ _ (c .loop-test .left) (v .5) ∙ v .6, v .2)
+    (rest-none _ _ _ _ _ _ _ _ (c .loop-test .left) (v .4) ∙ v .5, v .2 .table)
