@@ -38,27 +38,53 @@ pub fn mixed(terms: usize) -> Vec<u8> {
 /// after a choice, and then terms that ask about what one of them holds, as many
 /// as the set allows: each time all of them are looked at, and none is in use.
 pub fn round(limits: Limits) -> Vec<u8> {
+    holding_each_other(limits, false)
+}
+
+/// The same with a variable that held a borrow of one of them, was given
+/// another since, and is used at the end: each time it is found as one that may
+/// hold it, and is looked at once more.
+pub fn round_noted(limits: Limits) -> Vec<u8> {
+    holding_each_other(limits, true)
+}
+
+fn holding_each_other(limits: Limits, noted: bool) -> Vec<u8> {
     let variables = limits.variables as u8;
     let (other, beside) = (variables - 2, variables - 1);
+    let end = if noted { other - 2 } else { other };
     let mut terms = vec![vec![0x08, 0, 0x02, 0], vec![0x08, 1, 0x02, 1]];
     // A chain of exclusive borrows: the first is of v1, and each of the others
     // of what the one before it borrows.
-    terms.extend((2..other).map(|v| vec![0x08, v, 0x06, v - 1, u8::from(v > 2)]));
+    terms.extend((2..end).map(|v| vec![0x08, v, 0x06, v - 1, u8::from(v > 2)]));
+    let (free, once) = (end, end + 1);
+    if noted {
+        // let free = reading 3; let once = &mut *last of the chain; once = &mut free
+        terms.push(vec![0x08, free, 0x02, 3]);
+        terms.push(vec![0x08, once, 0x06, end - 1, 1]);
+        terms.push(vec![0x09, once, 0, 0x06, free, 0]);
+    }
     // let other = reading 2; let beside = &mut other
     terms.push(vec![0x08, other, 0x02, 2]);
     terms.push(vec![0x08, beside, 0x06, other, 0]);
     // choice v0 { beside = &mut *last of the chain; 1 } { v2 = &mut *beside; 1 }
     let bound = |v: u8, to: u8| vec![0x0B, 2, 0x09, v, 0, 0x06, to, 1, 0x01, 0, 0, 0, 1];
-    let (one, two) = (bound(beside, other - 1), bound(2, beside));
+    let (one, two) = (bound(beside, end - 1), bound(2, beside));
     terms.push([vec![0x0C, 0, 0], one, two].concat());
-    // The outermost block, two terms for each let, the choice, the answer.
-    let mut left = limits.terms as usize - 1 - 2 * variables as usize - 9 - 1;
+    // The outermost block, two terms for each let and for an assign, the choice,
+    // the answer.
+    let pairs = variables as usize + usize::from(noted);
+    let mut left = limits.terms as usize - 1 - 2 * pairs - 9 - 1;
     while left > 1 {
         let count = (left - 1).min(240);
         terms.push([vec![0x0B, count as u8], [0x0A, 1, 0, 1, 0].repeat(count)].concat());
         left -= count + 1;
     }
-    terms.extend(vec![READING.to_vec(); left + 1]);
+    terms.extend(vec![READING.to_vec(); left]);
+    terms.push(if noted {
+        vec![0x03, once, 1]
+    } else {
+        READING.to_vec()
+    });
     script_in(2, &terms)
 }
 
@@ -66,7 +92,7 @@ pub fn round(limits: Limits) -> Vec<u8> {
 mod tests {
     use super::*;
     use crate::scripts::outline::{outline, rows_of, variables};
-    use reference::form::BELOW;
+    use reference::form::{ASSIGN, BELOW, CHOICE, MOVE};
     use reference::{check, check_by_scope, Limits as Set};
 
     /// What the check answers where borrows last as long as their variables.
@@ -108,6 +134,28 @@ mod tests {
                 let refusal = check(set, &rows).expect_err("used again");
                 assert_eq!((refusal.number, Some(refusal.place as usize)), (34, asks));
             }
+        }
+    }
+
+    /// It has all variables and all terms too, and is accepted because the
+    /// variable that is used at the end was given another borrow: where it is
+    /// given its own back, the branch that borrows what it holds is refused.
+    #[test]
+    fn round_noted_is_accepted_while_another_borrow_is_held() {
+        let sets = [(Limits::BASE, Set::BASE), (Limits::LARGEST, Set::LARGEST)];
+        for (limits, set) in sets {
+            let script = round_noted(limits);
+            assert_eq!(variables(set, &script), set.variables as usize);
+            let (terms, mut rows) = rows_of(set, &script);
+            assert_eq!(check(set, &rows), Ok(terms));
+            assert_eq!(terms, set.terms);
+            let place = |kind: u32| rows.chunks(5).position(|row| row[0] == kind);
+            let choice = place(CHOICE).expect("a choice");
+            let given = 5 * place(ASSIGN).expect("an assign");
+            let once = rows[given + 1];
+            rows[given + 5..given + 10].copy_from_slice(&[MOVE, once, 0, 0, 0]);
+            let refusal = check(set, &rows).expect_err("held again");
+            assert_eq!((refusal.number, refusal.place as usize), (35, choice + 3));
         }
     }
 }

@@ -3,8 +3,7 @@ use Prim.Native.Nat.{ℕ, suc, _+_}
 use mathlib.Core.Path.{_≡_, refl, sym, ap, _∙_}
 use mathlib.Core.Bool.{Bool, true, false}
 use mathlib.Core.List.{List}
-use lib.Dec.{ltb, eqb}
-use lib.ListN.{getD}
+use lib.Dec.{eqb}
 use Rattle.reader.specs.Result.{pick}
 use Rattle.reader.specs.Kinds.{wrapsOf}
 use Rattle.reader.specs.RowParts.{fieldAt}
@@ -13,7 +12,7 @@ use Rattle.rules.specs.Uses.{Unfinished, names, namedLater}
 use Rattle.rules.specs.Bars.{held}
 use Rattle.rules.specs.Masks.{has, isEmpty}
 use Rattle.rules.specs.Table.{environmentOf, borrowsBy, MayHold}
-use Rattle.rules.specs.Verdicts.{LaterIs}
+use Rattle.rules.specs.Verdicts.{namedFrom, LaterIs}
 use Rattle.ownership.specs.RowUses.{rowNames, namings, namedWith}
 use Rattle.rules.proofs.TableLaws.{pick-true}
 use Rattle.rules.proofs.MaskLaws.{none-in}
@@ -30,9 +29,13 @@ nobody-holds env any root s may e these n = go (held (borrowsBy any) these n (en
     go true k = let h = held-some (borrowsBy any) these (environmentOf env) root n k in sym (may (h .0) (h .2)) ∙ none-in s e (h .0)
     go false k = refl
 
+-- What is told of a root goes by its number, however the code has it.
+pub at-root : (of : ℕ → Bool) {told : Bool} {x y : ℕ} → x ≡ y → told ≡ of x → told ≡ of y
+at-root of e t = t ∙ ap of e
+
 -- The set has what the terms around name.
 pub later-has : (nv : ℕ) (uses : List ℕ) (from : ℕ) (s : Roots) (named : ℕ → Bool) (ns : Unfinished) → ((x : ℕ) → has s x ≡ named x) → LaterIs nv uses from named ns → LaterIs nv uses from (has s) ns
-later-has nv uses from s named ns e later x l = later x l ∙ ap (λ (b : Bool). pick (ltb from (getD uses x 0)) true b) (sym (e x))
+later-has nv uses from s named ns e later x l = later x l ∙ ap (λ (b : Bool). namedFrom uses from (λ _. b) x) (sym (e x))
 
 -- ---- the set, row by row
 

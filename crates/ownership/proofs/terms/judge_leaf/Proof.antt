@@ -8,10 +8,12 @@ use lib.ListN.{length}
 use borrow.Author.Needs.{needs}
 use Rattle.reader.specs.Kinds.{newest, kindOf}
 use Rattle.rules.specs.Uses.{names}
+use Rattle.rules.specs.Bars.{readBarred, writeBarred}
 use Rattle.rules.specs.Table.{TableFor}
 use Rattle.ownership.specs.RowUses.{namesOf}
 use Rattle.ownership.specs.JudgeRows.{AllWrap}
 use Rattle.ownership.proofs.FoundUses.{naming-kinds, same-kind, two-in}
+use Rattle.ownership.proofs.BarredLaws.{at-root}
 use Rattle.ownership.proofs.LeafLaws.{leaf-rules, leaf-number}
 use Rattle.ownership.proofs.terms.judge_leaf.Statement.{statement}
 use Rattle.ownership.proofs.terms.judge_leaf.Tie as tie
@@ -79,7 +81,7 @@ same-length : tie.Need-same-length
 same-length c = search needs
 
 returns : tie.Need-returns
-returns c = let m = c .before .before .before .before in (λ ns later. c .judge-copy .ensures _ ns (rw (← m .before .index-of .ensures) (c .before .before .read-barred .ensures ns later)) ∙ leaf-rules _ _ _ _ _ ns _ .0 (m .match .keys1), start (m .before) .pre .0 .0)
+returns c = let m = c .before .before .before .before in (λ ns later. c .judge-copy .ensures _ ns (at-root (readBarred _ ns _) (m .before .index-of .ensures) (c .before .before .read-barred .ensures ns later)) ∙ leaf-rules _ _ _ _ _ ns _ .0 (m .match .keys1), start (m .before) .pre .0 .0)
 
 same-length-2 : tie.Need-same-length-2
 same-length-2 c = search needs
@@ -88,7 +90,7 @@ returns-2 : tie.Need-returns-2
 returns-2 c =
     let at-move = c .before .before in
     let m = at-move .before .before .before .before in
-    (λ ns later. at-move .judge-move .ensures .0 _ ns (rw (← m .before .index-of .ensures) (at-move .before .before .write-barred .ensures ns later)) ∙ leaf-rules _ _ _ _ _ ns _ .1 (m .match .keys2), at-move .judge-move .ensures .1)
+    (λ ns later. at-move .judge-move .ensures .0 _ ns (at-root (writeBarred _ ns _) (m .before .index-of .ensures) (at-move .before .before .write-barred .ensures ns later)) ∙ leaf-rules _ _ _ _ _ ns _ .1 (m .match .keys2), at-move .judge-move .ensures .1)
 
 same-length-3 : tie.Need-same-length-3
 same-length-3 c = search needs
@@ -97,10 +99,10 @@ same-length-4 : tie.Need-same-length-4
 same-length-4 c = search needs
 
 returns-3 : tie.Need-returns-3
-returns-3 c = let m = c .before .before .before .before in (λ ns later. c .judge-shared .ensures _ ns (rw (← m .before .index-of .ensures) (c .before .before .read-barred2 .ensures ns later)) ∙ leaf-rules _ _ _ _ _ ns _ .2 (m .match .keys3), start (m .before) .pre .0 .0)
+returns-3 c = let m = c .before .before .before .before in (λ ns later. c .judge-shared .ensures _ ns (at-root (readBarred _ ns _) (m .before .index-of .ensures) (c .before .before .read-barred2 .ensures ns later)) ∙ leaf-rules _ _ _ _ _ ns _ .2 (m .match .keys3), start (m .before) .pre .0 .0)
 
 returns-4 : tie.Need-returns-4
-returns-4 c = let m = c .before .before .before .before in (λ ns later. c .judge-exclusive .ensures _ ns (rw (← m .before .index-of .ensures) (c .before .before .write-barred2 .ensures ns later)) ∙ leaf-rules _ _ _ _ _ ns _ .3 (m .match .keys4), start (m .before) .pre .0 .0)
+returns-4 c = let m = c .before .before .before .before in (λ ns later. c .judge-exclusive .ensures _ ns (at-root (writeBarred _ ns _) (m .before .index-of .ensures) (c .before .before .write-barred2 .ensures ns later)) ∙ leaf-rules _ _ _ _ _ ns _ .3 (m .match .keys4), start (m .before) .pre .0 .0)
 
 same-length-5 : tie.Need-same-length-5
 same-length-5 c = search needs
@@ -109,7 +111,7 @@ returns-5 : tie.Need-returns-5
 returns-5 c =
     let at-other = c .before .before .before .before in
     let m = at-other .before .before .before in
-    (λ ns later. c .judge-below .ensures _ ns (rw (← m .before .index-of .ensures) (at-other .before .read-barred3 .ensures ns later)) (rw (← at-other .index-of2 .ensures) (c .before .before .read-barred4 .ensures ns later)) ∙ leaf-rules _ _ _ _ _ ns _ .4 (m .match .keys5), start (m .before) .pre .0 .0)
+    (λ ns later. c .judge-below .ensures _ ns (at-root (readBarred _ ns _) (m .before .index-of .ensures) (at-other .before .read-barred3 .ensures ns later)) (at-root (readBarred _ ns _) (at-other .index-of2 .ensures) (c .before .before .read-barred4 .ensures ns later)) ∙ leaf-rules _ _ _ _ _ ns _ .4 (m .match .keys5), start (m .before) .pre .0 .0)
 
 number-value-requires : tie.Need-number-value-requires
 number-value-requires c κs = search needs
