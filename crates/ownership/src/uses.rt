@@ -6,9 +6,9 @@ ghost use Prim.Native.Nat.{ℕ, _<_, _≤_};
 ghost use lib.ListN.{length, getD};
 ghost use Rattle.reader.specs.Kinds.{newest, kindOf};
 ghost use Rattle.rules.specs.Uses.{Unfinished, names};
-ghost use Rattle.rules.specs.Bars.{held, inUse, readBarred, writeBarred};
+ghost use Rattle.rules.specs.Bars.{readBarred, writeBarred};
 ghost use Rattle.rules.specs.Masks.{has};
-ghost use Rattle.rules.specs.Table.{TableFor, environmentOf, borrowsBy, MayHold};
+ghost use Rattle.rules.specs.Table.{TableFor, environmentOf};
 ghost use Rattle.rules.specs.Verdicts.{LaterIs};
 ghost use Rattle.ownership.specs.RowUses.{namesOf, NamesBelow, UsesFor, namedWith};
 ghost use Rattle.ownership.specs.JudgeRows.{AllWrap};
@@ -83,33 +83,8 @@ pub fn with_named(rows: &[u32], start: usize, count: usize, variables: usize, na
     all
 }
 
-// A variable in use holds a borrow of a place with the root; any, or an exclusive one (LANGUAGE 3.11, 3.12). The terms
-// from row `from` on have not finished, nor count terms around them from row `start` on, nor those that name the set.
-// All that hold one are among those that may.
-fn is_barred(
-    rows: &[u32],
-    start: usize,
-    count: usize,
-    from: usize,
-    env: &[u64],
-    variables: usize,
-    uses: &[u32],
-    named: Roots,
-    root: usize,
-    any: bool,
-    may: Roots,
-) -> bool
-    requires { ⌜ AllWrap variables (now rows) start count × TableFor (now env) variables × (length (now uses) ≡ variables) × (root < variables) × MayHold (now env) any root may ⌝ }
-    ensures { λ r. ⌜ ((ns : Unfinished) → LaterIs variables (now (uses .entry)) from (namedWith (now (rows .entry)) start count (has named)) ns → r ≡ held (borrowsBy any) (inUse variables ns (environmentOf (now (env .entry)))) variables (environmentOf (now (env .entry))) root) ⌝ }
-{
-    let later = Later {
-        from: from,
-        named: with_named(rows, start, count, variables, named),
-    };
-    is_held(env, variables, uses, later, root, any, may)
-}
-
-// Reading barred (LANGUAGE 3.11), likewise; most often no variable may hold the root, and nothing is searched.
+// Reading barred (LANGUAGE 3.11), where the terms from row `from` on have not finished, nor count terms around them from
+// row `start` on, nor those that name the set.
 pub fn read_barred(
     rows: &[u32],
     start: usize,
@@ -128,19 +103,11 @@ pub fn read_barred(
     if is_empty(may) {
         return false;
     }
-    is_barred(
-        rows,
-        start,
-        count,
-        from,
-        env,
-        variables,
-        uses,
-        named,
-        root,
-        false,
-        may,
-    )
+    let later = Later {
+        from: from,
+        named: with_named(rows, start, count, variables, named),
+    };
+    is_held(env, variables, uses, later, root, false, may)
 }
 
 // Writing barred (LANGUAGE 3.12), likewise.
@@ -162,17 +129,9 @@ pub fn write_barred(
     if is_empty(may) {
         return false;
     }
-    is_barred(
-        rows,
-        start,
-        count,
-        from,
-        env,
-        variables,
-        uses,
-        named,
-        root,
-        true,
-        may,
-    )
+    let later = Later {
+        from: from,
+        named: with_named(rows, start, count, variables, named),
+    };
+    is_held(env, variables, uses, later, root, true, may)
 }

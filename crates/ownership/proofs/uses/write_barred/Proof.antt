@@ -2,8 +2,10 @@
 use mathlib.Core.Path.{sym, _∙_}
 use mathlib.Core.Bool.{true}
 use borrow.Author.Needs.{needs}
+use Rattle.rules.specs.Masks.{has}
 use Rattle.rules.specs.Table.{borrowsBy}
-use Rattle.ownership.proofs.BarredLaws.{nobody-holds}
+use Rattle.ownership.specs.RowUses.{namedWith}
+use Rattle.ownership.proofs.BarredLaws.{nobody-holds, later-has}
 use Rattle.ownership.proofs.uses.write_barred.Statement.{statement}
 use Rattle.ownership.proofs.uses.write_barred.Tie as tie
 
@@ -17,12 +19,20 @@ returns : tie.Need-returns
 unfolding borrowsBy
 returns c = λ ns later. sym (nobody-holds _ true _ _ (c .before .before .may-bar-writing .ensures) (sym (c .before .is-empty .ensures) ∙ c .if1 .taken) _ _)
 
-is-barred-requires : tie.Need-is-barred-requires
-is-barred-requires c κs = search needs
+with-named-requires : tie.Need-with-named-requires
+with-named-requires c κs = search needs
+
+is-held-requires : tie.Need-is-held-requires
+is-held-requires c κs =
+    let at-may = c .before .before .before in
+    let p = at-may .before .before .before .before .pre in
+    (p .1, p .3, at-may .may-bar-writing .ensures, p .2)
 
 returns-2 : tie.Need-returns-2
 unfolding borrowsBy
-returns-2 c = c .is-barred .ensures
+returns-2 c =
+    let start = c .before .before .before .before .before .before .before .before in
+    λ ns later. c .is-held .ensures ns (later-has _ (start .args .uses .now) (start .args .from) _ (namedWith (start .args .rows .now) (start .args .start) (start .args .count) (has (start .args .named))) ns (c .before .with-named .ensures) later)
 
 pub write-barred-spec : {M : Type 1} → statement M
 write-barred-spec =
@@ -31,5 +41,6 @@ write-barred-spec =
     may-bar-writing-requires
     is-empty-requires
     returns
-    is-barred-requires
+    with-named-requires
+    is-held-requires
     returns-2)
