@@ -8,7 +8,7 @@ use borrow.Author.Tests.{eqb-true}
 use Rattle.reader.specs.Result.{pick}
 use Rattle.rules.proofs.ClosureLoop.{Meeting, metAfter, todoAfter, round, count, waiting, one-fewer}
 
--- What is met so far; of that, all but what is still to do passes, and `ends` are those of it in which following ends.
+-- What is met so far; of that, all but what is still to do passes, and `ends` are those of it that are the search's own.
 pub record Search (first : ℕ → Bool) (leads : ℕ → ℕ → Bool) (pass own met todo ends : ℕ → Bool) : Type 0 where
   pub meeting : Meeting first leads met todo
   pub passed : (y : ℕ) → met y ≡ true → todo y ≡ false → pass y ≡ true
@@ -43,7 +43,7 @@ module _ (first : ℕ → Bool) (leads : ℕ → ℕ → Bool) (pass own : ℕ �
 
   module _ (met todo ends : ℕ → Bool) (S : Search first leads pass own met todo ends) (x : ℕ) (h : todo x ≡ true) where
     module _ (met′ todo′ : ℕ → Bool) (me : (z : ℕ) → met′ z ≡ metAfter leads x met z) (te : (z : ℕ) → todo′ z ≡ todoAfter leads x met todo z) where
-      -- The variable x has been looked at: it passes, and counts if following ends in it.
+      -- The number x has been looked at: it passes, and counts if it is one of its own.
       pub search-round : (ends′ : ℕ → Bool) → pass x ≡ true → ((y : ℕ) → ends′ y ≡ pick (ends y) true (pick (eqb x y) (own x) false)) → Search first leads pass own met′ todo′ ends′
       search-round ends′ p ee = record {
         meeting = round first leads met todo (S .meeting) x h met′ todo′ me te;
@@ -139,7 +139,7 @@ module _ (first : ℕ → Bool) (leads : ℕ → ℕ → Bool) (pass own : ℕ �
             go true k p l = same (pick p false (todo z))
             go false k p l = off (todo z) p l (unmet z k)
 
-        -- One round with such sets: what is kept, and one fewer of at most 128 is waiting.
+        -- One round with such sets: what is kept, and fewer are waiting.
         module _ (met′ todo′ ends′ : ℕ → Bool) (met-is : (z : ℕ) → met′ z ≡ pick (met z) true (more z)) (todo-is : (z : ℕ) → todo′ z ≡ pick (todo₁ z) true (more z)) where
           pub search-next : pass x ≡ true → ((y : ℕ) → ends′ y ≡ pick (ends y) true (pick (eqb x y) (own x) false)) → (n : ℕ) → x < n
               → Search first leads pass own met′ todo′ ends′ × (count (waiting met′ todo′) n < count (waiting met todo) n)

@@ -74,9 +74,9 @@ fn held_by(env: &[u64], variables: usize, x: usize, any: bool) -> Roots
 
 // Variables that may lead to a root: those that may hold a borrow of it, those that may hold one of these, and so on; and
 // those of them that are named by a term that has not finished.
-pub struct Leading {
-    pub all: Roots,
-    pub named: Roots,
+struct Leading {
+    all: Roots,
+    named: Roots,
 }
 
 // All that may lead to a root which these may hold, by the notes alone: no variable's entry is loaded. Each variable is
