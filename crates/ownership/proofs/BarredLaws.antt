@@ -29,7 +29,7 @@ nobody-holds env any root s may e these n = go (held (borrowsBy any) these n (en
     go true k = let h = held-some (borrowsBy any) these (environmentOf env) root n k in sym (may (h .0) (h .2)) ∙ none-in s e (h .0)
     go false k = refl
 
--- What is told of a root goes by its number, however the code has it.
+-- What is told of a root is told of an equal one.
 pub at-root : (of : ℕ → Bool) {told : Bool} {x y : ℕ} → x ≡ y → told ≡ of x → told ≡ of y
 at-root of e t = t ∙ ap of e
 

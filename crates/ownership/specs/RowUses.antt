@@ -1,15 +1,15 @@
 -- What rows name, and the terms that have not finished where the code stands (LANGUAGE 3.32, 3.33). No rule of the language is stated here.
 use Prim.Native.Nat.{ℕ, zero, suc, _+_, _*_, _≤_, _<_}
 use mathlib.Core.Path.{_≡_}
-use mathlib.Core.Bool.{Bool, true, false}
+use mathlib.Core.Bool.{Bool, true}
 use mathlib.Core.Option.{Option, none, some}
 use mathlib.Core.List.{List, [], _∷_}
-use lib.Dec.{ltb}
 use lib.ListN.{length, getD}
 use Rattle.reader.specs.Result.{pick}
 use Rattle.reader.specs.Kinds.{Kind, kNumber, kReading, kCopy, kMove, kShared, kExclusive, kBox, kLet, kAssign, kBelow, kBlock, kChoice, kSum, newest, kindOf}
 use Rattle.reader.specs.RowParts.{fieldAt}
 use Rattle.rules.specs.Uses.{Unfinished, naming, names, namedLater}
+use Rattle.rules.specs.Verdicts.{namedFrom}
 
 -- The variables that a term of the kind names, of those in fields 1 and 3 of its row.
 unfoldable pub namesOf : Option Kind → ℕ → ℕ → List ℕ
@@ -56,7 +56,7 @@ those f (suc n) = pick (f n) (n ∷ those f n) (those f n)
 -- The terms that have not finished once those before row `next` have, as one that names all that they name: what rows from there on name, and what
 -- the terms around name.
 unfoldable pub laterAt : ℕ → List ℕ → (ℕ → Bool) → ℕ → Unfinished
-laterAt nv uses named next = naming (those (λ x. pick (ltb next (getD uses x 0)) true (named x)) nv)
+laterAt nv uses named next = naming (those (namedFrom uses next named) nv)
 
 -- The same inside n terms that stand around one another from row i on: the innermost finishes first.
 unfoldable pub laterIn : List ℕ → ℕ → ℕ → Unfinished → Unfinished

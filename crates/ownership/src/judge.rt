@@ -364,8 +364,8 @@ fn judge_terms(
     judged
 }
 
-// The script (LANGUAGE 3.29) of so many terms, with no number taken before it (3.1): first the last uses of its variables,
-// whose table is all 0 before.
+// The script (LANGUAGE 3.29) of so many terms, with no number taken before it (3.1). First the last uses of its variables
+// are found, whose table is all 0 before.
 pub fn judge_script(
     rows: &[u32],
     terms: usize,

@@ -24,8 +24,8 @@ use rules::may_bar_writing;
 use rules::only;
 use rules::unite;
 
-// The kinds whose terms name the variable in field 1 (LANGUAGE 3.33). One arm for each lets the compiler test one bit; a
-// row costs half as much as where they are joined.
+// The kinds whose terms name the variable in field 1 (LANGUAGE 3.33). With one arm for each, and not one for all, the
+// compiler tests one bit, and a row costs half as much.
 fn names_first(kind: u32) -> bool
     ensures { λ r. ⌜ ((x y : ℕ) → r ≡ names (namesOf (kindOf newest kind) x y) x) ⌝ }
 {
@@ -110,7 +110,7 @@ pub fn read_barred(
     is_held(env, variables, uses, later, root, false, may)
 }
 
-// Writing barred (LANGUAGE 3.12), likewise.
+// Writing barred (LANGUAGE 3.12), likewise. One function for both, told which to ask, is slower.
 pub fn write_barred(
     rows: &[u32],
     start: usize,

@@ -21,6 +21,7 @@ use Rattle.rules.specs.Roots.{left}
 use Rattle.rules.specs.Chains.{chainOf, isExclusive}
 use Rattle.rules.specs.Masks.{has}
 use Rattle.rules.specs.Table.{entryWord, linksAt, longAt, rootsAt, holdersAt, placesIn, endIn, borrowEndOf, stateAt, entryAt, variableAt, environmentOf, TableFor, borrowsBy, MayHold}
+use Rattle.rules.specs.Verdicts.{Records}
 use Rattle.rules.proofs.InUse.{held-out}
 use Rattle.rules.proofs.EntryLaws.{NotLive, status-live, live-status, live-inside, slot-live, not-live}
 use Rattle.rules.proofs.EndLaws.{told-none, told-shared, told-exclusive, rooted-in-set, end-in-set}
@@ -124,13 +125,21 @@ held-live env any y root h =
     let s = live-status env y (k .0) (k .1) in
     (s .0, ap (λ (u : Variable). borrowsBy any (u .borrow) root) (sym (s .1)) ∙ k .2)
 
--- Who holds a borrow of the root is in its note, and is a variable of the table.
-pub held-noted : (env : List ℕ) (n root : ℕ) → TableFor env n → root < n → (any : Bool) (y : ℕ) → heldBy (borrowsBy any) (environmentOf env y) root ≡ true → (y < n) × (has (holdersAt env root) y ≡ true)
-held-noted env n root T l any y h =
+-- Who holds a borrow of the root records it.
+pub held-recorded : (env : List ℕ) (any : Bool) (y root : ℕ) → heldBy (borrowsBy any) (environmentOf env y) root ≡ true → Records env y root
+held-recorded env any y root h =
     let k = held-live env any y root h in
-    let i = live-inside env n T y (variableAt env y) (status-live env y (k .0)) in
     let r : rooted (places (variableAt env y .borrow)) root ≡ true = borrows-rooted any (variableAt env y .borrow) root (k .1) in
-    (i, T .2 .held y root i l (k .0) (end-in-set env (chainOf (linksAt env y)) (rootsAt env y) root r))
+    (k .0, end-in-set env (chainOf (linksAt env y)) (rootsAt env y) root r)
+
+-- Who records it is in its note, and is a variable of the table.
+pub recorded-noted : (env : List ℕ) (n root : ℕ) → TableFor env n → root < n → (y : ℕ) → Records env y root → (y < n) × (has (holdersAt env root) y ≡ true)
+recorded-noted env n root T l y k =
+    let i = live-inside env n T y (variableAt env y) (status-live env y (k .0)) in
+    (i, T .2 .held y root i l (k .0) (k .1))
+
+pub held-noted : (env : List ℕ) (n root : ℕ) → TableFor env n → root < n → (any : Bool) (y : ℕ) → heldBy (borrowsBy any) (environmentOf env y) root ≡ true → (y < n) × (has (holdersAt env root) y ≡ true)
+held-noted env n root T l any y h = recorded-noted env n root T l y (held-recorded env any y root h)
 
 -- It is in the set of those in scope.
 pub held-scoped : (env : List ℕ) (n root : ℕ) → TableFor env n → (any : Bool) (y : ℕ) → heldBy (borrowsBy any) (environmentOf env y) root ≡ true → has (rootsAt env (suc n)) y ≡ true

@@ -50,6 +50,7 @@ pub mod LeavingLaws
 pub mod StepLaws
 pub mod SearchLaws
 pub mod GatherLaws
+pub mod LeadingLaws
 pub mod BarLaws
 -- Words put into the table, and its notes.
 pub mod WordLaws

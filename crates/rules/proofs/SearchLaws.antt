@@ -39,10 +39,10 @@ use Rattle.rules.proofs.StepLaws.{stops-deep, passes-at, ends-at, passe
 -- ---- in a table
 
 -- The variable passes with m links left, and following ends in it.
-abbrev pub passing : List ℕ → ℕ → Bool → ℕ → Bool
+abbrev passing : List ℕ → ℕ → Bool → ℕ → Bool
 passing env m deep y = passesSlot deep (environmentOf env y) (linksOf (environmentOf env y) - m)
 
-abbrev pub ending : List ℕ → ℕ → ℕ → Bool
+abbrev ending : List ℕ → ℕ → ℕ → Bool
 ending env m y = ownLink (environmentOf env y) (linksOf (environmentOf env y) - m)
 
 abbrev pub Searching : List ℕ → ℕ → ℕ → Bool → Roots → Roots → Roots → Type 0
@@ -99,11 +99,11 @@ module _ (env : List ℕ) (n : ℕ) (T : NeatTable env n) (root m : ℕ) (is : e
       not-all false k = refl
 
   -- The root is always met.
-  pub root-stops : (deep : Bool) → passesSlot deep (live (variableAt env root)) (longAt env root - m) ≡ false → Searched n (environmentOf env) root m deep ends.MovedAway
+  root-stops : (deep : Bool) → passesSlot deep (live (variableAt env root)) (longAt env root - m) ≡ false → Searched n (environmentOf env) root m deep ends.MovedAway
   root-stops deep h = stops-at deep root root-met h
 
   -- Where following ends in the root, nothing else is met.
-  pub root-alone : longAt env root - m ≤ leadingBoxes (chainOf (linksAt env root)) → MetFrom (environmentOf env) m root (eqb root)
+  root-alone : longAt env root - m ≤ leadingBoxes (chainOf (linksAt env root)) → MetFrom (environmentOf env) m root (eqb root)
   root-alone h = record {
     start = λ y k. k;
     closed = λ y z k l. absurd (false≢true (sym (leads-nowhere env root m is h z) ∙ ap (λ (w : ℕ). leads (environmentOf env) m w z) (eqb-true root y k) ∙ l));

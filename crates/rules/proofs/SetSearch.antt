@@ -8,7 +8,8 @@ use borrow.Author.Tests.{eqb-true}
 use Rattle.reader.specs.Result.{pick}
 use Rattle.rules.proofs.ClosureLoop.{Meeting, metAfter, todoAfter, round, count, waiting, one-fewer}
 
--- What is met so far; of that, all but what is still to do passes, and `ends` are those of it that are the search's own.
+-- What is met so far. Of that, all but what is still to do passes; `own` is what the search looks for, and `ends` has those of it that are met and
+-- no longer to do.
 pub record Search (first : ℕ → Bool) (leads : ℕ → ℕ → Bool) (pass own met todo ends : ℕ → Bool) : Type 0 where
   pub meeting : Meeting first leads met todo
   pub passed : (y : ℕ) → met y ≡ true → todo y ≡ false → pass y ≡ true
@@ -43,7 +44,7 @@ module _ (first : ℕ → Bool) (leads : ℕ → ℕ → Bool) (pass own : ℕ �
 
   module _ (met todo ends : ℕ → Bool) (S : Search first leads pass own met todo ends) (x : ℕ) (h : todo x ≡ true) where
     module _ (met′ todo′ : ℕ → Bool) (me : (z : ℕ) → met′ z ≡ metAfter leads x met z) (te : (z : ℕ) → todo′ z ≡ todoAfter leads x met todo z) where
-      -- The number x has been looked at: it passes, and counts if it is one of its own.
+      -- The number x has been looked at: it passes, and comes into `ends` if it is `own`.
       pub search-round : (ends′ : ℕ → Bool) → pass x ≡ true → ((y : ℕ) → ends′ y ≡ pick (ends y) true (pick (eqb x y) (own x) false)) → Search first leads pass own met′ todo′ ends′
       search-round ends′ p ee = record {
         meeting = round first leads met todo (S .meeting) x h met′ todo′ me te;

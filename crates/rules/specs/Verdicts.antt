@@ -24,7 +24,6 @@ use Rattle.rules.specs.declared.verdicts.Verdict.the-variants as verdict
 use Rattle.rules.specs.Links.{Link, leadingBoxes, maxLinks}
 use Rattle.rules.specs.Environment.{Borrow, places, Variable, used, live, Environment, Ty, update, isFree, borrowsAt}
 use Rattle.rules.specs.Uses.{Unfinished, namedLater}
-use Rattle.rules.specs.Bars.{borrowsAny, heldBy}
 use Rattle.rules.specs.Rules as rules
 use Rattle.rules.specs.Rules.{Judged, Out, judgeBox}
 use Rattle.rules.specs.Judge.{isAnswer}
@@ -34,7 +33,7 @@ use Rattle.rules.specs.Neat.{place, SameSet, Neat}
 use Rattle.rules.specs.Roots.{lengths, placesOf}
 use Rattle.rules.specs.Chains.{chainOf}
 use Rattle.rules.specs.Masks.{has}
-use Rattle.rules.specs.Table.{entryWord, TableFor, InScope, environmentOf, linksAt, longAt, variableAt, placesIn, endIn}
+use Rattle.rules.specs.Table.{entryWord, rootsAt, TableFor, InScope, environmentOf, linksAt, longAt, variableAt, placesIn, endIn}
 
 abbrev pub typeOf : List Link → Borrow → Ty
 typeOf ks b = record { links = ks; borrow = b }
@@ -151,7 +150,7 @@ unfoldable pub begun : Environment → Requirement → Judged Environment
 begun Γ requirement.Met = ok Γ
 begun Γ (requirement.Refused n at) = err (n, at)
 
--- ---- who is named later
+-- ---- who is named later, and who may lead to a root
 
 -- What is used from a row on, and these variables besides. `uses` has for each variable one more than the last row that names it.
 abbrev pub namedFrom : List ℕ → ℕ → (ℕ → Bool) → ℕ → Bool
@@ -161,12 +160,17 @@ namedFrom uses from named x = pick (ltb from (getD uses x 0)) true (named x)
 abbrev pub LaterIs : ℕ → List ℕ → ℕ → (ℕ → Bool) → Unfinished → Type 0
 LaterIs nv uses from named ns = (x : ℕ) → x < nv → namedLater ns x ≡ namedFrom uses from named x
 
--- All these that are in scope, and whoever holds a borrow of a place rooted in one of all; and those of all that are named.
-pub record LeadingTo (env : List ℕ) (these : Roots) (named : ℕ → Bool) (r : Leading) : Type 0 where
+-- The variable y is in scope, and records a place with the root x. Who holds one does (proofs/HeldLaws).
+abbrev pub Records : List ℕ → ℕ → ℕ → Type 0
+Records env y x = (2 ≤ entryWord env y 0) × (has (rootsAt env y) x ≡ true)
+
+-- `all` is in scope. It has those of the set that record the root, and whoever records one of `all`; it may have more. `named` has those of `all`
+-- that are named.
+pub record LeadingTo (env : List ℕ) (root : ℕ) (these : Roots) (named : ℕ → Bool) (r : Leading) : Type 0 where
   pub scoped : InScope env (r .all)
-  pub start : (x : ℕ) → 2 ≤ entryWord env x 0 → has these x ≡ true → has (r .all) x ≡ true
-  pub closed : (x y : ℕ) → has (r .all) x ≡ true → heldBy borrowsAny (environmentOf env y) x ≡ true → has (r .all) y ≡ true
-  pub named-are : (x : ℕ) → has (r .named) x ≡ pick (has (r .all) x) (named x) false
+  pub start : (y : ℕ) → has these y ≡ true → Records env y root → has (r .all) y ≡ true
+  pub closed : (x y : ℕ) → has (r .all) x ≡ true → Records env y x → has (r .all) y ≡ true
+  pub named-are : (y : ℕ) → has (r .named) y ≡ pick (has (r .all) y) (named y) false
 
 -- ---- values
 

@@ -1,5 +1,5 @@
 // What the borrows that are held bar (LANGUAGE 3.10 to 3.12, 3.34): the note of the root tells who may hold one. Where
-// there is one, it is asked whether it is in use: a term that has not finished names it, or a variable in use holds it.
+// somebody may, it is asked whether one in use does: one that an unfinished term names, or that a variable in use holds.
 ghost use mathlib.Core.Path.{_≡_};
 ghost use mathlib.Core.Bool.{true, false};
 ghost use Prim.Native.Nat.{ℕ, _<_};
@@ -72,31 +72,43 @@ fn held_by(env: &[u64], variables: usize, x: usize, any: bool) -> Roots
     }
 }
 
-// Variables that may lead to a root: those that may hold a borrow of it, those that may hold one of these, and so on; and
-// those of them that are named by a term that has not finished.
+// Variables that may lead to a root: those that record a place with that root, those that record a place with one of
+// these, and so on; and those of them that are named by a term that has not finished.
 struct Leading {
     all: Roots,
     named: Roots,
 }
 
-// All that may lead to a root which these may hold, by the notes alone: no variable's entry is loaded. Each variable is
-// taken up once at most.
-fn leading_to(env: &[u64], variables: usize, uses: &[u32], later: Later, may: Roots) -> Leading
-    requires { ⌜ TableFor (now env) variables × (length (now uses) ≡ variables) ⌝ }
-    ensures { λ r. ⌜ LeadingTo (now (env .entry)) may (namedFrom (now (uses .entry)) (later .from) (has (later .named))) r ⌝ }
+// All that may lead to the root, which no variable but these may record. A variable that is noted for another is taken up
+// only to see what it records, since a note may be out of date: it is one of them if that is the root, or one of them.
+fn leading_to(
+    env: &[u64],
+    variables: usize,
+    uses: &[u32],
+    later: Later,
+    root: usize,
+    may: Roots,
+) -> Leading
+    requires { ⌜ TableFor (now env) variables × (length (now uses) ≡ variables) × (root < variables) ⌝ }
+    ensures { λ r. ⌜ LeadingTo (now (env .entry)) root may (namedFrom (now (uses .entry)) (later .from) (has (later .named))) r ⌝ }
 {
     let scope = in_scope(env, variables);
-    let mut all = common(may, scope);
-    let mut left = all;
+    let mut towards = only(root);
+    let mut all = no_roots();
     let mut named = no_roots();
+    let mut left = common(may, scope);
     while !is_empty(left) {
         let x = lowest(left);
-        if is_named(uses, x, later) {
-            named = unite(named, only(x));
+        let one = only(x);
+        left = less(left, one);
+        if !is_empty(common(roots_at(env, x), towards)) {
+            if is_named(uses, x, later) {
+                named = unite(named, one);
+            }
+            all = unite(all, one);
+            towards = unite(towards, one);
+            left = unite(left, common(less(holders_at(env, x), all), scope));
         }
-        let more = common(less(holders_at(env, x), all), scope);
-        all = unite(all, more);
-        left = unite(without(left, x), more);
     }
     Leading {
         all: all,
@@ -119,7 +131,7 @@ pub fn is_held(
     requires { ⌜ TableFor (now env) variables × (root < variables) × MayHold (now env) any root may × (length (now uses) ≡ variables) ⌝ }
     ensures { λ r. ⌜ ((ns : Unfinished) → LaterIs variables (now (uses .entry)) (later .from) (has (later .named)) ns → r ≡ held (borrowsBy any) (inUse variables ns (environmentOf (now (env .entry)))) variables (environmentOf (now (env .entry))) root) ⌝ }
 {
-    let near = leading_to(env, variables, uses, later, may);
+    let near = leading_to(env, variables, uses, later, root, may);
     let mut met = near.named;
     let mut left = met;
     while !is_empty(left) {

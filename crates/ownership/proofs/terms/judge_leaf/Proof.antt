@@ -31,7 +31,7 @@ module _ (x : tie.After-index-of) where
   asked : (root y : ℕ) → root ≡ y → names (namesOf (kindOf newest (start .args .kind)) (start .args .first .root) (start .args .second .root)) y ≡ true → Asked root
   asked root y e named = (start .pre .3, start .pre .0 .0, start .pre .1, omega (arith, e, start .pre .4 y named))
 
-  -- It is the only one that the term names.
+  -- The first root, where the term names it.
   asked-one : true ≡ names (namesOf (kindOf newest (start .args .kind)) (start .args .first .root) (start .args .second .root)) (start .args .first .root) → Asked (x .index-of .result)
   asked-one named = asked _ _ (x .index-of .ensures) (sym named)
 

@@ -18,12 +18,12 @@ abbrev μ-loop : tie.MeasureT-loop
 μ-loop env variables uses root any near met₀ left₀ met left = count (waiting (has met) (has left)) 128
 
 leading-to-requires : tie.Need-leading-to-requires Inv-loop μ-loop
-leading-to-requires c κs = let p = c .before .before .pre in (p .0, p .3)
+leading-to-requires c κs = let p = c .before .before .pre in (p .0, p .3, p .1)
 
 loop-holds : tie.Need-loop-holds Inv-loop μ-loop
 loop-holds c =
     let p = c .before .before .before .before .pre in
-    seek-begins _ _ (p .0) _ _ (p .1) _ (p .2) _ _ (c .before .leading-to .ensures)
+    seek-begins _ _ (p .0) _ _ _ (p .2) _ _ (c .before .leading-to .ensures)
 
 is-empty-requires : tie.Need-is-empty-requires Inv-loop μ-loop
 is-empty-requires c κs = search needs
@@ -51,7 +51,7 @@ returns c =
     let at-lowest = at-held .before in
     let l = at-lowest .before .before .before in
     let p = start l .pre in
-    λ ns later. seek-found _ _ (p .0) _ _ (p .1) _ (p .2) _ _ (led l .leading-to .ensures) _ _ (l .loop .inv) ns later _ (at-lowest .lowest .ensures .0) (sym (at-held .held-by .ensures _) ∙ sym (c .before .is-member .ensures) ∙ c .if2 .taken)
+    λ ns later. seek-found _ _ (p .0) _ _ _ (p .2) _ _ (led l .leading-to .ensures) _ _ (l .loop .inv) ns later _ (at-lowest .lowest .ensures .0) (sym (at-held .held-by .ensures _) ∙ sym (c .before .is-member .ensures) ∙ c .if2 .taken)
 
 held-by-requires-2 : tie.Need-held-by-requires-2 Inv-loop μ-loop
 held-by-requires-2 c κs = search needs
@@ -93,7 +93,7 @@ module _ (c : tie.After-unite2 Inv-loop μ-loop) where
       let at-more = at-unite .before in
       let at-less = at-more .before in
       let p = start at-loop .pre in
-      seek-round _ _ (p .0) _ _ (p .1) _ (p .2) _ _ (led at-loop .leading-to .ensures) _ _ (at-loop .loop .inv) _ (at-lowest .lowest .ensures .0) (asked .before .is-member .result) (asked .before .is-member .ensures ∙ asked .before .before .held-by .ensures _) (asked .if2 .left) _ _ _ _ _ _ (at-less .before .held-by2 .ensures) (at-less .less .ensures) (at-more .common .ensures) (at-unite .unite .ensures) (at-without .without .ensures) (c .unite2 .ensures)
+      seek-round _ _ (p .0) _ _ _ (p .2) _ _ (led at-loop .leading-to .ensures) _ _ (at-loop .loop .inv) _ (at-lowest .lowest .ensures .0) (asked .before .is-member .result) (asked .before .is-member .ensures ∙ asked .before .before .held-by .ensures _) (asked .if2 .left) _ _ _ _ _ _ (at-less .before .held-by2 .ensures) (at-less .less .ensures) (at-more .common .ensures) (at-unite .unite .ensures) (at-without .without .ensures) (c .unite2 .ensures)
 
 loop-less : tie.Need-loop-less Inv-loop μ-loop
 loop-less c = round c .1
@@ -105,7 +105,7 @@ returns-2 : tie.Need-returns-2 Inv-loop μ-loop
 returns-2 c =
     let l = c .before .before in
     let p = start l .pre in
-    λ ns later. seek-over _ _ (p .0) _ _ (p .1) _ (p .2) _ _ (led l .leading-to .ensures) _ _ (l .loop .inv) ns later (none-in _ (sym (c .before .is-empty .ensures) ∙ not-false _ (c .if1 .left)))
+    λ ns later. seek-over _ _ (p .0) _ _ _ (p .2) _ _ (led l .leading-to .ensures) _ _ (l .loop .inv) ns later (none-in _ (sym (c .before .is-empty .ensures) ∙ not-false _ (c .if1 .left)))
 
 pub is-held-spec : {M : Type 1} → statement M
 is-held-spec =

@@ -3,39 +3,44 @@ use Prim.Native.Nat.{_<_}
 use native.Mathlib.Omega.{arith}
 use mathlib.Core.Path.{refl, sym, ap, _∙_}
 use mathlib.Core.Logic.{inl, inr, ⊎-elim}
-use mathlib.Core.Bool.{Bool, true}
 use borrow.Author.Needs.{needs}
 use borrow.Author.Tests.{not-true, not-false}
-use Rattle.reader.specs.Result.{pick}
 use Rattle.rules.specs.declared.roots.Roots.{Roots}
 use Rattle.rules.specs.Masks.{has}
 use Rattle.rules.specs.Verdicts.{namedFrom}
-use Rattle.rules.proofs.ClosureLoop.{count, waiting}
 use Rattle.rules.proofs.MaskLaws.{none-in}
-use Rattle.rules.proofs.BarLaws.{Gathering, gather-begins, todo-low, gather-round, gather-over}
+use Rattle.rules.proofs.LeadingLaws.{Gathering, steps, gather-begins, left-low, gather-finds, gather-skips, gather-over}
 use Rattle.rules.proofs.bars.leading_to.Statement.{statement}
 use Rattle.rules.proofs.bars.leading_to.Tie as tie
 
 abbrev Inv-loop : tie.InvT-loop
-Inv-loop env variables uses later scope all₀ left₀ named₀ all left named = Gathering env variables (namedFrom uses (later .from) (has (later .named))) all₀ all left named
+Inv-loop env variables uses later root scope towards₀ all₀ named₀ left₀ towards all named left = Gathering env root left₀ (namedFrom uses (later .from) (has (later .named))) all towards left named
 
 abbrev μ-loop : tie.MeasureT-loop
-μ-loop env variables uses later scope all₀ left₀ named₀ all left named = count (waiting (has all) (has left)) 128
+μ-loop env variables uses later root scope towards₀ all₀ named₀ left₀ towards all named left = steps all left
 
 in-scope-requires : tie.Need-in-scope-requires Inv-loop μ-loop
 in-scope-requires c κs = search needs
 
-common-requires : tie.Need-common-requires Inv-loop μ-loop
-common-requires c κs = search needs
+only-requires : tie.Need-only-requires Inv-loop μ-loop
+only-requires c κs = let p = c .before .before .before .pre in omega (arith, p .2, p .0 .1)
 
 no-roots-requires : tie.Need-no-roots-requires Inv-loop μ-loop
 no-roots-requires c κs = search needs
 
+no-roots-requires-2 : tie.Need-no-roots-requires-2 Inv-loop μ-loop
+no-roots-requires-2 c κs = search needs
+
+common-requires : tie.Need-common-requires Inv-loop μ-loop
+common-requires c κs = search needs
+
 loop-holds : tie.Need-loop-holds Inv-loop μ-loop
 loop-holds c =
-    let at-first = c .before in
-    let at-scope = at-first .before in
-    gather-begins _ _ (at-scope .before .before .before .pre .0) _ _ _ (at-scope .in-scope .ensures) (at-first .common .ensures) _ _ (c .no-roots .ensures)
+    let at-named = c .before in
+    let at-all = at-named .before in
+    let at-root = at-all .before in
+    let at-scope = at-root .before in
+    gather-begins _ _ (at-scope .before .before .before .pre .0) _ _ _ _ (at-scope .in-scope .ensures) _ (c .common .ensures) _ _ _ (at-all .no-roots .ensures) (at-root .only .ensures) (at-named .no-roots2 .ensures)
 
 is-empty-requires : tie.Need-is-empty-requires Inv-loop μ-loop
 is-empty-requires c κs = search needs
@@ -45,81 +50,118 @@ lowest-requires c κs = sym (c .before .is-empty .ensures) ∙ not-true _ (c .if
 
 -- Where the loop stands.
 module _ (l : tie.At-loop Inv-loop μ-loop) where
-  abbrev at-first : tie.After-common Inv-loop μ-loop
-  at-first = l .before .before
-
   abbrev at-scope : tie.After-in-scope Inv-loop μ-loop
-  at-scope = at-first .before
+  at-scope = l .before .before .before .before .before
 
   abbrev start : tie.Start Inv-loop μ-loop
   start = at-scope .before .before .before
 
--- The variable that is taken up is one of the table.
-low : (c : tie.After-lowest Inv-loop μ-loop) → c .lowest .result < start (c .before .before .before) .args .variables
-low c =
-    let l = c .before .before .before in
-    todo-low _ _ (start l .pre .0) _ _ _ (at-scope l .in-scope .ensures) (at-first l .common .ensures) _ _ _ _ (l .loop .inv) _ (c .lowest .ensures .0)
+-- Where x is taken up, which is a variable of the table.
+module _ (u : tie.After-lowest Inv-loop μ-loop) where
+  abbrev at-loop : tie.At-loop Inv-loop μ-loop
+  at-loop = u .before .before .before
 
-is-named-requires : tie.Need-is-named-requires Inv-loop μ-loop
-is-named-requires c κs = omega (arith, low c, start (c .before .before .before) .pre .1)
+  low : u .lowest .result < start at-loop .args .variables
+  low = left-low _ _ (start at-loop .pre .0) _ _ _ _ (at-scope at-loop .in-scope .ensures) _ _ _ _ (at-loop .loop .inv) _ (u .lowest .ensures .0)
 
-only-requires : tie.Need-only-requires Inv-loop μ-loop
-only-requires c κs = c .before .before .lowest .ensures .1
-
-unite-requires : tie.Need-unite-requires Inv-loop μ-loop
-unite-requires c κs = search needs
-
-holders-at-requires : tie.Need-holders-at-requires Inv-loop μ-loop
-holders-at-requires c κs = let at-lowest = c .before .before in omega (arith, low at-lowest, start (at-lowest .before .before .before) .pre .0 .0)
+only-requires-2 : tie.Need-only-requires-2 Inv-loop μ-loop
+only-requires-2 c κs = c .lowest .ensures .1
 
 less-requires : tie.Need-less-requires Inv-loop μ-loop
 less-requires c κs = search needs
 
+roots-at-requires : tie.Need-roots-at-requires Inv-loop μ-loop
+roots-at-requires c κs = let u = c .before .before in omega (arith, low u, start (at-loop u) .pre .0 .0)
+
 common-requires-2 : tie.Need-common-requires-2 Inv-loop μ-loop
 common-requires-2 c κs = search needs
+
+is-empty-requires-2 : tie.Need-is-empty-requires-2 Inv-loop μ-loop
+is-empty-requires-2 c κs = search needs
+
+is-named-requires : tie.Need-is-named-requires Inv-loop μ-loop
+is-named-requires c κs = let u = c .before .before .before .before .before .before in omega (arith, low u, start (at-loop u) .pre .1)
+
+unite-requires : tie.Need-unite-requires Inv-loop μ-loop
+unite-requires c κs = search needs
 
 unite-requires-2 : tie.Need-unite-requires-2 Inv-loop μ-loop
 unite-requires-2 c κs = search needs
 
-without-requires : tie.Need-without-requires Inv-loop μ-loop
-without-requires c κs = c .before .before .before .before .before .before .lowest .ensures .1
-
 unite-requires-3 : tie.Need-unite-requires-3 Inv-loop μ-loop
 unite-requires-3 c κs = search needs
 
--- One round: what the loop keeps holds again, and there is less to do.
-module _ (c : tie.After-unite3 Inv-loop μ-loop) where
-  abbrev asked : tie.Joined2 Inv-loop μ-loop
+holders-at-requires : tie.Need-holders-at-requires Inv-loop μ-loop
+holders-at-requires c κs = let u = c .before .before .before .before .before .before .before .before .before .before in omega (arith, low u, start (at-loop u) .pre .0 .0)
+
+less-requires-2 : tie.Need-less-requires-2 Inv-loop μ-loop
+less-requires-2 c κs = search needs
+
+common-requires-3 : tie.Need-common-requires-3 Inv-loop μ-loop
+common-requires-3 c κs = search needs
+
+unite-requires-4 : tie.Need-unite-requires-4 Inv-loop μ-loop
+unite-requires-4 c κs = search needs
+
+-- What the loop keeps, with other sets, and that there is less to do than at the loop.
+abbrev Round : tie.At-loop Inv-loop μ-loop → Roots → Roots → Roots → Roots → Type 0
+Round l towards all named left =
+    Gathering (start l .args .env .now) (start l .args .root) (l .before .common .result) (namedFrom (start l .args .uses .now) (start l .args .later .from) (has (start l .args .later .named))) all towards left named
+    × (steps all left < steps (l .loop .all) (l .loop .left))
+
+-- The variable is found.
+module _ (c : tie.After-unite4 Inv-loop μ-loop) where
+  abbrev asked : tie.Joined3 Inv-loop μ-loop
   asked = c .before .before .before .before .before .before
 
-  abbrev at-lowest : tie.After-lowest Inv-loop μ-loop
-  at-lowest = asked .before .before
+  abbrev taken : tie.After-less Inv-loop μ-loop
+  taken = asked .before .before .before .before .before .before
 
-  abbrev at-loop : tie.At-loop Inv-loop μ-loop
-  at-loop = at-lowest .before .before .before
+  abbrev up : tie.After-lowest Inv-loop μ-loop
+  up = taken .before .before
 
-  round : Gathering (start at-loop .args .env .now) (start at-loop .args .variables) (namedFrom (start at-loop .args .uses .now) (start at-loop .args .later .from) (has (start at-loop .args .later .named))) (at-first at-loop .common .result) (c .before .before .unite2 .result) (c .unite3 .result) (asked .if2 .named)
-      × (count (waiting (has (c .before .before .unite2 .result)) (has (c .unite3 .result))) 128 < count (waiting (has (at-loop .loop .all)) (has (at-loop .loop .left))) 128)
-  round =
-      let at-without = c .before in
-      let at-unite = at-without .before in
-      let at-more = at-unite .before in
+  found : Round (at-loop up) (c .before .before .before .before .unite3 .result) (c .before .before .before .before .before .unite2 .result) (asked .if3 .named) (c .unite4 .result)
+  found =
+      let at-more = c .before in
       let at-less = at-more .before in
       let at-holders = at-less .before in
-      gather-round _ _ (start at-loop .pre .0) _ _ _ (at-scope at-loop .in-scope .ensures) (at-first at-loop .common .ensures) _ _ _ _ (at-loop .loop .inv) _ (at-lowest .lowest .ensures .0) (asked .before .is-named .result) (asked .before .is-named .ensures) _ _ _ _ _ _ _
-      (⊎-elim (λ w. inl (w .0 .taken, λ y. ap (λ (s : Roots). has s y) (w .3) ∙ w .2 .ensures y ∙ ap (λ (b : Bool). pick (has (at-loop .loop .named) y) true b) (w .1 .ensures y))) (λ w. inr (w .0 .left, w .1)) (asked .if2 .came))
-      (at-holders .holders-at .ensures) (at-less .less .ensures) (at-more .common2 .ensures) (at-unite .unite2 .ensures) (at-without .without .ensures) (c .unite3 .ensures)
+      let at-towards = at-holders .before in
+      let l = at-loop up in
+      gather-finds _ _ (start l .pre .0) _ _ _ _ (at-scope l .in-scope .ensures) _ _ _ _ (l .loop .inv) _ (up .lowest .ensures .0) _ _ (taken .before .only2 .ensures) (taken .less .ensures) (asked .before .is-named .result) (asked .before .is-named .ensures) _ _ _ _ _ _ _
+      (⊎-elim (λ w. inl (w .0 .taken, λ y. ap (λ (s : Roots). has s y) (w .2) ∙ w .1 .ensures y)) (λ w. inr (w .0 .left, w .1)) (asked .if3 .came))
+      (at-towards .before .unite2 .ensures) (at-towards .unite3 .ensures) (at-holders .holders-at .ensures) (at-less .less2 .ensures) (at-more .common3 .ensures) (c .unite4 .ensures)
 
 loop-less : tie.Need-loop-less Inv-loop μ-loop
-loop-less c = round c .1
+loop-less c = found c .1
 
 loop-again : tie.Need-loop-again Inv-loop μ-loop
-loop-again c = round c .0
+loop-again c = found c .0
+
+-- It records neither the root nor one that is found.
+module _ (c : tie.Else2 Inv-loop μ-loop) where
+  abbrev seen : tie.After-common2 Inv-loop μ-loop
+  seen = c .before .before
+
+  abbrev out : tie.After-less Inv-loop μ-loop
+  out = seen .before .before
+
+  skipped : (let l = at-loop (out .before .before) in Round l (l .loop .towards) (l .loop .all) (l .loop .named) (out .less .result))
+  skipped =
+      let u = out .before .before in
+      let l = at-loop u in
+      gather-skips _ _ (start l .pre .0) _ _ _ _ (at-scope l .in-scope .ensures) _ _ _ _ (l .loop .inv) _ (u .lowest .ensures .0) _ _ (out .before .only2 .ensures) (out .less .ensures) _ _ (seen .before .roots-at .ensures) (seen .common2 .ensures)
+      (none-in _ (sym (c .before .is-empty2 .ensures) ∙ not-false _ (c .if2 .left)))
+
+loop-less-2 : tie.Need-loop-less-2 Inv-loop μ-loop
+loop-less-2 c = skipped c .1
+
+loop-again-2 : tie.Need-loop-again-2 Inv-loop μ-loop
+loop-again-2 c = skipped c .0
 
 returns : tie.Need-returns Inv-loop μ-loop
 returns c =
     let l = c .before .before in
-    gather-over _ _ (start l .pre .0) _ _ _ (at-scope l .in-scope .ensures) (at-first l .common .ensures) _ _ _ _ (l .loop .inv) (none-in _ (sym (c .before .is-empty .ensures) ∙ not-false _ (c .if1 .left))) _ refl refl
+    gather-over _ _ (start l .pre .0) _ _ _ _ (at-scope l .in-scope .ensures) _ _ _ _ (l .loop .inv) _ (l .before .common .ensures) (none-in _ (sym (c .before .is-empty .ensures) ∙ not-false _ (c .if1 .left))) _ refl refl
 
 pub leading-to-spec : {M : Type 1} → statement M
 leading-to-spec =
@@ -128,20 +170,28 @@ leading-to-spec =
     Inv-loop
     μ-loop
     in-scope-requires
-    common-requires
+    only-requires
     no-roots-requires
+    no-roots-requires-2
+    common-requires
     loop-holds
     is-empty-requires
     lowest-requires
-    is-named-requires
-    only-requires
-    unite-requires
-    holders-at-requires
+    only-requires-2
     less-requires
+    roots-at-requires
     common-requires-2
+    is-empty-requires-2
+    is-named-requires
+    unite-requires
     unite-requires-2
-    without-requires
     unite-requires-3
+    holders-at-requires
+    less-requires-2
+    common-requires-3
+    unite-requires-4
     loop-less
     loop-again
+    loop-less-2
+    loop-again-2
     returns)
