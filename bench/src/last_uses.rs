@@ -38,53 +38,64 @@ pub fn mixed(terms: usize) -> Vec<u8> {
 /// after a choice, and then terms that ask about what one of them holds, as many
 /// as the set allows: each time all of them are looked at, and none is in use.
 pub fn round(limits: Limits) -> Vec<u8> {
-    holding_each_other(limits, false)
-}
-
-/// The same with a variable that held a borrow of one of them, was given
-/// another since, and is used at the end: each time it is found as one that may
-/// hold it, and is looked at once more.
-pub fn round_noted(limits: Limits) -> Vec<u8> {
-    holding_each_other(limits, true)
-}
-
-fn holding_each_other(limits: Limits, noted: bool) -> Vec<u8> {
     let variables = limits.variables as u8;
     let (other, beside) = (variables - 2, variables - 1);
-    let end = if noted { other - 2 } else { other };
     let mut terms = vec![vec![0x08, 0, 0x02, 0], vec![0x08, 1, 0x02, 1]];
     // A chain of exclusive borrows: the first is of v1, and each of the others
     // of what the one before it borrows.
-    terms.extend((2..end).map(|v| vec![0x08, v, 0x06, v - 1, u8::from(v > 2)]));
-    let (free, once) = (end, end + 1);
-    if noted {
-        // let free = reading 3; let once = &mut *last of the chain; once = &mut free
-        terms.push(vec![0x08, free, 0x02, 3]);
-        terms.push(vec![0x08, once, 0x06, end - 1, 1]);
-        terms.push(vec![0x09, once, 0, 0x06, free, 0]);
-    }
+    terms.extend((2..other).map(|v| vec![0x08, v, 0x06, v - 1, u8::from(v > 2)]));
     // let other = reading 2; let beside = &mut other
     terms.push(vec![0x08, other, 0x02, 2]);
     terms.push(vec![0x08, beside, 0x06, other, 0]);
     // choice v0 { beside = &mut *last of the chain; 1 } { v2 = &mut *beside; 1 }
     let bound = |v: u8, to: u8| vec![0x0B, 2, 0x09, v, 0, 0x06, to, 1, 0x01, 0, 0, 0, 1];
-    let (one, two) = (bound(beside, end - 1), bound(2, beside));
+    let (one, two) = (bound(beside, other - 1), bound(2, beside));
     terms.push([vec![0x0C, 0, 0], one, two].concat());
-    // The outermost block, two terms for each let and for an assign, the choice,
-    // the answer.
-    let pairs = variables as usize + usize::from(noted);
-    let mut left = limits.terms as usize - 1 - 2 * pairs - 9 - 1;
+    // Two terms for each let, and the choice.
+    let taken = 2 * variables as usize + 9;
+    with_questions(limits, terms, taken, 1, READING.to_vec())
+}
+
+/// As many variables as a set allows, all but two of which are a chain of
+/// exclusive borrows that is used at the end. The first of them borrowed v0, and
+/// borrows v1 since. Then terms that ask about v0, as many as the set allows:
+/// each time it is looked at whether the first still holds v0.
+pub fn out_of_date(limits: Limits) -> Vec<u8> {
+    let variables = limits.variables as u8;
+    let mut terms = vec![vec![0x08, 0, 0x02, 0], vec![0x08, 1, 0x02, 1]];
+    // let v2 = &mut v0; v2 = &mut v1; let v3 = &mut *v2; and so on
+    terms.push(vec![0x08, 2, 0x06, 0, 0]);
+    terms.push(vec![0x09, 2, 0, 0x06, 1, 0]);
+    terms.extend((3..variables).map(|v| vec![0x08, v, 0x06, v - 1, 1]));
+    // Two terms for each let, and for the assign.
+    let taken = 2 * variables as usize + 2;
+    with_questions(limits, terms, taken, 0, vec![0x03, variables - 1, 1])
+}
+
+/// A script with these terms, which are so many with their inner ones, then as
+/// many that ask about a variable as there is room for, and the answer.
+fn with_questions(
+    limits: Limits,
+    mut terms: Vec<Vec<u8>>,
+    taken: usize,
+    about: u8,
+    answer: Vec<u8>,
+) -> Vec<u8> {
+    // The outermost block, and the answer.
+    let mut left = limits.terms as usize - taken - 2;
     while left > 1 {
         let count = (left - 1).min(240);
-        terms.push([vec![0x0B, count as u8], [0x0A, 1, 0, 1, 0].repeat(count)].concat());
+        terms.push(
+            [
+                vec![0x0B, count as u8],
+                [0x0A, about, 0, about, 0].repeat(count),
+            ]
+            .concat(),
+        );
         left -= count + 1;
     }
     terms.extend(vec![READING.to_vec(); left]);
-    terms.push(if noted {
-        vec![0x03, once, 1]
-    } else {
-        READING.to_vec()
-    });
+    terms.push(answer);
     script_in(2, &terms)
 }
 
@@ -92,7 +103,7 @@ fn holding_each_other(limits: Limits, noted: bool) -> Vec<u8> {
 mod tests {
     use super::*;
     use crate::scripts::outline::{outline, rows_of, variables};
-    use reference::form::{ASSIGN, BELOW, CHOICE, MOVE};
+    use reference::form::{ASSIGN, BELOW, MOVE};
     use reference::{check, check_by_scope, Limits as Set};
 
     /// What the check answers where borrows last as long as their variables.
@@ -137,25 +148,23 @@ mod tests {
         }
     }
 
-    /// It has all variables and all terms too, and is accepted because the
-    /// variable that is used at the end was given another borrow: where it is
-    /// given its own back, the branch that borrows what it holds is refused.
+    /// It has all variables and all terms too. Where the assign gives the first
+    /// of the chain its own borrow back, the first term that asks is refused.
     #[test]
-    fn round_noted_is_accepted_while_another_borrow_is_held() {
+    fn out_of_date_is_accepted_since_another_borrow_is_held() {
         let sets = [(Limits::BASE, Set::BASE), (Limits::LARGEST, Set::LARGEST)];
         for (limits, set) in sets {
-            let script = round_noted(limits);
+            let script = out_of_date(limits);
             assert_eq!(variables(set, &script), set.variables as usize);
             let (terms, mut rows) = rows_of(set, &script);
             assert_eq!(check(set, &rows), Ok(terms));
             assert_eq!(terms, set.terms);
             let place = |kind: u32| rows.chunks(5).position(|row| row[0] == kind);
-            let choice = place(CHOICE).expect("a choice");
-            let given = 5 * place(ASSIGN).expect("an assign");
-            let once = rows[given + 1];
-            rows[given + 5..given + 10].copy_from_slice(&[MOVE, once, 0, 0, 0]);
+            let asks = place(BELOW);
+            let right_side = 5 * place(ASSIGN).expect("an assign") + 5;
+            rows[right_side..right_side + 5].copy_from_slice(&[MOVE, 2, 0, 0, 0]);
             let refusal = check(set, &rows).expect_err("held again");
-            assert_eq!((refusal.number, refusal.place as usize), (35, choice + 3));
+            assert_eq!((refusal.number, Some(refusal.place as usize)), (34, asks));
         }
     }
 }

@@ -49,20 +49,20 @@ fn scripts() -> Vec<Timed> {
 }
 
 /// With borrows that end at their last use, as large as the second and the
-/// third, and with all variables of a set holding each other.
+/// third, with most variables of a set holding each other, and with a variable
+/// that is asked about and was held.
 fn with_last_uses() -> [Timed; 6] {
     let (base, largest) = (Limits::BASE, Limits::LARGEST);
-    let (noted, most_noted) = (
-        last_uses::round_noted(base),
-        last_uses::round_noted(largest),
-    );
+    let (round, most) = (last_uses::round(base), last_uses::round(largest));
+    let past = last_uses::out_of_date(base);
+    let past_most = last_uses::out_of_date(largest);
     [
         ("last uses, middling", base, last_uses::mixed(60)),
         ("last uses, full", base, last_uses::mixed(512)),
-        ("last uses, 61 holders", base, last_uses::round(base)),
-        ("last uses, 59 and noted", base, noted),
-        ("last uses, 125 holders", largest, last_uses::round(largest)),
-        ("last uses, 123 and noted", largest, most_noted),
+        ("last uses, 61 holders", base, round),
+        ("last uses, 125 holders", largest, most),
+        ("last uses, held before", base, past),
+        ("last uses, held before, largest", largest, past_most),
     ]
 }
 
