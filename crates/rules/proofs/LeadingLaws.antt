@@ -14,7 +14,7 @@ use Rattle.rules.specs.declared.roots.Roots.{Roots}
 use Rattle.rules.specs.Masks.{has}
 use Rattle.rules.specs.Table.{entryWord, rootsAt, holdersAt, variableAt, TableFor, InScope}
 use Rattle.rules.specs.Verdicts.{Records, LeadingTo}
-use Rattle.rules.proofs.ClosureLoop.{count, waiting, count-less, count-most}
+use Rattle.rules.proofs.ClosureLoop.{count, count-less, count-most}
 use Rattle.rules.proofs.SetSearch.{so-far, no-more}
 use Rattle.rules.proofs.MaskLaws.{has-below}
 use Rattle.rules.proofs.EntryLaws.{status-live, live-inside}

@@ -72,15 +72,15 @@ fn held_by(env: &[u64], variables: usize, x: usize, any: bool) -> Roots
     }
 }
 
-// Variables that may lead to a root: those that record a place with that root, those that record a place with one of
-// these, and so on; and those of them that are named by a term that has not finished.
+// Variables that may lead to a root: some that record a place with that root, all that record a place with one of these,
+// and so on; and those of them that are named by a term that has not finished.
 struct Leading {
     all: Roots,
     named: Roots,
 }
 
-// All that may lead to the root, which no variable but these may record. A variable that is noted for another is taken up
-// only to see what it records, since a note may be out of date: it is one of them if that is the root, or one of them.
+// Those of the set that record the root, and all that may lead to these. The notes tell whom to ask, and each is asked
+// what it records, since a note may be out of date: it is found if it records the root, or one that is found.
 fn leading_to(
     env: &[u64],
     variables: usize,
