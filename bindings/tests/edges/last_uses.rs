@@ -202,3 +202,50 @@ fn scope_still_counts() {
     let moved = [&boxed_v0[..], &[mov((0, 0)), copy((0, 1))]].concat();
     refuses_at(&moved, 33, 7);
 }
+
+/// `let v0=1; let v1=2; let v2=&mut v0` and these terms. Terms 0 to 6.
+fn two_and_one_lent(then: &[Term]) -> Vec<Term> {
+    let before = [
+        let_(0, number(1)),
+        let_(1, number(2)),
+        let_(2, exclusive((0, 0))),
+    ];
+    [&before, then].concat()
+}
+
+/// A variable in use that was given another borrow holds the first no more, and
+/// those that hold it do not lead there either.
+#[test]
+fn in_use_and_given_another_borrow() {
+    let given = |v: u32| assign((v, 0), exclusive((1, 0)));
+    let (ask, from_v2) = (copy((0, 0)), let_(3, exclusive((2, 1))));
+    let and_v4 = let_(4, exclusive((3, 1)));
+    let of_v2 = [ask.clone(), copy((2, 1))];
+    refuses_at(&two_and_one_lent(&of_v2), 34, 7);
+    gives_one(&two_and_one_lent(&[&[given(2)], &of_v2[..]].concat()), 2);
+    let of_v3 = [from_v2.clone(), ask.clone(), copy((3, 1))];
+    refuses_at(&two_and_one_lent(&of_v3), 34, 9);
+    gives_one(&two_and_one_lent(&[&[given(2)], &of_v3[..]].concat()), 2);
+    // One step further on: v2 holds v0, and v3 holds v2 no more.
+    let of_v4 = [and_v4, ask, copy((4, 1))];
+    let held = [&[from_v2.clone()], &of_v4[..]].concat();
+    refuses_at(&two_and_one_lent(&held), 34, 11);
+    let over = [&[from_v2, given(3)], &of_v4[..]].concat();
+    gives_one(&two_and_one_lent(&over), 2);
+}
+
+/// v3 held v2, was given another borrow, and then one of v4, which holds v2: it
+/// leads to v0 again, by another way.
+#[test]
+fn in_use_and_given_a_borrow_that_leads_back() {
+    let terms = |back: &[Term]| {
+        let there = [
+            let_(3, exclusive((2, 1))),
+            assign((3, 0), exclusive((1, 0))),
+            let_(4, exclusive((2, 1))),
+        ];
+        two_and_one_lent(&[&there, back, &[copy((0, 0)), copy((3, 1))]].concat())
+    };
+    gives_one(&terms(&[]), 2);
+    refuses_at(&terms(&[assign((3, 0), exclusive((4, 1)))]), 34, 15);
+}
