@@ -7,11 +7,11 @@ use lib.IntN.{ℤ}
 use lib.ListN.{length}
 use lib.Dec.{eqb}
 use borrow.Author.Tests.{eqb-true}
-use Rattle.reader.specs.Result.{ok, err, need, pick, _>>=_}
-use Rattle.reader.specs.Limits.{Limits, inRanges, rowNumbers, storeNumbers}
-use Rattle.reader.proofs.Answers.{then, needed}
-use Rattle.machine.specs.Answers.{runFits}
-use Rattle.machine.specs.Parts.{fitNumber}
+use Rattle.syntax.specs.Result.{ok, err, need, pick, _>>=_}
+use Rattle.syntax.specs.Limits.{Limits, inRanges, rowNumbers, storeNumbers}
+use Rattle.syntax.proofs.Answers.{then, needed}
+use Rattle.dynamics.specs.Answers.{runFits}
+use Rattle.machine.specs.ScriptParts.{fitNumber}
 
 -- Set and lengths fit.
 pub record Fit (l : Limits) (rows : List ℕ) (readings : List ℤ) (store : List ℕ) : Type 0 where

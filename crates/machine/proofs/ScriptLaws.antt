@@ -10,35 +10,41 @@ use lib.ListN.{length, getD}
 use mir.Syntax.{w32}
 use mir.Val.{toZ}
 use borrow.Author.Tests.{eq-eqb}
-use Rattle.reader.specs.Result.{Result, ok, err, Refusal, need, _>>=_}
-use Rattle.reader.specs.Limits.{Limits, inRanges, rowNumbers, storeRows, storeNumbers}
-use Rattle.reader.specs.Script.{Term}
-use Rattle.reader.specs.Layout.{zeros}
-use Rattle.reader.specs.Measures.{size}
-use Rattle.reader.specs.Reader.{decode}
-use Rattle.reader.specs.RowTrees.{RowTree, IsTree, treeAt}
-use Rattle.reader.specs.Answers.{told, rowsTree, judgedOf}
+use Rattle.syntax.specs.Result.{Result, ok, err, Refusal, need, _>>=_}
+use Rattle.syntax.specs.Limits.{Limits, inRanges, rowNumbers, storeRows, storeNumbers}
+use Rattle.syntax.specs.Script.{Term}
+use Rattle.syntax.specs.Layout.{zeros}
+use Rattle.syntax.specs.Measures.{size}
+use Rattle.syntax.specs.Reader.{decode}
+use Rattle.syntax.specs.RowTrees.{RowTree, IsTree, treeAt}
+use Rattle.reader.specs.Outcomes.{told}
+use Rattle.syntax.specs.Answers.{rowsTree, judgedOf}
 use Rattle.reader.specs.declared.Outcome.the-variants as judgement
-use Rattle.reader.proofs.Answers.{then}
+use Rattle.syntax.proofs.Answers.{then}
 use Rattle.reader.proofs.Promise.{Decoded, tree-decoded}
-use Rattle.reader.proofs.Ranges.{Ranged, ranged}
-use Rattle.machine.specs.Values.{cell, closed}
-use Rattle.machine.specs.Store.{Store, State, Ran}
-use Rattle.machine.specs.Locate.{numberIn}
-use Rattle.machine.specs.Run.{Outcome, run, runScript}
-use Rattle.machine.specs.Encode.{encode}
-use Rattle.machine.specs.Answers.{answered, refused, faulted, AnswerAndStore, toldUnchecked, runFits, runnable, bitsOf, ranInto, runInto, uncheckedOf}
-use Rattle.machine.specs.Words.{valueOf, storeOf}
-use Rattle.machine.specs.Parts.{stateAt, since, Stop, seen, Stood, atRow, outcome, stood, ranOn, EndReady, BlockClosed, endOf, boxesBy, stoodOn, runAt, TermReady, TermRan, BlockReady, BlockRan, ScriptReady, scriptOn, scriptRan, RunReady}
-use Rattle.machine.specs.declared.around.Standing.{Standing}
+use Rattle.syntax.proofs.Ranges.{Ranged, ranged}
+use Rattle.dynamics.specs.Values.{cell, closed}
+use Rattle.dynamics.specs.Store.{Store, State, Ran}
+use Rattle.dynamics.specs.Locate.{numberIn}
+use Rattle.dynamics.specs.Run.{Outcome, run, runScript}
+use Rattle.dynamics.specs.Encode.{encode}
+use Rattle.dynamics.specs.Answers.{answered, refused, faulted, AnswerAndStore, runFits, runnable, ranInto, runInto, uncheckedOf}
+use Rattle.machine.specs.Outcomes.{toldUnchecked}
+use Rattle.dynamics.specs.Readings.{bitsOf}
+use Rattle.store.specs.Words.{valueOf, storeOf}
+use Rattle.store.specs.StoreParts.{stateAt, since}
+use Rattle.term_runner.specs.Parts.{Stop, seen, Stood, atRow, outcome, stood, EndReady, BlockClosed, endOf, boxesBy, stoodOn, runAt, TermReady, TermRan, BlockReady, BlockRan}
+use Rattle.term_runner.specs.LeafParts.{ranOn}
+use Rattle.machine.specs.ScriptParts.{ScriptReady, scriptOn, scriptRan, RunReady}
+use Rattle.term_runner.specs.declared.around.Standing.{Standing}
 use Rattle.machine.specs.declared.UncheckedOutcome.the-variants as out
-use Rattle.machine.proofs.WordLaws.{cleared-store, cleared-tidy}
-use Rattle.machine.proofs.LocateLaws.{value-number}
-use Rattle.machine.proofs.LeafLaws.{no-number}
-use Rattle.machine.proofs.AroundLaws.{stood-stops, stood-goes}
-use Rattle.machine.proofs.TermLaws.{same-ran}
-use Rattle.machine.proofs.BlockRunLaws.{block-ready, block-ending, block-returns}
-use Rattle.machine.proofs.JudgedRows.{Runnable, judged}
+use Rattle.store.proofs.WordLaws.{cleared-store, cleared-tidy}
+use Rattle.store.proofs.LocateLaws.{value-number}
+use Rattle.term_runner.proofs.LeafLaws.{no-number}
+use Rattle.term_runner.proofs.AroundLaws.{stood-stops, stood-goes}
+use Rattle.block_runner.proofs.TermLaws.{same-ran}
+use Rattle.block_runner.proofs.BlockRunLaws.{block-ready, block-ending, block-returns}
+use Rattle.dynamics.proofs.JudgedRows.{Runnable, judged}
 
 -- The state in which a run begins.
 abbrev start : State

@@ -2,25 +2,16 @@
 ghost use mathlib.Core.Path.{_≡_};
 ghost use Prim.Native.Nat.{_≤_};
 ghost use lib.ListN.{length};
-ghost use Rattle.machine.specs.Answers.{toldUnchecked, uncheckedOf};
-ghost use Rattle.machine.specs.Parts.{fitNumber, RunReady};
-
-mod numbers; // numbers.rt: the numbers in the store's rows, and the faults
-mod store; // store.rt: the rows of the lent store
-mod locate; // locate.rt: locating a place and reading rows
-mod drops; // drops.rt: dropping values and closing variables
-pub mod signed; // signed.rt: signed numbers and their bits
-mod plain; // plain.rt: the terms without an inner term
-mod around; // around.rt: what follows an inner term
-mod skip; // skip.rt: the block of a choice that does not run
-mod terms; // terms.rt: terms and blocks
-
-use crate::around::close_block;
-use crate::signed::number_of;
-use crate::store::clear;
-use crate::terms::run_block;
-use reader::limits;
-use reader::limits::Limits;
+ghost use Rattle.machine.specs.Outcomes.{toldUnchecked};
+ghost use Rattle.dynamics.specs.Answers.{uncheckedOf};
+ghost use Rattle.machine.specs.ScriptParts.{fitNumber, RunReady};
+use block_runner::terms::run_block;
+use signed::signed::number_of;
+use store::numbers;
+use store::store::clear;
+use syntax::limits;
+use syntax::limits::Limits;
+use term_runner::around::close_block;
 
 // The lengths of a list of the variables opened, which has a number for each term: for a set of at most so many terms,
 // and for any set (LANGUAGE 2.8).

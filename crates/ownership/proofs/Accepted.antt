@@ -6,17 +6,17 @@ use mathlib.Core.Bool.{true}
 use mathlib.Core.List.{List}
 use lib.ListN.{length}
 use borrow.Author.Tests.{eq-eqb}
-use Rattle.reader.specs.Result.{Result, ok, Refusal, need, _>>=_}
-use Rattle.reader.specs.Limits.{Limits, inRanges, rowNumbers}
-use Rattle.reader.specs.Script.{Term}
-use Rattle.reader.specs.Layout.{rowsOf}
-use Rattle.reader.specs.Reader.{decode}
-use Rattle.reader.specs.Measures.{size}
-use Rattle.reader.specs.Within.{Within, Under}
-use Rattle.reader.specs.Answers.{rowsTree}
-use Rattle.reader.proofs.Answers.{then}
-use Rattle.reader.proofs.RoundTrip.{decoded, decodes, rows-length}
-use Rattle.rules.specs.Judge.{judgeScript}
+use Rattle.syntax.specs.Result.{Result, ok, Refusal, need, _>>=_}
+use Rattle.syntax.specs.Limits.{Limits, inRanges, rowNumbers}
+use Rattle.syntax.specs.Script.{Term}
+use Rattle.syntax.specs.Layout.{rowsOf}
+use Rattle.syntax.specs.Reader.{decode}
+use Rattle.syntax.specs.Measures.{size}
+use Rattle.syntax.specs.Within.{Within, Under}
+use Rattle.syntax.specs.Answers.{rowsTree}
+use Rattle.syntax.proofs.Answers.{then}
+use Rattle.syntax.proofs.RoundTrip.{decoded, decodes, rows-length}
+use Rattle.statics.specs.Judge.{judgeScript}
 use Rattle.ownership.specs.Answers.{checkOf}
 use Rattle.reader.proofs.Promise.{tree-decoded}
 

@@ -7,29 +7,30 @@ use mathlib.Core.List.{List}
 use lib.ListN.{getD}
 use mir.Val.{Fits}
 use mir.Syntax.{w32}
-use Rattle.reader.specs.Result.{Result, ok, err, Refusal, _>>=_}
-use Rattle.reader.specs.Limits.{Limits}
-use Rattle.reader.specs.Script.{Term}
-use Rattle.reader.specs.Measures.{size}
-use Rattle.reader.specs.Layout.{rowsOf}
-use Rattle.reader.specs.Within.{Within, Under}
-use Rattle.reader.specs.RowTrees.{RowTree, treeAt}
-use Rattle.reader.specs.Answers.{told, rowsTree, judgedOf}
+use Rattle.syntax.specs.Result.{Result, ok, err, Refusal, _>>=_}
+use Rattle.syntax.specs.Limits.{Limits}
+use Rattle.syntax.specs.Script.{Term}
+use Rattle.syntax.specs.Measures.{size}
+use Rattle.syntax.specs.Layout.{rowsOf}
+use Rattle.syntax.specs.Within.{Within, Under}
+use Rattle.syntax.specs.RowTrees.{RowTree, treeAt}
+use Rattle.reader.specs.Outcomes.{told}
+use Rattle.syntax.specs.Answers.{rowsTree, judgedOf}
 use Rattle.reader.specs.declared.Outcome.{Outcome}
 use Rattle.reader.specs.declared.Outcome.the-variants as outcome
-use Rattle.reader.proofs.Answers.{then}
-use Rattle.reader.proofs.Lists.{under-all}
-use Rattle.reader.proofs.RoundTrip.{decoded}
-use Rattle.reader.proofs.RowTrees.{tree-stands}
+use Rattle.syntax.proofs.Answers.{then}
+use Rattle.syntax.proofs.Lists.{under-all}
+use Rattle.syntax.proofs.RoundTrip.{decoded}
+use Rattle.syntax.proofs.RowTrees.{tree-stands}
 use Rattle.reader.proofs.Promise.{Decoded, tree-decoded}
-use Rattle.reader.proofs.Ranges.{Ranged, ranged}
+use Rattle.syntax.proofs.Ranges.{Ranged, ranged}
 use Rattle.rules.specs.declared.rules.Requirement.{Requirement}
 use Rattle.rules.specs.declared.rules.Requirement.the-variants as requirement
-use Rattle.rules.specs.Judge.{judgeScript}
-use Rattle.rules.specs.Verdicts.{asRequirement}
+use Rattle.statics.specs.Judge.{judgeScript}
+use Rattle.rules.specs.RuleAnswers.{asRequirement}
 use Rattle.ownership.specs.Answers.{checkOf}
-use Rattle.ownership.specs.RowUses.{NamesBelow}
-use Rattle.ownership.specs.JudgeRows.{scriptAt, EndsAt}
+use Rattle.uses.specs.RowUses.{NamesBelow}
+use Rattle.term_judge.specs.JudgeRows.{scriptAt, EndsAt}
 use Rattle.ownership.proofs.JudgedRows.{names-below}
 
 -- What the type of a slice says of its elements.

@@ -9,18 +9,18 @@ use mathlib.Core.Option.{some}
 use mathlib.Core.List.{List, [], _++_}
 use lib.ListN.{length, getD, replicate}
 use lib.Seq.{getD-append-add}
-use Rattle.reader.specs.Limits.{Limits, rowNumbers}
-use Rattle.reader.specs.Script.{Term}
-use Rattle.reader.specs.Kinds.{byteOf, newest, kinds, among, kindOf}
-use Rattle.reader.specs.Layout.{inRows, zeros, lay, rowsOf}
-use Rattle.reader.specs.Measures.{size}
-use Rattle.reader.specs.RowParts.{fieldAt}
-use Rattle.reader.specs.RowTrees.{treeAt}
-use Rattle.reader.proofs.Lengths.{laid-rows}
-use Rattle.reader.proofs.ChoiceRows.{tree-rows}
-use Rattle.rules.specs.Uses.{names}
-use Rattle.ownership.specs.RowUses.{namesOf, rowNames, NamesBelow}
-use Rattle.ownership.proofs.TreeNames.{none-below, rows-below}
+use Rattle.syntax.specs.Limits.{Limits, rowNumbers}
+use Rattle.syntax.specs.Script.{Term}
+use Rattle.syntax.specs.Kinds.{byteOf, newest, kinds, among, kindOf}
+use Rattle.syntax.specs.Layout.{inRows, zeros, lay, rowsOf}
+use Rattle.syntax.specs.Measures.{size}
+use Rattle.syntax.specs.RowParts.{fieldAt}
+use Rattle.syntax.specs.RowTrees.{treeAt}
+use Rattle.syntax.proofs.Lengths.{laid-rows}
+use Rattle.syntax.proofs.ChoiceRows.{tree-rows}
+use Rattle.statics.specs.Uses.{names}
+use Rattle.uses.specs.RowUses.{namesOf, rowNames, NamesBelow}
+use Rattle.term_judge.proofs.TreeNames.{none-below, rows-below}
 
 all-zero : (n k : ℕ) → _≡_ {A = ℕ} (getD (replicate n 0) k 0) 0
 all-zero zero k = refl

@@ -1,24 +1,4 @@
--- The laws that the proofs of the functions cite, and the theorem for the layers above.
-pub mod EitherLaws
-pub mod JudgeLaws
-pub mod RowUseLaws
-pub mod TreeNames
-pub mod FoundUses
-pub mod BarredLaws
-pub mod WrittenLaws
-pub mod LaterLaws
-pub mod AroundLaws
-pub mod TreeLets
-pub mod TreeStates
-pub mod InwardsLaws
-pub mod BlockTerm
-pub mod ScopeLaws
-pub mod ChoiceValues
-pub mod BranchLaws
-pub mod LeafLaws
-pub mod BlockLaws
-pub mod ScriptLaws
-pub mod TableStart
+-- The theorems on the check.
 pub mod JudgedRows
 pub mod CheckLaws
 pub mod Accepted

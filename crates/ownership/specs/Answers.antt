@@ -1,11 +1,11 @@
 -- What `check` answers on every input (LANGUAGE 6.5).
 use Prim.Native.Nat.{ℕ}
 use mathlib.Core.List.{List}
-use Rattle.reader.specs.Result.{Result, ok, err, Refusal, _>>=_}
-use Rattle.reader.specs.Limits.{Limits}
-use Rattle.reader.specs.Measures.{size}
-use Rattle.reader.specs.Answers.{rowsTree}
-use Rattle.rules.specs.Judge.{judgeScript}
+use Rattle.syntax.specs.Result.{Result, ok, err, Refusal, _>>=_}
+use Rattle.syntax.specs.Limits.{Limits}
+use Rattle.syntax.specs.Measures.{size}
+use Rattle.syntax.specs.Answers.{rowsTree}
+use Rattle.statics.specs.Judge.{judgeScript}
 use Rattle.ownership.specs.declared.Checked.{Checked}
 use Rattle.ownership.specs.declared.Checked.the-variants.{Accepted, Refused}
 

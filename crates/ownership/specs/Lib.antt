@@ -1,4 +1,2 @@
--- The ownership check (LANGUAGE 3): what it answers, what rows name, and the judge at a row.
+-- What `check` answers (LANGUAGE 6.5).
 pub mod Answers
-pub mod RowUses
-pub mod JudgeRows

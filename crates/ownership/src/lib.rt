@@ -2,21 +2,14 @@
 // number of variables decides which of two sizes the table of the variables has: one for 64, so that the language's
 // own set does not pay for clearing a larger one, and one for 128, the most of any set.
 ghost use mathlib.Core.Path.{_≡_};
-ghost use Rattle.reader.specs.Result.{ok};
-ghost use Rattle.reader.specs.Answers.{judgedOf};
+ghost use Rattle.syntax.specs.Result.{ok};
+ghost use Rattle.syntax.specs.Answers.{judgedOf};
 ghost use Rattle.ownership.specs.Answers.{toldChecked, checkOf};
-
-mod row; // row.rt: the places in a term row
-mod uses; // uses.rt: the last uses of the variables, and what is barred
-mod terms; // terms.rt: what is judged of one term apart from those in it
-mod judge; // judge.rt: terms, blocks and the whole script
-mod tables; // tables.rt: the tables of the variables, in two sizes
-
-use crate::tables::judge_alone;
 use reader::Outcome;
 use reader::judge_rows;
-use reader::limits::Limits;
-use rules::Requirement;
+use rules::rules::Requirement;
+use script_judge::tables::judge_alone;
+use syntax::limits::Limits;
 
 // The number of terms, or the refusal's number and place (LANGUAGE 5.2): the row (12 to 19) or the term (30 to 43).
 pub enum Checked {

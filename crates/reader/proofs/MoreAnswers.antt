@@ -6,17 +6,17 @@ use mathlib.Core.List.{List}
 use lib.ListN.{length}
 use lib.Dec.{leb, eqb}
 use borrow.Author.Tests.{eqb-true, eq-eqb}
-use Rattle.reader.specs.Result.{Result, ok, need, Refusal, _>>=_}
-use Rattle.reader.specs.Limits.{Limits, inRanges, rowNumbers}
-use Rattle.reader.specs.Larger.{NoSmaller}
-use Rattle.reader.specs.Script.{Term, Whole}
-use Rattle.reader.specs.Layout.{bytesOf, rowsOf}
-use Rattle.reader.specs.Measures.{size}
-use Rattle.reader.specs.Within.{Under}
-use Rattle.reader.specs.Answers.{Told, readOf, rowsTree, judgedOf, givenWhole, writable, writtenInto, writtenOf}
-use Rattle.reader.proofs.Answers.{then, needed}
-use Rattle.reader.proofs.RoundTrip.{decoded, decodes, rows-length}
-use Rattle.reader.proofs.MoreLimits.{within-more, allowed-more}
+use Rattle.syntax.specs.Result.{Result, ok, need, Refusal, _>>=_}
+use Rattle.syntax.specs.Limits.{Limits, inRanges, rowNumbers}
+use Rattle.syntax.specs.Larger.{NoSmaller}
+use Rattle.syntax.specs.Script.{Term, Whole}
+use Rattle.syntax.specs.Layout.{bytesOf, rowsOf}
+use Rattle.syntax.specs.Measures.{size}
+use Rattle.syntax.specs.Within.{Under}
+use Rattle.syntax.specs.Answers.{Told, readOf, rowsTree, judgedOf, givenWhole, writable, writtenInto, writtenOf}
+use Rattle.syntax.proofs.Answers.{then, needed}
+use Rattle.syntax.proofs.RoundTrip.{decoded, decodes, rows-length}
+use Rattle.syntax.proofs.MoreLimits.{within-more, allowed-more}
 use Rattle.reader.proofs.Undo.{given-says, read-says, reads-tree, gives-tree}
 
 module _ (l m : Limits) (n : NoSmaller l m) (r : inRanges m ≡ true) where

@@ -8,23 +8,24 @@ use lib.ListN.{length, getD}
 use lib.Seq.{sets}
 use lib.Dec.{leb}
 use borrow.Author.Tests.{le-leb, lt-leb, eq-eqb, ne-eqb}
-use Rattle.reader.specs.Result.{Result, ok, err, need, Refusal, _>>=_}
-use Rattle.reader.specs.Limits.{Limits, inRanges, rowNumbers}
-use Rattle.reader.specs.Kinds.{newest, knows}
-use Rattle.reader.specs.Script.{Term, Whole}
-use Rattle.reader.specs.Layout.{bytesOf}
-use Rattle.reader.specs.Measures.{size}
-use Rattle.reader.specs.Reader.{decodeIn}
-use Rattle.reader.specs.RowParts.{judgedIn}
-use Rattle.reader.specs.Answers.{told, givenWhole, writable, writtenInto, writtenOf}
-use Rattle.reader.specs.OutputParts.{scriptFrom}
+use Rattle.syntax.specs.Result.{Result, ok, err, need, Refusal, _>>=_}
+use Rattle.syntax.specs.Limits.{Limits, inRanges, rowNumbers}
+use Rattle.syntax.specs.Kinds.{newest, knows}
+use Rattle.syntax.specs.Script.{Term, Whole}
+use Rattle.syntax.specs.Layout.{bytesOf}
+use Rattle.syntax.specs.Measures.{size}
+use Rattle.syntax.specs.Reader.{decodeIn}
+use Rattle.syntax.specs.RowParts.{judgedIn}
+use Rattle.reader.specs.Outcomes.{told}
+use Rattle.syntax.specs.Answers.{givenWhole, writable, writtenInto, writtenOf}
+use Rattle.writer.specs.OutputParts.{scriptFrom}
 use Rattle.reader.specs.declared.Outcome.{Outcome}
 use Rattle.reader.specs.declared.Outcome.the-variants.{Count, Refused}
-use Rattle.reader.proofs.Answers.{err-ok, then, after}
-use Rattle.reader.proofs.Ranges.{ranged}
-use Rattle.reader.proofs.Versions.{known-says}
-use Rattle.reader.proofs.Lists.{under-all, sets-front}
-use Rattle.reader.proofs.RoundTrip.{decoded-in}
+use Rattle.syntax.proofs.Answers.{err-ok, then, after}
+use Rattle.syntax.proofs.Ranges.{ranged}
+use Rattle.syntax.proofs.Versions.{known-says}
+use Rattle.syntax.proofs.Lists.{under-all, sets-front}
+use Rattle.syntax.proofs.RoundTrip.{decoded-in}
 use Rattle.reader.proofs.OutputTrees.{rows-script}
 
 -- Rows that are the n rows of a script in version v.

@@ -5,13 +5,13 @@ use native.Mathlib.Nat.{mod-eq-of-lt, suc-add, add-assoc, add-zero}
 use native.Mathlib.Numerals.{one-add}
 use mathlib.Core.Path.{_≡_, sym, ap, ap₂, _∙_}
 use mathlib.Core.List.{List, [], _∷_, _++_, append-nil, append-assoc}
-use Rattle.reader.specs.Limits.{Limits}
-use Rattle.reader.specs.Script.{Term, Terms, number, reading, copy, move, borrowShared, borrowExclusive, box, declare, assign, below, block, choice, sum, last, more}
-use Rattle.reader.specs.Kinds.{kBlock, newest, byteOf, fields}
-use Rattle.reader.specs.Layout.{Form, inBytes, inRows, zeros, wordOf, unused, head, others, lay, lays, bytesOf, rowsOf}
-use Rattle.reader.specs.Measures.{size, sizes}
-use Rattle.reader.specs.Within.{Formed, FormedAll, Within}
-use Rattle.reader.specs.OutputParts.{rowBytes, bytesAt, flat, scriptFrom}
+use Rattle.syntax.specs.Limits.{Limits}
+use Rattle.syntax.specs.Script.{Term, Terms, number, reading, copy, move, borrowShared, borrowExclusive, box, declare, assign, below, block, choice, sum, last, more}
+use Rattle.syntax.specs.Kinds.{kBlock, newest, byteOf, fields}
+use Rattle.syntax.specs.Layout.{Form, inBytes, inRows, zeros, wordOf, unused, head, others, lay, lays, bytesOf, rowsOf}
+use Rattle.syntax.specs.Measures.{size, sizes}
+use Rattle.syntax.specs.Within.{Formed, FormedAll, Within}
+use Rattle.writer.specs.OutputParts.{rowBytes, bytesAt, flat, scriptFrom}
 
 -- An operand in its range is a byte.
 byte : (x : ℕ) → x < 256 → x % 256 ≡ x

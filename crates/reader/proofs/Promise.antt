@@ -7,21 +7,22 @@ use mathlib.Core.List.{List}
 use lib.ListN.{length}
 use lib.Dec.{eqb}
 use borrow.Author.Tests.{eqb-true, eq-eqb}
-use Rattle.reader.specs.Result.{Result, ok, err, Refusal, need, _>>=_}
-use Rattle.reader.specs.Limits.{Limits, inRanges, rowNumbers}
-use Rattle.reader.specs.Script.{Term, Whole}
-use Rattle.reader.specs.Layout.{rowsOf, zeros}
-use Rattle.reader.specs.Reader.{parse, decode}
-use Rattle.reader.specs.Measures.{size}
-use Rattle.reader.specs.Within.{Under}
-use Rattle.reader.specs.Answers.{told, Told, toldRead, Answered, lengthsFit, onFit, parsedInto, readOf, rowsTree, judgedOf}
+use Rattle.syntax.specs.Result.{Result, ok, err, Refusal, need, _>>=_}
+use Rattle.syntax.specs.Limits.{Limits, inRanges, rowNumbers}
+use Rattle.syntax.specs.Script.{Term, Whole}
+use Rattle.syntax.specs.Layout.{rowsOf, zeros}
+use Rattle.syntax.specs.Reader.{parse, decode}
+use Rattle.syntax.specs.Measures.{size}
+use Rattle.syntax.specs.Within.{Under}
+use Rattle.reader.specs.Outcomes.{told, toldRead}
+use Rattle.syntax.specs.Answers.{Told, Answered, lengthsFit, onFit, parsedInto, readOf, rowsTree, judgedOf}
 use Rattle.reader.specs.declared.Outcome.{Outcome}
 use Rattle.reader.specs.declared.Outcome.the-variants.{Count}
 use Rattle.reader.specs.declared.ReadOutcome.{ReadOutcome}
 use Rattle.reader.specs.declared.ReadOutcome.the-variants.{Script}
-use Rattle.reader.proofs.Answers.{then, needed}
+use Rattle.syntax.proofs.Answers.{then, needed}
 use Rattle.reader.proofs.SetFirst.{set-taken}
-use Rattle.reader.proofs.RoundTrip.{parsed, decodes, rows-length}
+use Rattle.syntax.proofs.RoundTrip.{parsed, decodes, rows-length}
 
 -- What an accepted answer for rows says: the set is in its ranges, the rows have its length and decode.
 pub record Decoded (l : Limits) (rows : List ℕ) (t : Term) : Type 0 where

@@ -7,22 +7,23 @@ use mathlib.Core.List.{List, [], _++_}
 use lib.ListN.{length, take, drop}
 use lib.Seq.{sets, sets-eq, take-at, length-sets}
 use borrow.Author.Tests.{le-leb, lt-leb, eq-eqb, ne-eqb}
-use Rattle.reader.specs.Result.{Result, ok, err, need, Refusal, _>>=_}
-use Rattle.reader.specs.Limits.{Limits, inRanges, maxBytes, rowNumbers}
-use Rattle.reader.specs.Script.{Whole}
-use Rattle.reader.specs.Layout.{inBytes, inRows, lay, rowsOf, zeros}
-use Rattle.reader.specs.Kinds.{knows}
-use Rattle.reader.specs.Reader.{Cursor, Reads, _>>=_ as _>>>_, done, next, mark, version, leading, script, wholeScript, answer, parse}
-use Rattle.reader.specs.Measures.{size}
-use Rattle.reader.specs.Within.{Under}
-use Rattle.reader.specs.ByteParts.{Got, RowsAfter, readScript, wholeGot, laidWhole, ScriptRead}
-use Rattle.reader.specs.Answers.{Told, toldRead, lengthsFit, parsedInto, onFit, readOf}
+use Rattle.syntax.specs.Result.{Result, ok, err, need, Refusal, _>>=_}
+use Rattle.syntax.specs.Limits.{Limits, inRanges, maxBytes, rowNumbers}
+use Rattle.syntax.specs.Script.{Whole}
+use Rattle.syntax.specs.Layout.{inBytes, inRows, lay, rowsOf, zeros}
+use Rattle.syntax.specs.Kinds.{knows}
+use Rattle.syntax.specs.Reader.{Cursor, Reads, _>>=_ as _>>>_, done, next, mark, version, leading, script, wholeScript, answer, parse}
+use Rattle.syntax.specs.Measures.{size}
+use Rattle.syntax.specs.Within.{Under}
+use Rattle.syntax.specs.ByteParts.{Got, RowsAfter, readScript, wholeGot, laidWhole, ScriptRead}
+use Rattle.syntax.specs.Answers.{Told, lengthsFit, parsedInto, onFit, readOf}
+use Rattle.reader.specs.Outcomes.{toldRead}
 use Rattle.reader.specs.declared.ReadOutcome.the-variants.{Script, Refused}
-use Rattle.reader.specs.ByteParts as got
+use Rattle.syntax.specs.ByteParts as got
 use Rattle.reader.proofs.SetFirst.{set-refused}
-use Rattle.reader.proofs.ScriptLaws.{parse-is, parse-refused}
-use Rattle.reader.proofs.Lengths.{laid-rows}
-use Rattle.reader.proofs.WholeLaws.{script-size}
+use Rattle.script_reader.proofs.ScriptLaws.{parse-is, parse-refused}
+use Rattle.syntax.proofs.Lengths.{laid-rows}
+use Rattle.script_reader.proofs.WholeLaws.{script-size}
 
 -- Readers that know the same versions read the same.
 unfoldable wholeBy : Limits → (ℕ → Bool) → Reads Whole

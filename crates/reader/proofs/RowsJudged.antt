@@ -7,20 +7,21 @@ use mathlib.Core.List.{List}
 use lib.ListN.{length, drop, length-drop}
 use lib.Dec.{ltb}
 use borrow.Author.Tests.{lt-ltb, le-ltb, eq-eqb, ne-eqb}
-use Rattle.reader.specs.Result.{ok, err, need, Refusal, pick, _>>=_}
-use Rattle.reader.specs.Limits.{Limits, inRanges, rowNumbers}
-use Rattle.reader.specs.Kinds.{newest}
-use Rattle.reader.specs.Script.{Term}
-use Rattle.reader.specs.Layout.{inRows}
-use Rattle.reader.specs.Reader.{Cursor, done, nothingLeft, over, script, term, answer, start, decodeIn, decode}
-use Rattle.reader.specs.Measures.{size}
-use Rattle.reader.specs.Answers.{told, rowsTree, judgedOf}
-use Rattle.reader.specs.RowParts.{termRows, judgedIn, spanOf, firstUsed}
+use Rattle.syntax.specs.Result.{ok, err, need, Refusal, pick, _>>=_}
+use Rattle.syntax.specs.Limits.{Limits, inRanges, rowNumbers}
+use Rattle.syntax.specs.Kinds.{newest}
+use Rattle.syntax.specs.Script.{Term}
+use Rattle.syntax.specs.Layout.{inRows}
+use Rattle.syntax.specs.Reader.{Cursor, done, nothingLeft, over, script, term, answer, start, decodeIn, decode}
+use Rattle.syntax.specs.Measures.{size}
+use Rattle.reader.specs.Outcomes.{told}
+use Rattle.syntax.specs.Answers.{rowsTree, judgedOf}
+use Rattle.syntax.specs.RowParts.{termRows, judgedIn, spanOf, firstUsed}
 use Rattle.reader.specs.declared.Outcome.the-variants as outcome
-use Rattle.reader.specs.RowParts as span
-use Rattle.reader.proofs.Answers.{after, stop, need-err, go-on, stops}
-use Rattle.reader.proofs.LeftOver.{left-judged}
-use Rattle.reader.proofs.RowSpans.{refused-of, FineOf, fine-of, Words, Ends, ends}
+use Rattle.syntax.specs.RowParts as span
+use Rattle.syntax.proofs.Answers.{after, stop, need-err, go-on, stops}
+use Rattle.row_judge.proofs.LeftOver.{left-judged}
+use Rattle.row_judge.proofs.RowSpans.{refused-of, FineOf, fine-of, Words, Ends, ends}
 
 module _ (l : Limits) (rows : List ℕ) where
   pub other-set : inRanges l ≡ false → told (outcome.Refused 74 0) ≡ judgedOf l rows

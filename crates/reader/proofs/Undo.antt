@@ -9,21 +9,21 @@ use lib.ListN.{length, take, drop}
 use lib.Seq.{take-at}
 use lib.Dec.{leb, eqb}
 use borrow.Author.Tests.{le-leb, eqb-true, eq-eqb}
-use Rattle.reader.specs.Result.{Result, ok, err, need, Refusal, _>>=_}
-use Rattle.reader.specs.Limits.{Limits, inRanges, maxBytes, rowNumbers}
-use Rattle.reader.specs.Kinds.{newest, knows}
-use Rattle.reader.specs.Script.{Term, Whole}
-use Rattle.reader.specs.Layout.{bytesOf, rowsOf}
-use Rattle.reader.specs.Reader.{parse, decodeIn}
-use Rattle.reader.specs.Measures.{size}
-use Rattle.reader.specs.Within.{Under, Within, Allowed}
-use Rattle.reader.specs.Answers.{Told, Answered, lengthsFit, parsedInto, onFit, readOf, rowsTree, judgedOf, givenWhole, writable, writtenInto, writtenOf}
-use Rattle.reader.specs.Undo.{ReadAfterWrite, WriteAfterRead, JudgedAreRead, ReadIsAllowed, AllowedIsRead}
+use Rattle.syntax.specs.Result.{Result, ok, err, need, Refusal, _>>=_}
+use Rattle.syntax.specs.Limits.{Limits, inRanges, maxBytes, rowNumbers}
+use Rattle.syntax.specs.Kinds.{newest, knows}
+use Rattle.syntax.specs.Script.{Term, Whole}
+use Rattle.syntax.specs.Layout.{bytesOf, rowsOf}
+use Rattle.syntax.specs.Reader.{parse, decodeIn}
+use Rattle.syntax.specs.Measures.{size}
+use Rattle.syntax.specs.Within.{Under, Within, Allowed}
+use Rattle.syntax.specs.Answers.{Told, Answered, lengthsFit, parsedInto, onFit, readOf, rowsTree, judgedOf, givenWhole, writable, writtenInto, writtenOf}
+use Rattle.syntax.specs.Undo.{ReadAfterWrite, WriteAfterRead, JudgedAreRead, ReadIsAllowed, AllowedIsRead}
 use Rattle.reader.proofs.Promise.{tree-decoded}
 use Rattle.reader.proofs.SetFirst.{set-taken}
-use Rattle.reader.proofs.Answers.{err-ok, then, needed}
-use Rattle.reader.proofs.Versions.{known-says, known-does, version-most, newest-known}
-use Rattle.reader.proofs.RoundTrip.{parsed, parses, decoded, decoded-in, decodes, decodes-in, byte-length, byte-most, rows-length}
+use Rattle.syntax.proofs.Answers.{err-ok, then, needed}
+use Rattle.syntax.proofs.Versions.{known-says, known-does, version-most, newest-known}
+use Rattle.syntax.proofs.RoundTrip.{parsed, parses, decoded, decoded-in, decodes, decodes-in, byte-length, byte-most, rows-length}
 
 -- ---- what an answer says of its input
 

@@ -1,19 +1,2 @@
--- The script form (LANGUAGE 2, 5): trees, their bytes and rows, reading, and what the public functions answer.
-pub mod Result
-pub mod Limits
-pub mod Larger
-pub mod Script
-pub mod Kinds
-pub mod Layout
-pub mod Reader
-pub mod Measures
-pub mod Within
-pub mod Answers
-pub mod Undo
-pub mod KindOrder
-pub mod Parts
-pub mod ByteParts
-pub mod Lent
-pub mod RowParts
-pub mod RowTrees
-pub mod OutputParts
+-- What the public functions answer (LANGUAGE 6.2 to 6.4).
+pub mod Outcomes

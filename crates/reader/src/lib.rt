@@ -1,30 +1,22 @@
 // The script form (LANGUAGE 2): reading bytes into term rows, judging term rows, and writing them as bytes again.
 ghost use mathlib.Core.Path.{_≡_};
-ghost use Rattle.reader.specs.Answers.{told, toldRead, readOf, judgedOf, writtenOf};
-ghost use Rattle.reader.specs.Limits.{unpacked, versionOf};
-ghost use Rattle.reader.specs.Lent.{RowsFor};
-ghost use Rattle.reader.specs.RowParts.{judgedIn};
-
-pub mod limits; // limits.rt: limits and refusal numbers
-pub mod kinds; // kinds.rt: the versions, and the kinds of terms
-pub mod fields; // fields.rt: the numbers of a row, and of four bytes
-mod packed; // packed.rt: the answers of the term and block functions, each in one number
-mod opening; // opening.rt: what stands at a kind byte, or at a row
-mod operands; // operands.rt: the operands after a kind byte, and the row that they fill
-mod terms; // terms.rt: terms and blocks in bytes
-mod reader; // reader.rt: the reader of a script in its named form
-mod script; // script.rt: a whole script in bytes
-mod rows; // rows.rt: terms and blocks in term rows, and what stands after them
-mod output; // output.rt: the bytes of a script, from its term rows
-
-use crate::limits::Limits;
-use crate::limits::in_ranges;
-use crate::limits::row_numbers;
-use crate::rows::first_used;
-use crate::rows::judge_block;
-use crate::rows::no_block;
-use crate::script::clear_from;
-use crate::script::read_script;
+ghost use Rattle.reader.specs.Outcomes.{told, toldRead};
+ghost use Rattle.syntax.specs.Answers.{readOf, judgedOf, writtenOf};
+ghost use Rattle.syntax.specs.Limits.{unpacked, versionOf};
+ghost use Rattle.script_reader.specs.Lent.{RowsFor};
+ghost use Rattle.syntax.specs.RowParts.{judgedIn};
+use row_judge::rows::first_used;
+use row_judge::rows::judge_block;
+use row_judge::rows::no_block;
+use script_reader::script::clear_from;
+use script_reader::script::read_script;
+use syntax::kinds;
+use syntax::limits;
+use syntax::limits::Limits;
+use syntax::limits::in_ranges;
+use syntax::limits::row_numbers;
+use syntax::packed;
+use writer::output;
 
 // A count (the terms of a script, or the bytes written), or the refusal's number and place (LANGUAGE 5.2).
 pub enum Outcome {

@@ -5,11 +5,12 @@ use mathlib.Core.Path.{_≡_, ap, _∙_}
 use mathlib.Core.List.{List}
 use mir.Syntax.{w32}
 use mir.Val.{toZ}
-use Rattle.reader.specs.Limits.{Limits}
+use Rattle.syntax.specs.Limits.{Limits}
 use Rattle.ownership.proofs.Accepted.{accepted}
-use Rattle.machine.specs.Values.{closed}
-use Rattle.machine.specs.Store.{Store, State}
-use Rattle.machine.specs.Answers.{bitsOf, uncheckedOf}
+use Rattle.dynamics.specs.Values.{closed}
+use Rattle.dynamics.specs.Store.{Store, State}
+use Rattle.dynamics.specs.Readings.{bitsOf}
+use Rattle.dynamics.specs.Answers.{uncheckedOf}
 use Rattle.safety.proofs.Demand3.{demand-three}
 use Rattle.safety.proofs.Larger.{one-end}
 use Rattle.room.specs.Running.{runOf}

@@ -8,14 +8,15 @@ use lib.IntN.{ℤ}
 use lib.ListN.{length}
 use lib.Dec.{leb, ltb, eqb}
 use borrow.Author.Tests.{ltb-true, ltb-false, le-leb, lt-leb}
-use Rattle.reader.specs.Result.{ok, err, need, pick, _>>=_}
-use Rattle.reader.specs.Limits.{Limits, inRanges, maxBytes, rowNumbers}
-use Rattle.reader.specs.Kinds.{newest}
-use Rattle.reader.specs.Answers.{Told, toldRead, Answered, lengthsFit, readOf}
+use Rattle.syntax.specs.Result.{ok, err, need, pick, _>>=_}
+use Rattle.syntax.specs.Limits.{Limits, inRanges, maxBytes, rowNumbers}
+use Rattle.syntax.specs.Kinds.{newest}
+use Rattle.syntax.specs.Answers.{Told, Answered, lengthsFit, readOf}
+use Rattle.reader.specs.Outcomes.{toldRead}
 use Rattle.reader.specs.declared.ReadOutcome.{ReadOutcome}
 use Rattle.reader.specs.declared.ReadOutcome.the-variants as read
-use Rattle.machine.specs.Answers.{runFits}
-use Rattle.machine.specs.Parts as machine
+use Rattle.dynamics.specs.Answers.{runFits}
+use Rattle.machine.specs.ScriptParts as machine
 use Rattle.machine.proofs.FitLaws.{Fit, unfit, all-fit}
 use Rattle.room.specs.Running.{toldRun, runOf}
 use Rattle.room.specs.Calling.{CallAnswer, toldCall, callFits, withTerms, runCalled, readCalled, fitCalled, callOf}

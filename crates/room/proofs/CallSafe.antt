@@ -6,21 +6,22 @@ use mathlib.Core.List.{List}
 use lib.IntN.{ℤ}
 use mir.Syntax.{w32}
 use mir.Val.{toZ}
-use Rattle.reader.specs.Result.{Result, ok, err, Refusal, _>>=_}
-use Rattle.reader.specs.Limits.{Limits, rowNumbers}
-use Rattle.reader.specs.Layout.{rowsOf, zeros}
-use Rattle.reader.specs.Script.{Term, Whole}
-use Rattle.reader.specs.Kinds.{newest}
-use Rattle.reader.specs.Reader.{parse}
-use Rattle.reader.specs.Within.{Under}
-use Rattle.reader.specs.Measures.{size}
-use Rattle.reader.specs.Answers.{Told, Answered, lengthsFit, parsedInto, onFit, readOf}
-use Rattle.reader.proofs.Answers.{then}
-use Rattle.reader.proofs.RoundTrip.{parsed}
-use Rattle.rules.specs.Judge.{judgeScript}
-use Rattle.machine.specs.Values.{closed}
-use Rattle.machine.specs.Store.{Store}
-use Rattle.machine.specs.Answers.{runFits, bitsOf}
+use Rattle.syntax.specs.Result.{Result, ok, err, Refusal, _>>=_}
+use Rattle.syntax.specs.Limits.{Limits, rowNumbers}
+use Rattle.syntax.specs.Layout.{rowsOf, zeros}
+use Rattle.syntax.specs.Script.{Term, Whole}
+use Rattle.syntax.specs.Kinds.{newest}
+use Rattle.syntax.specs.Reader.{parse}
+use Rattle.syntax.specs.Within.{Under}
+use Rattle.syntax.specs.Measures.{size}
+use Rattle.syntax.specs.Answers.{Told, Answered, lengthsFit, parsedInto, onFit, readOf}
+use Rattle.syntax.proofs.Answers.{then}
+use Rattle.syntax.proofs.RoundTrip.{parsed}
+use Rattle.statics.specs.Judge.{judgeScript}
+use Rattle.dynamics.specs.Values.{closed}
+use Rattle.dynamics.specs.Store.{Store}
+use Rattle.dynamics.specs.Answers.{runFits}
+use Rattle.dynamics.specs.Readings.{bitsOf}
 use Rattle.machine.proofs.FitLaws.{Fit, fit-says}
 use Rattle.safety.specs.Safety.{Safe, tidyStore}
 use Rattle.safety.proofs.Demand3.{demand-three}

@@ -10,26 +10,27 @@ use lib.Dec.{leb}
 use mir.Syntax.{w32}
 use mir.Val.{toZ}
 use borrow.Author.Tests.{leb-true, le-leb, eq-eqb}
-use Rattle.reader.specs.Result.{Result, ok, err, need, Refusal, _>>=_}
-use Rattle.reader.specs.Limits.{Limits, inRanges, maxBytes, rowNumbers, storeNumbers}
-use Rattle.reader.specs.Larger.{NoSmaller}
-use Rattle.reader.specs.Script.{Term}
-use Rattle.reader.specs.Layout.{zeros, rowsOf}
-use Rattle.reader.specs.Measures.{size}
-use Rattle.reader.specs.Within.{Within}
-use Rattle.reader.specs.Kinds.{newest}
-use Rattle.reader.specs.Answers.{Told, lengthsFit, readOf, rowsTree, judgedOf}
-use Rattle.reader.proofs.Answers.{then, needed}
-use Rattle.reader.proofs.RoundTrip.{decoded}
-use Rattle.reader.proofs.MoreLimits.{within-more, allowed-more, rows-more}
+use Rattle.syntax.specs.Result.{Result, ok, err, need, Refusal, _>>=_}
+use Rattle.syntax.specs.Limits.{Limits, inRanges, maxBytes, rowNumbers, storeNumbers}
+use Rattle.syntax.specs.Larger.{NoSmaller}
+use Rattle.syntax.specs.Script.{Term}
+use Rattle.syntax.specs.Layout.{zeros, rowsOf}
+use Rattle.syntax.specs.Measures.{size}
+use Rattle.syntax.specs.Within.{Within}
+use Rattle.syntax.specs.Kinds.{newest}
+use Rattle.syntax.specs.Answers.{Told, lengthsFit, readOf, rowsTree, judgedOf}
+use Rattle.syntax.proofs.Answers.{then, needed}
+use Rattle.syntax.proofs.RoundTrip.{decoded}
+use Rattle.syntax.proofs.MoreLimits.{within-more, allowed-more, rows-more}
 use Rattle.reader.proofs.Undo.{read-says, reads-tree}
 use Rattle.reader.proofs.Promise.{tree-decoded}
-use Rattle.rules.specs.Judge.{judgeScript}
+use Rattle.statics.specs.Judge.{judgeScript}
 use Rattle.ownership.specs.Answers.{checkOf}
 use Rattle.ownership.proofs.Accepted.{accepted, accepts}
-use Rattle.machine.specs.Values.{closed}
-use Rattle.machine.specs.Store.{State}
-use Rattle.machine.specs.Answers.{runFits, bitsOf}
+use Rattle.dynamics.specs.Values.{closed}
+use Rattle.dynamics.specs.Store.{State}
+use Rattle.dynamics.specs.Answers.{runFits}
+use Rattle.dynamics.specs.Readings.{bitsOf}
 use Rattle.machine.proofs.FitLaws.{Fit, fit-says}
 use Rattle.safety.proofs.Larger as trees
 use Rattle.room.specs.Running as running

@@ -1,4 +1,4 @@
--- What a run and a call answer, from what the layers below answer; that both are safe (LANGUAGE 7.4); and the line that reports a call.
+-- The theorems on runs and calls.
 pub mod TreeRows
 pub mod RunLaws
 pub mod Numbers
@@ -7,6 +7,3 @@ pub mod CallLaws
 pub mod CallSafe
 pub mod AcceptedSafe
 pub mod Larger
-pub mod LineLaws
-pub mod ReportLaws
-pub mod ExampleLines

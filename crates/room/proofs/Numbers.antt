@@ -7,15 +7,15 @@ use mathlib.Core.List.{List}
 use lib.IntN.{ℤ}
 use lib.ListN.{length}
 use lib.Dec.{T, leb, eqb}
-use Rattle.reader.specs.Result.{Result, ok, err, Refusal, need, _>>=_}
-use Rattle.reader.specs.Limits.{Limits, inRanges, maxBytes, rowNumbers, storeNumbers}
-use Rattle.reader.specs.Script.{Term}
-use Rattle.reader.specs.Kinds.{newest}
-use Rattle.reader.specs.Reader.{parse, decode}
-use Rattle.reader.specs.Answers.{rowsFit, lengthsFit}
-use Rattle.reader.proofs.Answers.{err-ok}
-use Rattle.rules.specs.Judge.{judgeScript}
-use Rattle.machine.specs.Answers.{runFits, runnable}
+use Rattle.syntax.specs.Result.{Result, ok, err, Refusal, need, _>>=_}
+use Rattle.syntax.specs.Limits.{Limits, inRanges, maxBytes, rowNumbers, storeNumbers}
+use Rattle.syntax.specs.Script.{Term}
+use Rattle.syntax.specs.Kinds.{newest}
+use Rattle.syntax.specs.Reader.{parse, decode}
+use Rattle.syntax.specs.Answers.{rowsFit, lengthsFit}
+use Rattle.syntax.proofs.Answers.{err-ok}
+use Rattle.statics.specs.Judge.{judgeScript}
+use Rattle.dynamics.specs.Answers.{runFits, runnable}
 use Rattle.safety.proofs.RefusalNumbers.{Only, onward, tested, form-numbers, read-numbers, author-numbers}
 use Rattle.room.specs.Running.{checkedFirst, RunNumber}
 use Rattle.room.specs.Calling.{callFits, readFirst, CallNumber}

@@ -7,21 +7,23 @@ use lib.IntN.{ℤ}
 use lib.ListN.{length}
 use lib.Dec.{eqb}
 use borrow.Author.Tests.{eq-eqb}
-use Rattle.reader.specs.Result.{Result, ok, err, Refusal, need, _>>=_}
-use Rattle.reader.specs.Limits.{Limits, inRanges, rowNumbers, storeNumbers}
-use Rattle.reader.specs.Script.{Term}
-use Rattle.reader.specs.Measures.{size}
-use Rattle.reader.specs.Answers.{rowsTree, judgedOf}
-use Rattle.reader.proofs.Answers.{then, err-ok}
-use Rattle.rules.specs.Judge.{judgeScript}
+use Rattle.syntax.specs.Result.{Result, ok, err, Refusal, need, _>>=_}
+use Rattle.syntax.specs.Limits.{Limits, inRanges, rowNumbers, storeNumbers}
+use Rattle.syntax.specs.Script.{Term}
+use Rattle.syntax.specs.Measures.{size}
+use Rattle.syntax.specs.Answers.{rowsTree, judgedOf}
+use Rattle.syntax.proofs.Answers.{then, err-ok}
+use Rattle.statics.specs.Judge.{judgeScript}
 use Rattle.ownership.specs.Answers.{toldChecked, checkOf}
 use Rattle.ownership.specs.declared.Checked.{Checked}
 use Rattle.ownership.specs.declared.Checked.the-variants as checked
-use Rattle.machine.specs.Values.{closed}
-use Rattle.machine.specs.Store.{State, Ran}
-use Rattle.machine.specs.Run.{runScript}
-use Rattle.machine.specs.Answers.{AnswerAndStore, toldUnchecked, runFits, runnable, bitsOf, ranInto, runInto, uncheckedOf}
-use Rattle.machine.specs.Parts.{RunReady}
+use Rattle.dynamics.specs.Values.{closed}
+use Rattle.dynamics.specs.Store.{State, Ran}
+use Rattle.dynamics.specs.Run.{runScript}
+use Rattle.dynamics.specs.Answers.{AnswerAndStore, runFits, runnable, ranInto, runInto, uncheckedOf}
+use Rattle.machine.specs.Outcomes.{toldUnchecked}
+use Rattle.dynamics.specs.Readings.{bitsOf}
+use Rattle.machine.specs.ScriptParts.{RunReady}
 use Rattle.machine.specs.declared.UncheckedOutcome.{UncheckedOutcome}
 use Rattle.machine.specs.declared.UncheckedOutcome.the-variants as machine
 use Rattle.room.specs.Running.{RunMade, refused, toldRun, checkedFirst, endedInto, checkedInto, runOf}

@@ -8,20 +8,21 @@ use lib.ListN.{length}
 use borrow.Author.Tests.{eq-eqb}
 use mir.Syntax.{w32}
 use mir.Val.{toZ}
-use Rattle.reader.specs.Result.{Result, ok, err, Refusal, need, _>>=_}
-use Rattle.reader.specs.Limits.{Limits, rowNumbers, storeNumbers}
-use Rattle.reader.specs.Script.{Term}
-use Rattle.reader.specs.Layout.{rowsOf}
-use Rattle.reader.specs.Reader.{decode}
-use Rattle.reader.specs.Within.{Under, Within}
-use Rattle.reader.specs.Answers.{rowsTree}
-use Rattle.reader.proofs.Answers.{then}
+use Rattle.syntax.specs.Result.{Result, ok, err, Refusal, need, _>>=_}
+use Rattle.syntax.specs.Limits.{Limits, rowNumbers, storeNumbers}
+use Rattle.syntax.specs.Script.{Term}
+use Rattle.syntax.specs.Layout.{rowsOf}
+use Rattle.syntax.specs.Reader.{decode}
+use Rattle.syntax.specs.Within.{Under, Within}
+use Rattle.syntax.specs.Answers.{rowsTree}
+use Rattle.syntax.proofs.Answers.{then}
 use Rattle.reader.proofs.Promise.{tree-decoded}
-use Rattle.reader.proofs.RoundTrip.{decoded}
-use Rattle.rules.specs.Judge.{judgeScript}
-use Rattle.machine.specs.Values.{closed}
-use Rattle.machine.specs.Store.{Store}
-use Rattle.machine.specs.Answers.{runFits, runnable, bitsOf}
+use Rattle.syntax.proofs.RoundTrip.{decoded}
+use Rattle.statics.specs.Judge.{judgeScript}
+use Rattle.dynamics.specs.Values.{closed}
+use Rattle.dynamics.specs.Store.{Store}
+use Rattle.dynamics.specs.Answers.{runFits, runnable}
+use Rattle.dynamics.specs.Readings.{bitsOf}
 use Rattle.machine.proofs.FitLaws.{fit-says}
 use Rattle.safety.specs.Safety.{Safe, tidyStore}
 use Rattle.safety.proofs.Demand3.{demand-three}

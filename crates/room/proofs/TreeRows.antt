@@ -8,19 +8,20 @@ use lib.ListN.{length}
 use mir.Syntax.{w32}
 use mir.Val.{toZ}
 use borrow.Author.Tests.{eq-eqb}
-use Rattle.reader.specs.Result.{ok, need, _>>=_}
-use Rattle.reader.specs.Limits.{Limits, inRanges, rowNumbers, storeNumbers}
-use Rattle.reader.specs.Script.{Term}
-use Rattle.reader.specs.Layout.{rowsOf}
-use Rattle.reader.specs.Measures.{size}
-use Rattle.reader.specs.Within.{Within}
-use Rattle.reader.specs.Answers.{rowsTree}
-use Rattle.reader.proofs.RoundTrip.{decodes, rows-length}
-use Rattle.rules.specs.Judge.{judgeScript}
+use Rattle.syntax.specs.Result.{ok, need, _>>=_}
+use Rattle.syntax.specs.Limits.{Limits, inRanges, rowNumbers, storeNumbers}
+use Rattle.syntax.specs.Script.{Term}
+use Rattle.syntax.specs.Layout.{rowsOf}
+use Rattle.syntax.specs.Measures.{size}
+use Rattle.syntax.specs.Within.{Within}
+use Rattle.syntax.specs.Answers.{rowsTree}
+use Rattle.syntax.proofs.RoundTrip.{decodes, rows-length}
+use Rattle.statics.specs.Judge.{judgeScript}
 use Rattle.ownership.specs.Answers.{checkOf}
-use Rattle.machine.specs.Values.{closed}
-use Rattle.machine.specs.Answers as unchecked
-use Rattle.machine.specs.Answers.{runFits, runnable, bitsOf, ranInto, runInto, uncheckedOf}
+use Rattle.dynamics.specs.Values.{closed}
+use Rattle.dynamics.specs.Answers as unchecked
+use Rattle.dynamics.specs.Answers.{runFits, runnable, ranInto, runInto, uncheckedOf}
+use Rattle.dynamics.specs.Readings.{bitsOf}
 use Rattle.safety.specs.Safety.{Safe, tidyStore}
 use Rattle.room.specs.Running.{answered, checkedFirst, endedInto, checkedInto, runOf}
 

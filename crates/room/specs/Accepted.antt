@@ -7,16 +7,17 @@ use lib.IntN.{ℤ}
 use lib.ListN.{length}
 use mir.Syntax.{w32}
 use mir.Val.{toZ}
-use Rattle.reader.specs.Result.{ok, err, Refusal}
-use Rattle.reader.specs.Limits.{Limits, storeNumbers}
-use Rattle.reader.specs.Script.{Term}
-use Rattle.reader.specs.Reader.{decode}
-use Rattle.reader.specs.Measures.{size}
-use Rattle.reader.specs.Within.{Under}
+use Rattle.syntax.specs.Result.{ok, err, Refusal}
+use Rattle.syntax.specs.Limits.{Limits, storeNumbers}
+use Rattle.syntax.specs.Script.{Term}
+use Rattle.syntax.specs.Reader.{decode}
+use Rattle.syntax.specs.Measures.{size}
+use Rattle.syntax.specs.Within.{Under}
 use Rattle.ownership.specs.Answers.{checkOf}
-use Rattle.machine.specs.Store.{Store}
-use Rattle.machine.specs.Answers as unchecked
-use Rattle.machine.specs.Answers.{bitsOf, uncheckedOf}
+use Rattle.dynamics.specs.Store.{Store}
+use Rattle.dynamics.specs.Answers as unchecked
+use Rattle.dynamics.specs.Readings.{bitsOf}
+use Rattle.dynamics.specs.Answers.{uncheckedOf}
 use Rattle.safety.specs.Safety.{Safe, tidyStore}
 use Rattle.room.specs.Running.{answered, refused, runOf}
 

@@ -8,18 +8,19 @@ use lib.IntN.{ℤ, pos}
 use lib.ListN.{length, getD}
 use mir.Syntax.{w32}
 use mir.Val.{toZ}
-use Rattle.reader.specs.Result.{Result, ok, err, Refusal, pick, _>>=_}
-use Rattle.reader.specs.Limits.{Limits}
-use Rattle.reader.specs.Kinds.{newest}
-use Rattle.reader.specs.Script.{Term, Whole}
-use Rattle.reader.specs.Reader.{parse}
-use Rattle.reader.specs.Measures.{size}
-use Rattle.reader.specs.Answers.{Told, lengthsFit, readOf}
-use Rattle.rules.specs.Judge.{judgeScript}
-use Rattle.machine.specs.Values.{closed}
-use Rattle.machine.specs.Store.{Store}
+use Rattle.syntax.specs.Result.{Result, ok, err, Refusal, pick, _>>=_}
+use Rattle.syntax.specs.Limits.{Limits}
+use Rattle.syntax.specs.Kinds.{newest}
+use Rattle.syntax.specs.Script.{Term, Whole}
+use Rattle.syntax.specs.Reader.{parse}
+use Rattle.syntax.specs.Measures.{size}
+use Rattle.syntax.specs.Answers.{Told, lengthsFit, readOf}
+use Rattle.statics.specs.Judge.{judgeScript}
+use Rattle.dynamics.specs.Values.{closed}
+use Rattle.dynamics.specs.Store.{Store}
 use Rattle.safety.specs.Safety.{Safe, tidyStore}
-use Rattle.machine.specs.Answers.{runFits, bitsOf}
+use Rattle.dynamics.specs.Answers.{runFits}
+use Rattle.dynamics.specs.Readings.{bitsOf}
 use Rattle.room.specs.Running as running
 use Rattle.room.specs.Running.{RunAnswer, RunMade, runOf}
 use Rattle.room.specs.declared.Called.{Called}

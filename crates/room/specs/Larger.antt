@@ -7,12 +7,12 @@ use mathlib.Core.Bool.{true}
 use mathlib.Core.List.{List, _++_}
 use lib.IntN.{ℤ}
 use lib.ListN.{length}
-use Rattle.reader.specs.Result.{ok}
-use Rattle.reader.specs.Limits.{Limits, inRanges, rowNumbers, storeNumbers}
-use Rattle.reader.specs.Larger.{NoSmaller}
-use Rattle.reader.specs.Layout.{zeros}
-use Rattle.reader.specs.Within.{Under}
-use Rattle.reader.specs.Answers.{readOf, judgedOf}
+use Rattle.syntax.specs.Result.{ok}
+use Rattle.syntax.specs.Limits.{Limits, inRanges, rowNumbers, storeNumbers}
+use Rattle.syntax.specs.Larger.{NoSmaller}
+use Rattle.syntax.specs.Layout.{zeros}
+use Rattle.syntax.specs.Within.{Under}
+use Rattle.syntax.specs.Answers.{readOf, judgedOf}
 use Rattle.ownership.specs.Answers.{checkOf}
 use Rattle.room.specs.Running.{answered, runOf}
 use Rattle.room.specs.Calling.{called, callOf}

@@ -1,8 +1,6 @@
--- What a run that checks first answers, and a call that reads and then runs; and the line that reports a call.
+-- What `run` and `call` answer (LANGUAGE 6.6, 6.8), and safety (7.4).
 pub mod Running
 pub mod Calling
 pub mod Accepted
 pub mod Larger
 pub mod Parts
-pub mod Line
-pub mod ExampleLines

@@ -5,10 +5,10 @@ use mathlib.Core.List.{List}
 use lib.Dec.{ltb}
 use lib.ListN.{length}
 use lib.Seq.{sets}
-use Rattle.reader.specs.Result.{pick}
-use Rattle.reader.specs.Limits.{Limits, inRanges, maxBytes}
-use Rattle.machine.specs.Answers as unchecked
-use Rattle.machine.specs.Parts as machine
+use Rattle.syntax.specs.Result.{pick}
+use Rattle.syntax.specs.Limits.{Limits, inRanges, maxBytes}
+use Rattle.dynamics.specs.Answers as unchecked
+use Rattle.machine.specs.ScriptParts as machine
 use Rattle.room.specs.Running.{RunAnswer, answered, refused}
 
 -- The machine's answer, as that of a run which is checked first.

@@ -6,16 +6,17 @@ use mathlib.Core.List.{List}
 use lib.IntN.{ℤ}
 use mir.Syntax.{w32}
 use mir.Val.{toZ}
-use Rattle.reader.specs.Result.{Result, ok, err, Refusal, _>>=_}
-use Rattle.reader.specs.Limits.{Limits, storeRows}
-use Rattle.reader.specs.Script.{Term}
-use Rattle.reader.specs.Answers.{rowsTree}
-use Rattle.rules.specs.Judge.{judgeScript}
-use Rattle.machine.specs.Values.{closed}
-use Rattle.machine.specs.Store.{Store, State, Ran}
-use Rattle.machine.specs.Run.{runScript}
-use Rattle.machine.specs.Encode.{encode}
-use Rattle.machine.specs.Answers.{runnable, bitsOf}
+use Rattle.syntax.specs.Result.{Result, ok, err, Refusal, _>>=_}
+use Rattle.syntax.specs.Limits.{Limits, storeRows}
+use Rattle.syntax.specs.Script.{Term}
+use Rattle.syntax.specs.Answers.{rowsTree}
+use Rattle.statics.specs.Judge.{judgeScript}
+use Rattle.dynamics.specs.Values.{closed}
+use Rattle.dynamics.specs.Store.{Store, State, Ran}
+use Rattle.dynamics.specs.Run.{runScript}
+use Rattle.dynamics.specs.Encode.{encode}
+use Rattle.dynamics.specs.Answers.{runnable}
+use Rattle.dynamics.specs.Readings.{bitsOf}
 use Rattle.safety.specs.Safety.{Safe, tidyStore}
 use Rattle.room.specs.declared.RunOutcome.{RunOutcome}
 use Rattle.room.specs.declared.RunOutcome.the-variants.{Answered, Refused}

@@ -1,14 +1,14 @@
 // The program (LANGUAGE 6.10 to 6.12). Reads eight readings and a script from standard input, and prints the line that
-// `room::report_base` makes of them. Where reading fails there is no line: what was read may not be the whole input.
+// `program::report::report_base` makes of them. Where reading fails there is no line: what was read may not be the whole input.
 ghost use lib.ListN.{length};
 ghost use Rattle.roomcheck.specs.Input.{Within};
 use libc::STDERR_FILENO;
 use libc::STDIN_FILENO;
 use libc::STDOUT_FILENO;
-use reader::limits;
+use syntax::limits;
 
 // The readings, and one byte more than a script may have: what follows changes nothing.
-const CAPACITY: usize = room::READINGS + limits::BYTES + 1;
+const CAPACITY: usize = program::report::READINGS + limits::BYTES + 1;
 
 // The number of bytes read when the input ended or the buffer was full; or an error before that.
 enum Input {
@@ -53,8 +53,8 @@ fn main() {
         );
         return;
     };
-    let mut line = [0u8; room::LINE];
-    let length = room::report_base(&input[..n], &mut line);
+    let mut line = [0u8; program::report::LINE];
+    let length = program::report::report_base(&input[..n], &mut line);
     if !io::write_all(STDOUT_FILENO, &line[..length]) {
         io::write_all(
             STDERR_FILENO,

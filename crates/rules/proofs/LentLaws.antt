@@ -7,37 +7,38 @@ use mathlib.Core.Bool.{true, false}
 use mathlib.Core.Option.{some}
 use mathlib.Core.List.{List, [], _∷_}
 use lib.ListN.{length, take, drop, length-drop}
-use Rattle.reader.specs.Result.{ok, need, _>>=_}
-use Rattle.reader.specs.Script.{Place}
-use Rattle.rules.specs.declared.roots.Roots.{Roots}
-use Rattle.rules.specs.declared.follow.Ends.{Ends}
-use Rattle.rules.specs.declared.follow.Ends.the-variants as ends
-use Rattle.rules.specs.declared.verdicts.Told as verdicts
-use Rattle.rules.specs.Links.{Link, shared, leadingBoxes, lastShared, isNumber, copies}
-use Rattle.rules.specs.Environment.{places, borrowEnd, Variable, live, borrowsAt}
-use Rattle.rules.specs.Follow.{past, valueWhole}
-use Rattle.rules.specs.Uses.{Unfinished}
-use Rattle.rules.specs.Rules as rules
-use Rattle.rules.specs.Rules.{judgePlace, judgeCopy, recordedPlaces, judgeShared}
-use Rattle.rules.specs.Neat.{place, Among, SameSet}
-use Rattle.rules.specs.Roots.{lengths, placesOf, left}
-use Rattle.rules.specs.Masks.{has}
-use Rattle.rules.specs.Chains.{chainOf}
-use Rattle.rules.specs.Steps.{Searched, BorrowedAt}
-use Rattle.rules.specs.Table.{linksAt, longAt, rootsAt, variableAt, placesIn, endIn, environmentOf}
-use Rattle.rules.specs.Verdicts.{NeatTable, PlaceFound, Named, Read, WholeBorrow, LentAt, typeOf, answered, Answers, atMost8}
-use Rattle.rules.proofs.Answers.{err≢ok}
-use Rattle.rules.proofs.LinkChains.{last-at}
-use Rattle.rules.proofs.ChainLaws.{rest-number}
-use Rattle.rules.proofs.MaskLaws.{has-below}
-use Rattle.rules.proofs.NeatPaths.{Lies, led, borrowed-there}
-use Rattle.rules.proofs.NeatTerms.{readable-place}
-use Rattle.rules.proofs.RootLaws.{from-in}
-use Rattle.rules.proofs.RootSets.{past-places}
-use Rattle.rules.proofs.FollowRoots as paths
-use Rattle.rules.proofs.WholePath.{whole-path}
-use Rattle.rules.proofs.EntryLaws.{live-status}
-use Rattle.rules.proofs.EndLaws.{linked-places}
+use Rattle.syntax.specs.Result.{ok, need, _>>=_}
+use Rattle.syntax.specs.Script.{Place}
+use Rattle.variables.specs.declared.roots.Roots.{Roots}
+use Rattle.paths.specs.declared.follow.Ends.{Ends}
+use Rattle.paths.specs.declared.follow.Ends.the-variants as ends
+use Rattle.variables.specs.declared.verdicts.Told as verdicts
+use Rattle.statics.specs.Links.{Link, shared, leadingBoxes, lastShared, isNumber, copies}
+use Rattle.statics.specs.Environment.{places, borrowEnd, Variable, live, borrowsAt}
+use Rattle.statics.specs.Follow.{past, valueWhole}
+use Rattle.statics.specs.Uses.{Unfinished}
+use Rattle.statics.specs.Rules as rules
+use Rattle.statics.specs.Rules.{judgePlace, judgeCopy, recordedPlaces, judgeShared}
+use Rattle.statics.specs.Neat.{place, Among, SameSet}
+use Rattle.statics.specs.Roots.{lengths, placesOf, left}
+use Rattle.variables.specs.Masks.{has}
+use Rattle.variables.specs.Chains.{chainOf}
+use Rattle.paths.specs.Steps.{Searched, BorrowedAt}
+use Rattle.variables.specs.Table.{linksAt, longAt, rootsAt, variableAt, placesIn, endIn, environmentOf}
+use Rattle.variables.specs.Verdicts.{NeatTable, typeOf, answered, Answers, atMost8}
+use Rattle.rules.specs.RuleAnswers.{PlaceFound, Named, Read, WholeBorrow, LentAt}
+use Rattle.statics.proofs.Answers.{err≢ok}
+use Rattle.statics.proofs.LinkChains.{last-at}
+use Rattle.variables.proofs.ChainLaws.{rest-number}
+use Rattle.variables.proofs.MaskLaws.{has-below}
+use Rattle.statics.proofs.NeatPaths.{Lies, led, borrowed-there}
+use Rattle.statics.proofs.NeatTerms.{readable-place}
+use Rattle.statics.proofs.RootLaws.{from-in}
+use Rattle.statics.proofs.RootSets.{past-places}
+use Rattle.statics.proofs.FollowRoots as paths
+use Rattle.statics.proofs.WholePath.{whole-path}
+use Rattle.variables.proofs.EntryLaws.{live-status}
+use Rattle.variables.proofs.EndLaws.{linked-places}
 use Rattle.rules.proofs.ValueLaws.{copied-borrow, borrows-there}
 use Rattle.rules.proofs.PlaceLaws.{variable-is, named-live, on-chain, search-fits, place-moved, place-there, copy-is}
 use Rattle.rules.proofs.OwnLaws.{found-own, own-borrows}

@@ -6,18 +6,19 @@ use mathlib.Core.Option.{some}
 use mathlib.Core.List.{List}
 use lib.ListN.{length, drop}
 use borrow.Author.Tests.{le-leb, lt-leb}
-use Rattle.reader.specs.Result.{ok, err, need, _>>=_}
-use Rattle.reader.specs.Script.{Place}
-use Rattle.rules.specs.declared.roots.Roots.{Roots}
-use Rattle.rules.specs.Links.{Link, leadingBoxes}
-use Rattle.rules.specs.Environment.{Variable, live, update, movedAway, movedAwayAt}
-use Rattle.rules.specs.Follow.{valueWhole}
-use Rattle.rules.specs.Uses.{Unfinished}
-use Rattle.rules.specs.Bars.{writeBarred}
-use Rattle.rules.specs.Rules.{Judged, Out, inScope, judgeMove}
-use Rattle.rules.specs.Chains.{chainOf}
-use Rattle.rules.specs.Table.{linksAt, rootsAt, endIn, environmentOf, SameLinks}
-use Rattle.rules.specs.Verdicts.{Named, typeOf}
+use Rattle.syntax.specs.Result.{ok, err, need, _>>=_}
+use Rattle.syntax.specs.Script.{Place}
+use Rattle.variables.specs.declared.roots.Roots.{Roots}
+use Rattle.statics.specs.Links.{Link, leadingBoxes}
+use Rattle.statics.specs.Environment.{Variable, live, update, movedAway, movedAwayAt}
+use Rattle.statics.specs.Follow.{valueWhole}
+use Rattle.statics.specs.Uses.{Unfinished}
+use Rattle.statics.specs.Bars.{writeBarred}
+use Rattle.statics.specs.Rules.{Judged, Out, inScope, judgeMove}
+use Rattle.variables.specs.Chains.{chainOf}
+use Rattle.variables.specs.Table.{linksAt, rootsAt, endIn, environmentOf, SameLinks}
+use Rattle.rules.specs.RuleAnswers.{Named}
+use Rattle.variables.specs.Verdicts.{typeOf}
 use Rattle.rules.proofs.ValueLaws.{moved-out}
 use Rattle.rules.proofs.PlaceLaws.{variable-is, named-live, on-chain}
 

@@ -10,35 +10,36 @@ use mathlib.Core.List.{List, [], _∷_}
 use lib.ListN.{length, take}
 use lib.Dec.{leb}
 use borrow.Author.Tests.{le-leb, eq-eqb, ne-eqb}
-use Rattle.reader.specs.Result.{ok, err, need, _>>=_}
-use Rattle.reader.specs.Script.{Place}
-use Rattle.rules.specs.declared.roots.Roots.{Roots}
-use Rattle.rules.specs.declared.follow.Ends.{Ends}
-use Rattle.rules.specs.declared.follow.Ends.the-variants as ends
-use Rattle.rules.specs.declared.verdicts.Value.the-variants as value
-use Rattle.rules.specs.declared.verdicts.ValueType.{ValueType}
-use Rattle.rules.specs.Links.{Link, boxed, shared, exclusive, leadingBoxes, noShared}
-use Rattle.rules.specs.Places.{member, unite, every, only}
-use Rattle.rules.specs.Environment.{Borrow, places, Variable, Slot, live, Environment, update, refilled, write, levelOf, borrowOf, borrowsAt, livesAt}
-use Rattle.rules.specs.Follow.{onward, meetAll, follow, ownLink, ownPath}
-use Rattle.rules.specs.Rules.{inScope, reached, valued, judgePlace, judgeWrite}
-use Rattle.rules.specs.Neat.{Ordered}
-use Rattle.rules.specs.Roots.{linksOf, lengths, placesOf, left}
-use Rattle.rules.specs.Chains.{chainOf}
-use Rattle.rules.specs.Masks.{has}
-use Rattle.rules.specs.Steps.{passesSlot, passes, Searched}
-use Rattle.rules.specs.Table.{linksAt, longAt, rootsAt, variableAt, placesIn, endIn, environmentOf}
-use Rattle.rules.specs.Verdicts.{NeatTable, Named, OwnFound, asValue}
-use Rattle.rules.proofs.EqualChains.{same-links}
-use Rattle.rules.proofs.SetLaws.{unite-out, unite-left}
-use Rattle.rules.proofs.SetOrder.{unite-ordered, end-ordered}
-use Rattle.rules.proofs.SetEquality.{same-list}
-use Rattle.rules.proofs.RootSets.{from-ordered}
-use Rattle.rules.proofs.FollowRoots.{every-root}
-use Rattle.rules.proofs.FollowRoots as paths
-use Rattle.rules.proofs.NeatPaths.{own-link}
+use Rattle.syntax.specs.Result.{ok, err, need, _>>=_}
+use Rattle.syntax.specs.Script.{Place}
+use Rattle.variables.specs.declared.roots.Roots.{Roots}
+use Rattle.paths.specs.declared.follow.Ends.{Ends}
+use Rattle.paths.specs.declared.follow.Ends.the-variants as ends
+use Rattle.variables.specs.declared.verdicts.Value.the-variants as value
+use Rattle.variables.specs.declared.verdicts.ValueType.{ValueType}
+use Rattle.statics.specs.Links.{Link, boxed, shared, exclusive, leadingBoxes, noShared}
+use Rattle.statics.specs.Places.{member, unite, every, only}
+use Rattle.statics.specs.Environment.{Borrow, places, Variable, Slot, live, Environment, update, refilled, write, levelOf, borrowOf, borrowsAt, livesAt}
+use Rattle.statics.specs.Follow.{onward, meetAll, follow, ownLink, ownPath}
+use Rattle.statics.specs.Rules.{inScope, reached, valued, judgePlace, judgeWrite}
+use Rattle.statics.specs.Neat.{Ordered}
+use Rattle.statics.specs.Roots.{linksOf, lengths, placesOf, left}
+use Rattle.variables.specs.Chains.{chainOf}
+use Rattle.variables.specs.Masks.{has}
+use Rattle.paths.specs.Steps.{passesSlot, passes, Searched}
+use Rattle.variables.specs.Table.{linksAt, longAt, rootsAt, variableAt, placesIn, endIn, environmentOf}
+use Rattle.variables.specs.Verdicts.{NeatTable, asValue}
+use Rattle.rules.specs.RuleAnswers.{Named, OwnFound}
+use Rattle.variables.proofs.EqualChains.{same-links}
+use Rattle.statics.proofs.SetLaws.{unite-out, unite-left}
+use Rattle.statics.proofs.SetOrder.{unite-ordered, end-ordered}
+use Rattle.statics.proofs.SetEquality.{same-list}
+use Rattle.statics.proofs.RootSets.{from-ordered}
+use Rattle.statics.proofs.FollowRoots.{every-root}
+use Rattle.statics.proofs.FollowRoots as paths
+use Rattle.statics.proofs.NeatPaths.{own-link}
 use Rattle.rules.proofs.ValueLaws.{end-drop, end-recorded}
-use Rattle.rules.proofs.StepLaws.{passes-at}
+use Rattle.paths.proofs.StepLaws.{passes-at}
 use Rattle.rules.proofs.PlaceLaws.{variable-is, named-live, named-inside, on-chain}
 use Rattle.rules.proofs.WriteLaws.{write-one}
 

@@ -8,34 +8,35 @@ use mathlib.Core.List.{List, [], _∷_}
 use lib.ListN.{length, take, drop, length-drop}
 use lib.Dec.{leb, eqb}
 use borrow.Author.Tests.{lt-leb}
-use Rattle.reader.specs.Result.{ok, err, need, _>>=_, pick}
-use Rattle.reader.specs.Script.{Place}
-use Rattle.rules.specs.declared.roots.Roots.{Roots}
-use Rattle.rules.specs.declared.follow.Ends.{Ends}
-use Rattle.rules.specs.declared.follow.Ends.the-variants as ends
+use Rattle.syntax.specs.Result.{ok, err, need, _>>=_, pick}
+use Rattle.syntax.specs.Script.{Place}
+use Rattle.variables.specs.declared.roots.Roots.{Roots}
+use Rattle.paths.specs.declared.follow.Ends.{Ends}
+use Rattle.paths.specs.declared.follow.Ends.the-variants as ends
 use Rattle.rules.specs.declared.rules.Readable.{Readable}
 use Rattle.rules.specs.declared.rules.Readable.the-variants as readable
-use Rattle.rules.specs.declared.verdicts.Told as verdicts
-use Rattle.rules.specs.Links.{Link, shared, exclusive, maxLinks, leadingBoxes, noShared, lastShared, isNumber, copies}
-use Rattle.rules.specs.Places.{every}
-use Rattle.rules.specs.Environment.{Borrow, sharedOf, exclusiveOf, borrowEnd, Variable, Slot, free, used, live, Environment, Ty, borrowsAt}
-use Rattle.rules.specs.Follow.{ownLink, valueWhole}
-use Rattle.rules.specs.Uses.{Unfinished}
-use Rattle.rules.specs.Bars.{readBarred, writeBarred}
-use Rattle.rules.specs.Rules as rules
-use Rattle.rules.specs.Rules.{Judged, numberTy, inScope, judgePlace, judgeReadable, judgeCopy, judgeMove, recordedPlaces, judgeShared, judgeExclusive, judgeNumber}
-use Rattle.rules.specs.Neat.{place, SameSet}
-use Rattle.rules.specs.Roots.{linksOf, lengths, placesOf, MetFrom, endsOf}
-use Rattle.rules.specs.Masks.{has}
-use Rattle.rules.specs.Chains.{chainOf}
-use Rattle.rules.specs.Steps.{passesSlot, passes, Searched}
-use Rattle.rules.specs.Table.{entryWord, linksAt, longAt, variableAt, endIn, environmentOf}
-use Rattle.rules.specs.Verdicts.{NeatTable, PlaceFound, Named, NamedIs, Read, ReadableIs, WholeIs, NumberIs, typeOf, answered, Answers, atMost8}
-use Rattle.rules.proofs.RootLaws.{same-roots}
-use Rattle.rules.proofs.RootSets.{one-place}
-use Rattle.rules.proofs.FollowRoots as paths
-use Rattle.rules.proofs.WholePath.{whole-path, not-whole}
-use Rattle.rules.proofs.EntryLaws.{status-live, live-status, live-inside}
+use Rattle.variables.specs.declared.verdicts.Told as verdicts
+use Rattle.statics.specs.Links.{Link, shared, exclusive, maxLinks, leadingBoxes, noShared, lastShared, isNumber, copies}
+use Rattle.statics.specs.Places.{every}
+use Rattle.statics.specs.Environment.{Borrow, sharedOf, exclusiveOf, borrowEnd, Variable, Slot, free, used, live, Environment, Ty, borrowsAt}
+use Rattle.statics.specs.Follow.{ownLink, valueWhole}
+use Rattle.statics.specs.Uses.{Unfinished}
+use Rattle.statics.specs.Bars.{readBarred, writeBarred}
+use Rattle.statics.specs.Rules as rules
+use Rattle.statics.specs.Rules.{Judged, numberTy, inScope, judgePlace, judgeReadable, judgeCopy, judgeMove, recordedPlaces, judgeShared, judgeExclusive, judgeNumber}
+use Rattle.statics.specs.Neat.{place, SameSet}
+use Rattle.statics.specs.Roots.{linksOf, lengths, placesOf, MetFrom, endsOf}
+use Rattle.variables.specs.Masks.{has}
+use Rattle.variables.specs.Chains.{chainOf}
+use Rattle.paths.specs.Steps.{passesSlot, passes, Searched}
+use Rattle.variables.specs.Table.{entryWord, linksAt, longAt, variableAt, endIn, environmentOf}
+use Rattle.variables.specs.Verdicts.{NeatTable, typeOf, answered, Answers, atMost8}
+use Rattle.rules.specs.RuleAnswers.{PlaceFound, Named, NamedIs, Read, ReadableIs, WholeIs, NumberIs}
+use Rattle.statics.proofs.RootLaws.{same-roots}
+use Rattle.statics.proofs.RootSets.{one-place}
+use Rattle.statics.proofs.FollowRoots as paths
+use Rattle.statics.proofs.WholePath.{whole-path, not-whole}
+use Rattle.variables.proofs.EntryLaws.{status-live, live-status, live-inside}
 use Rattle.rules.proofs.ValueLaws.{number-type}
 
 -- ---- the answer, by its case

@@ -7,36 +7,36 @@ use mathlib.Core.Option.{none, some}
 use mathlib.Core.List.{List, [], _∷_}
 use lib.ListN.{length, drop, length-drop}
 use lib.Dec.{leb}
-use Rattle.reader.specs.Result.{ok, need, _>>=_}
-use Rattle.reader.specs.Script.{Place}
-use Rattle.rules.specs.declared.roots.Roots.{Roots}
-use Rattle.rules.specs.declared.verdicts.ValueType.{ValueType}
-use Rattle.rules.specs.declared.verdicts.Value.{Value}
-use Rattle.rules.specs.declared.verdicts.Value.the-variants as value
-use Rattle.rules.specs.declared.verdicts.Verdict.the-variants as verdict
-use Rattle.rules.specs.Links.{Link, boxed, shared, exclusive, leadingBoxes, isNumber, copies}
-use Rattle.rules.specs.Places.{every, someOf, rooted}
-use Rattle.rules.specs.Environment.{Borrow, places, borrowEnd, Variable, Slot, free, used, live, Environment, Ty, update, fresh, movedAway, movedAwayAt, levelOf, borrowOf, borrowsAt, livesAt, leave}
-use Rattle.rules.specs.Follow.{ownLink}
-use Rattle.rules.specs.Rules.{Judged, Out, numberTy, valued, judgeLet, borrowIn, judgeBlockEnd}
-use Rattle.rules.specs.Neat.{Among, SameSet, behind, Holds, Neat, NeatValue}
-use Rattle.rules.specs.Roots.{lengths, placeAt, placesFrom, placesOf, left}
-use Rattle.rules.specs.Masks.{has}
-use Rattle.rules.specs.Chains.{chainOf}
-use Rattle.rules.specs.Steps.{BorrowedAt}
-use Rattle.rules.specs.Table.{linksAt, longAt, rootsAt, placesIn, endIn, variableAt, environmentOf, Unrecorded, SameLinks}
-use Rattle.rules.specs.Verdicts.{typeOf, asValue, answeredAs, RootsIn}
-use Rattle.rules.proofs.Slots.{used≢live}
-use Rattle.rules.proofs.LinkChains.{boxes-drop, same-behind, same-end}
-use Rattle.rules.proofs.SetLaws.{rooted-out, borrows-out, borrows-in}
-use Rattle.rules.proofs.SetOrder.{borrows-ordered, end-again}
-use Rattle.rules.proofs.SetEquality.{same-list}
-use Rattle.rules.proofs.NeatPaths.{Lies, own-link}
-use Rattle.rules.proofs.RootLaws.{from-out, from-in}
-use Rattle.rules.proofs.RootSets.{from-ordered}
-use Rattle.rules.proofs.EntryLaws.{live-status}
-use Rattle.rules.proofs.TableLaws.{kept-end}
-use Rattle.rules.proofs.EndLaws.{no-places, linked-places}
+use Rattle.syntax.specs.Result.{ok, need, _>>=_}
+use Rattle.syntax.specs.Script.{Place}
+use Rattle.variables.specs.declared.roots.Roots.{Roots}
+use Rattle.variables.specs.declared.verdicts.ValueType.{ValueType}
+use Rattle.variables.specs.declared.verdicts.Value.{Value}
+use Rattle.variables.specs.declared.verdicts.Value.the-variants as value
+use Rattle.variables.specs.declared.verdicts.Verdict.the-variants as verdict
+use Rattle.statics.specs.Links.{Link, boxed, shared, exclusive, leadingBoxes, isNumber, copies}
+use Rattle.statics.specs.Places.{every, someOf, rooted}
+use Rattle.statics.specs.Environment.{Borrow, places, borrowEnd, Variable, Slot, free, used, live, Environment, Ty, update, fresh, movedAway, movedAwayAt, levelOf, borrowOf, borrowsAt, livesAt, leave}
+use Rattle.statics.specs.Follow.{ownLink}
+use Rattle.statics.specs.Rules.{Judged, Out, numberTy, valued, judgeLet, borrowIn, judgeBlockEnd}
+use Rattle.statics.specs.Neat.{Among, SameSet, behind, Holds, Neat, NeatValue}
+use Rattle.statics.specs.Roots.{lengths, placeAt, placesFrom, placesOf, left}
+use Rattle.variables.specs.Masks.{has}
+use Rattle.variables.specs.Chains.{chainOf}
+use Rattle.paths.specs.Steps.{BorrowedAt}
+use Rattle.variables.specs.Table.{linksAt, longAt, rootsAt, placesIn, endIn, variableAt, environmentOf, Unrecorded, SameLinks}
+use Rattle.variables.specs.Verdicts.{typeOf, asValue, answeredAs, RootsIn}
+use Rattle.statics.proofs.Slots.{used≢live}
+use Rattle.statics.proofs.LinkChains.{boxes-drop, same-behind, same-end}
+use Rattle.statics.proofs.SetLaws.{rooted-out, borrows-out, borrows-in}
+use Rattle.statics.proofs.SetOrder.{borrows-ordered, end-again}
+use Rattle.statics.proofs.SetEquality.{same-list}
+use Rattle.statics.proofs.NeatPaths.{Lies, own-link}
+use Rattle.statics.proofs.RootLaws.{from-out, from-in}
+use Rattle.statics.proofs.RootSets.{from-ordered}
+use Rattle.variables.proofs.EntryLaws.{live-status}
+use Rattle.variables.proofs.TableLaws.{kept-end}
+use Rattle.variables.proofs.EndLaws.{no-places, linked-places}
 
 -- ---- ends
 

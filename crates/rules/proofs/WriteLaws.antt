@@ -8,22 +8,22 @@ use mathlib.Core.Bool.{Bool, true, false, false≢true, true≢false}
 use mathlib.Core.List.{List, [], _∷_}
 use lib.Dec.{eqb}
 use borrow.Author.Tests.{eqb-true, eq-eqb, ne-eqb}
-use Rattle.reader.specs.Result.{pick}
-use Rattle.reader.specs.Script.{Place}
-use Rattle.rules.specs.declared.roots.Roots.{Roots}
-use Rattle.rules.specs.Places.{someOf, rooted}
-use Rattle.rules.specs.Environment.{Borrow, Slot, Environment, update, refilled, widened, single, write}
-use Rattle.rules.specs.Neat.{place, Among}
-use Rattle.rules.specs.Roots.{lengths, placeAt, placesFrom, placesOf}
-use Rattle.rules.specs.Chains.{chainOf}
-use Rattle.rules.specs.Masks.{has, isEmpty}
-use Rattle.rules.specs.Table.{environmentOf, linksAt, endIn, SameLinks, WidenedAll, Written}
-use Rattle.rules.proofs.Answers.{same-bool}
-use Rattle.rules.proofs.Slots.{update-same, update-other}
-use Rattle.rules.proofs.RootLaws.{same-roots, from-in, rooted-places}
-use Rattle.rules.proofs.RootSets.{one-place}
-use Rattle.rules.proofs.MaskLaws.{none-in, some-in}
-use Rattle.rules.proofs.TableLaws.{kept-end}
+use Rattle.syntax.specs.Result.{pick}
+use Rattle.syntax.specs.Script.{Place}
+use Rattle.variables.specs.declared.roots.Roots.{Roots}
+use Rattle.statics.specs.Places.{someOf, rooted}
+use Rattle.statics.specs.Environment.{Borrow, Slot, Environment, update, refilled, widened, single, write}
+use Rattle.statics.specs.Neat.{place, Among}
+use Rattle.statics.specs.Roots.{lengths, placeAt, placesFrom, placesOf}
+use Rattle.variables.specs.Chains.{chainOf}
+use Rattle.variables.specs.Masks.{has, isEmpty}
+use Rattle.variables.specs.Table.{environmentOf, linksAt, endIn, SameLinks, WidenedAll, Written}
+use Rattle.statics.proofs.Answers.{same-bool}
+use Rattle.statics.proofs.Slots.{update-same, update-other}
+use Rattle.statics.proofs.RootLaws.{same-roots, from-in, rooted-places}
+use Rattle.statics.proofs.RootSets.{one-place}
+use Rattle.variables.proofs.MaskLaws.{none-in, some-in}
+use Rattle.variables.proofs.TableLaws.{kept-end}
 
 -- ---- a number taken out of a set
 

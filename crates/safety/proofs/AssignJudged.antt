@@ -10,25 +10,25 @@ use mathlib.Core.Option.{Option, none, some}
 use mathlib.Core.List.{List}
 use lib.ListN.{take, drop}
 use borrow.Author.Tests.{not-true}
-use Rattle.reader.specs.Result.{Result, ok, Refusal, _>>=_, need}
-use Rattle.reader.specs.Script.{Place}
-use Rattle.rules.specs.Links.{Link, leadingBoxes, noShared, sameLinks}
-use Rattle.rules.specs.Places.{every}
-use Rattle.rules.specs.Environment.{places, Variable, Slot, live, Environment, Ty, update, fresh, wider, write, levelOf, livesAt}
-use Rattle.rules.specs.Uses.{Unfinished, namedLater}
-use Rattle.rules.specs.Bars.{borrowsAny, heldBy, inUse, writeBarred}
-use Rattle.rules.specs.Rules.{Out, valued, Located, judgePlace, judgeWrite, judgeAssign}
-use Rattle.rules.specs.Neat.{place, Among}
-use Rattle.rules.proofs.Answers.{was-valued}
-use Rattle.rules.proofs.Slots.{used≢live}
-use Rattle.rules.proofs.LinkChains.{same-links}
-use Rattle.rules.proofs.SetLaws.{every-in}
-use Rattle.rules.proofs.InUse.{in-use-named, in-use-held}
-use Rattle.machine.specs.Values.{Value}
-use Rattle.machine.specs.Store.{State}
-use Rattle.machine.specs.Run.{runAssign}
-use Rattle.rules.proofs.Answers.{err≢ok}
-use Rattle.reader.proofs.Answers.{then, needed}
+use Rattle.syntax.specs.Result.{Result, ok, Refusal, _>>=_, need}
+use Rattle.syntax.specs.Script.{Place}
+use Rattle.statics.specs.Links.{Link, leadingBoxes, noShared, sameLinks}
+use Rattle.statics.specs.Places.{every}
+use Rattle.statics.specs.Environment.{places, Variable, Slot, live, Environment, Ty, update, fresh, wider, write, levelOf, livesAt}
+use Rattle.statics.specs.Uses.{Unfinished, namedLater}
+use Rattle.statics.specs.Bars.{borrowsAny, heldBy, inUse, writeBarred}
+use Rattle.statics.specs.Rules.{Out, valued, Located, judgePlace, judgeWrite, judgeAssign}
+use Rattle.statics.specs.Neat.{place, Among}
+use Rattle.statics.proofs.Answers.{was-valued}
+use Rattle.statics.proofs.Slots.{used≢live}
+use Rattle.statics.proofs.LinkChains.{same-links}
+use Rattle.statics.proofs.SetLaws.{every-in}
+use Rattle.statics.proofs.InUse.{in-use-named, in-use-held}
+use Rattle.dynamics.specs.Values.{Value}
+use Rattle.dynamics.specs.Store.{State}
+use Rattle.dynamics.specs.Run.{runAssign}
+use Rattle.statics.proofs.Answers.{err≢ok}
+use Rattle.syntax.proofs.Answers.{then, needed}
 use Rattle.safety.proofs.Memory.{Name, inFlight, inDrop, var, has, var≢flight, var≢drop, drop≢flight}
 use Rattle.safety.proofs.NameMaps.{upd, upd-same, upd-other}
 use Rattle.safety.proofs.Ghost.{vacant}

@@ -7,20 +7,20 @@ use mathlib.Core.Bool.{true}
 use mathlib.Core.Option.{none, some}
 use mathlib.Core.List.{List}
 use lib.ListN.{take, drop}
-use Rattle.reader.specs.Result.{ok, _>>=_}
-use Rattle.reader.specs.Script.{Place}
-use Rattle.rules.specs.Links.{Link, leadingBoxes, noShared}
-use Rattle.rules.specs.Environment.{Variable, used, live, Environment, Ty, update}
-use Rattle.rules.specs.Uses.{Unfinished}
-use Rattle.rules.specs.Rules.{Located}
-use Rattle.rules.proofs.Slots.{used≢live}
-use Rattle.rules.proofs.LinkChains.{boxes-drop}
-use Rattle.machine.specs.Values.{Location, cell, Value, empty, closed, openWith}
-use Rattle.machine.specs.Store.{Store, put, isOpen, State, withStore}
-use Rattle.machine.specs.Locate.{locate}
-use Rattle.machine.specs.Drop.{dropValue}
-use Rattle.machine.specs.Run.{runAssign}
-use Rattle.machine.proofs.StoreLaws.{put-other}
+use Rattle.syntax.specs.Result.{ok, _>>=_}
+use Rattle.syntax.specs.Script.{Place}
+use Rattle.statics.specs.Links.{Link, leadingBoxes, noShared}
+use Rattle.statics.specs.Environment.{Variable, used, live, Environment, Ty, update}
+use Rattle.statics.specs.Uses.{Unfinished}
+use Rattle.statics.specs.Rules.{Located}
+use Rattle.statics.proofs.Slots.{used≢live}
+use Rattle.statics.proofs.LinkChains.{boxes-drop}
+use Rattle.dynamics.specs.Values.{Location, cell, Value, empty, closed, openWith}
+use Rattle.dynamics.specs.Store.{Store, put, isOpen, State, withStore}
+use Rattle.dynamics.specs.Locate.{locate}
+use Rattle.dynamics.specs.Drop.{dropValue}
+use Rattle.dynamics.specs.Run.{runAssign}
+use Rattle.dynamics.proofs.StoreLaws.{put-other}
 use Rattle.safety.proofs.Memory.{Name, inFlight, inDrop, var, Spot, top, inCell, Content, noRow, has, nameDec, p-empty, Memory, var≢flight, var≢drop, drop≢flight, row-open, top-only}
 use Rattle.safety.proofs.NameMaps.{upd, upd-same, upd-other}
 use Rattle.safety.proofs.Lifted.{spotOf, lift, lift-at, lift-other, lift-same, lift-drop, lift-flight, lift-agree}

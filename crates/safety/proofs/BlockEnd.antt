@@ -7,17 +7,17 @@ use mathlib.Core.Logic.{_≢_, _⊎_, inl, inr}
 use mathlib.Core.Bool.{true}
 use mathlib.Core.Option.{Option, none, some}
 use mathlib.Core.List.{List}
-use Rattle.reader.specs.Result.{ok, _>>=_}
-use Rattle.reader.specs.Script.{Place}
-use Rattle.rules.specs.Environment.{Variable, Slot, free, used, live, Environment, Ty, livesAt, leaveSlot, leave}
-use Rattle.rules.specs.Uses.{Unfinished}
-use Rattle.rules.specs.Rules.{borrowIn}
-use Rattle.rules.proofs.Slots.{free≢live, used≢live, leave-live}
-use Rattle.machine.specs.Values.{Value, empty}
-use Rattle.machine.specs.Store.{State, withStore}
-use Rattle.machine.specs.Drop.{closeAll}
-use Rattle.machine.specs.Run.{runBlockEnd, entered}
-use Rattle.rules.proofs.Choose.{choose, choose-yes, choose-no}
+use Rattle.syntax.specs.Result.{ok, _>>=_}
+use Rattle.syntax.specs.Script.{Place}
+use Rattle.statics.specs.Environment.{Variable, Slot, free, used, live, Environment, Ty, livesAt, leaveSlot, leave}
+use Rattle.statics.specs.Uses.{Unfinished}
+use Rattle.statics.specs.Rules.{borrowIn}
+use Rattle.statics.proofs.Slots.{free≢live, used≢live, leave-live}
+use Rattle.dynamics.specs.Values.{Value, empty}
+use Rattle.dynamics.specs.Store.{State, withStore}
+use Rattle.dynamics.specs.Drop.{closeAll}
+use Rattle.dynamics.specs.Run.{runBlockEnd, entered}
+use Rattle.statics.proofs.Choose.{choose, choose-yes, choose-no}
 use Rattle.safety.proofs.Memory.{Name, inFlight, inDrop, var, Spot, Content, noRow, nameDec, var≢flight, drop≢flight}
 use Rattle.safety.proofs.NameMaps.{upd, upd-same, upd-other}
 use Rattle.safety.proofs.Ghost.{vacant}

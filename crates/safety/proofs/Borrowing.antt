@@ -8,30 +8,30 @@ use mathlib.Core.Option.{Option, none, some}
 use mathlib.Core.List.{List, [], _∷_}
 use lib.ListN.{length, take, drop, length-drop}
 use borrow.Author.Tests.{not-true}
-use Rattle.reader.specs.Result.{ok, _>>=_, need}
-use Rattle.reader.specs.Script.{Place}
-use Rattle.rules.specs.Links.{Link, shared, exclusive, leadingBoxes, noShared, lastShared}
-use Rattle.rules.specs.Environment.{Borrow, sharedOf, exclusiveOf, Variable, live, Environment, Ty, borrowsAt}
-use Rattle.rules.specs.Uses.{Unfinished, namedLater}
-use Rattle.rules.specs.Follow.{past, valueWhole}
-use Rattle.rules.specs.Bars.{readBarred, writeBarred}
-use Rattle.rules.specs.Neat.{place}
-use Rattle.rules.specs.Rules.{Out, Located, judgePlace, judgeReadable, recordedPlaces, judgeShared, judgeExclusive}
-use Rattle.machine.specs.Values.{Location, empty, reference}
-use Rattle.machine.specs.Store.{State}
-use Rattle.machine.specs.Locate.{locate}
-use Rattle.machine.specs.Run.{runBorrow}
-use Rattle.rules.proofs.Answers.{none≢some}
-use Rattle.reader.proofs.Answers.{then, needed}
+use Rattle.syntax.specs.Result.{ok, _>>=_, need}
+use Rattle.syntax.specs.Script.{Place}
+use Rattle.statics.specs.Links.{Link, shared, exclusive, leadingBoxes, noShared, lastShared}
+use Rattle.statics.specs.Environment.{Borrow, sharedOf, exclusiveOf, Variable, live, Environment, Ty, borrowsAt}
+use Rattle.statics.specs.Uses.{Unfinished, namedLater}
+use Rattle.statics.specs.Follow.{past, valueWhole}
+use Rattle.statics.specs.Bars.{readBarred, writeBarred}
+use Rattle.statics.specs.Neat.{place}
+use Rattle.statics.specs.Rules.{Out, Located, judgePlace, judgeReadable, recordedPlaces, judgeShared, judgeExclusive}
+use Rattle.dynamics.specs.Values.{Location, empty, reference}
+use Rattle.dynamics.specs.Store.{State}
+use Rattle.dynamics.specs.Locate.{locate}
+use Rattle.dynamics.specs.Run.{runBorrow}
+use Rattle.statics.proofs.Answers.{none≢some}
+use Rattle.syntax.proofs.Answers.{then, needed}
 use Rattle.safety.proofs.Memory.{Name, inFlight, var, Content, has, p-ref, var≢flight}
 use Rattle.safety.proofs.NameMaps.{upd, upd-same, upd-other}
 use Rattle.safety.proofs.Ghost as Gh
 use Rattle.safety.proofs.Typing.{borrowed, isExclusive, Fits, boxes, Reach, Ref, Holds, avoid-back}
-use Rattle.rules.proofs.LinkChains.{drop-add, last-at}
+use Rattle.statics.proofs.LinkChains.{drop-add, last-at}
 use Rattle.safety.proofs.Paths.{unique}
 use Rattle.safety.proofs.Known.{Known, by-name}
 use Rattle.safety.proofs.Certificates.{Whole, root-whole}
-use Rattle.rules.proofs.SetLaws.{past-in}
+use Rattle.statics.proofs.SetLaws.{past-in}
 use Rattle.safety.proofs.Covering.{BorrowIn, in-shared, in-exclusive, borrow-among, borrow-exclusive, covered-whole}
 use Rattle.safety.proofs.Inversion.{write-allowed, read-allowed, readable-ok}
 use Rattle.safety.proofs.Invariant.{Invariant, deep-ghost}

@@ -4,17 +4,17 @@ use native.Mathlib.Omega.{arith}
 use mathlib.Core.Path.{_≡_, refl, sym, ap, _∙_, subst}
 use mathlib.Core.Option.{Option, none, some}
 use mathlib.Core.List.{List, _∷_}
-use Rattle.reader.specs.Result.{ok, _>>=_, need}
-use Rattle.rules.specs.Links.{Link, boxed, leadingBoxes}
-use Rattle.rules.specs.Environment.{live, Environment, Ty, fresh}
-use Rattle.rules.specs.Uses.{Unfinished}
-use Rattle.rules.specs.Rules.{Out, valued, judgeBox}
-use Rattle.machine.specs.Values.{cell, Value, owner, closed, openWith}
-use Rattle.machine.specs.Store.{Store, put, State}
-use Rattle.machine.specs.Run.{runBox}
-use Rattle.rules.proofs.Answers.{err≢ok}
-use Rattle.reader.proofs.Answers.{then}
-use Rattle.machine.proofs.StoreLaws.{put-same}
+use Rattle.syntax.specs.Result.{ok, _>>=_, need}
+use Rattle.statics.specs.Links.{Link, boxed, leadingBoxes}
+use Rattle.statics.specs.Environment.{live, Environment, Ty, fresh}
+use Rattle.statics.specs.Uses.{Unfinished}
+use Rattle.statics.specs.Rules.{Out, valued, judgeBox}
+use Rattle.dynamics.specs.Values.{cell, Value, owner, closed, openWith}
+use Rattle.dynamics.specs.Store.{Store, put, State}
+use Rattle.dynamics.specs.Run.{runBox}
+use Rattle.statics.proofs.Answers.{err≢ok}
+use Rattle.syntax.proofs.Answers.{then}
+use Rattle.dynamics.proofs.StoreLaws.{put-same}
 use Rattle.safety.proofs.Memory.{Name, inFlight, inDrop, var, Content, has, nameDec, var≢flight, drop≢flight}
 use Rattle.safety.proofs.NameMaps.{upd, upd-same, upd-other}
 use Rattle.safety.proofs.Lifted.{lift, lift-other, lift-flight}

@@ -5,12 +5,12 @@ use mathlib.Core.Logic.{_⊎_}
 use mathlib.Core.Bool.{true}
 use mathlib.Core.List.{List}
 use lib.ListN.{length}
-use Rattle.reader.specs.Script.{Place}
-use Rattle.rules.specs.Links.{leadingBoxes}
-use Rattle.rules.specs.Environment.{places, Variable, live, Environment}
-use Rattle.rules.specs.Follow.{isBorrow}
-use Rattle.rules.specs.Rules.{Located}
-use Rattle.rules.specs.Neat.{place, Among}
+use Rattle.syntax.specs.Script.{Place}
+use Rattle.statics.specs.Links.{leadingBoxes}
+use Rattle.statics.specs.Environment.{places, Variable, live, Environment}
+use Rattle.statics.specs.Follow.{isBorrow}
+use Rattle.statics.specs.Rules.{Located}
+use Rattle.statics.specs.Neat.{place, Among}
 
 -- The places met on the way from p: with each one that goes on behind a borrow link, the places that it goes on to.
 pub record Path (Γ : Environment) (p : Place) : Type 0 where

@@ -7,9 +7,9 @@ use mathlib.Core.Bool.{true, false≢true}
 use mathlib.Core.Option.{some}
 use mathlib.Core.List.{List, [], _∷_}
 use lib.ListN.{take, drop}
-use Rattle.reader.specs.Script.{Place}
-use Rattle.rules.specs.Links.{Link, boxed, shared, exclusive, leadingBoxes, noShared}
-use Rattle.rules.proofs.Answers.{none≢some}
+use Rattle.syntax.specs.Script.{Place}
+use Rattle.statics.specs.Links.{Link, boxed, shared, exclusive, leadingBoxes, noShared}
+use Rattle.statics.proofs.Answers.{none≢some}
 use Rattle.safety.proofs.Ghost.{Borrow, noBorrow, stale, sharedOf, exclusiveOf}
 use Rattle.safety.proofs.Typing.{borrowed, isExclusive, Fits}
 

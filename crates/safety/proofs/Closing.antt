@@ -3,14 +3,14 @@ use Prim.Native.Nat.{ℕ, zero-le}
 use mathlib.Core.Path.{_≡_, refl, sym, ap, _∙_, subst, fun-ext}
 use mathlib.Core.Logic.{_≢_, _⊎_, inl, inr}
 use mathlib.Core.List.{List, [], _∷_}
-use Rattle.reader.specs.Result.{ok}
-use Rattle.rules.specs.Environment.{}
-use Rattle.machine.specs.Values.{Location, variable, Value, Row, closed, openWith}
-use Rattle.machine.specs.Store.{Store, put, valueIn, State, withStore, Ran}
-use Rattle.machine.specs.Drop.{dropValue, closeAll}
-use Rattle.reader.proofs.Answers.{after}
-use Rattle.machine.proofs.StoreLaws.{put-same, put-other}
-use Rattle.machine.proofs.DropLaws.{drop-empty}
+use Rattle.syntax.specs.Result.{ok}
+use Rattle.statics.specs.Environment.{}
+use Rattle.dynamics.specs.Values.{Location, variable, Value, Row, closed, openWith}
+use Rattle.dynamics.specs.Store.{Store, put, valueIn, State, withStore, Ran}
+use Rattle.dynamics.specs.Drop.{dropValue, closeAll}
+use Rattle.syntax.proofs.Answers.{after}
+use Rattle.dynamics.proofs.StoreLaws.{put-same, put-other}
+use Rattle.dynamics.proofs.DropLaws.{drop-empty}
 use Rattle.safety.proofs.Memory.{Name, inDrop, var, Spot, top, Content, noRow, has, spotDec, Memory, eitherDec, var≢drop, has≢noRow, row-open}
 use Rattle.safety.proofs.Lifted.{spotOf, lift, spot-inj}
 use Rattle.safety.proofs.Ghost as Gh

@@ -6,22 +6,22 @@ use mathlib.Core.Bool.{true, false≢true}
 use mathlib.Core.Option.{none, some}
 use mathlib.Core.List.{List, [], _∷_}
 use lib.ListN.{drop}
-use Rattle.reader.specs.Result.{Result, ok, Refusal, _>>=_, need}
-use Rattle.reader.specs.Script.{Place}
-use Rattle.rules.specs.Links.{Link, boxed, shared, exclusive, leadingBoxes, copies}
-use Rattle.rules.specs.Environment.{sharedOf, borrowEnd, Environment, Ty, borrowsAt}
-use Rattle.rules.specs.Uses.{Unfinished, namedLater}
-use Rattle.rules.specs.Rules.{Out, numberTy, Located, judgeReadable, judgeCopy}
-use Rattle.machine.specs.Values.{Location, empty, reference, openWith}
-use Rattle.machine.specs.Store.{State}
-use Rattle.machine.specs.Locate.{locate, filled}
-use Rattle.machine.specs.Run.{runCopy}
-use Rattle.reader.proofs.Answers.{then, needed}
+use Rattle.syntax.specs.Result.{Result, ok, Refusal, _>>=_, need}
+use Rattle.syntax.specs.Script.{Place}
+use Rattle.statics.specs.Links.{Link, boxed, shared, exclusive, leadingBoxes, copies}
+use Rattle.statics.specs.Environment.{sharedOf, borrowEnd, Environment, Ty, borrowsAt}
+use Rattle.statics.specs.Uses.{Unfinished, namedLater}
+use Rattle.statics.specs.Rules.{Out, numberTy, Located, judgeReadable, judgeCopy}
+use Rattle.dynamics.specs.Values.{Location, empty, reference, openWith}
+use Rattle.dynamics.specs.Store.{State}
+use Rattle.dynamics.specs.Locate.{locate, filled}
+use Rattle.dynamics.specs.Run.{runCopy}
+use Rattle.syntax.proofs.Answers.{then, needed}
 use Rattle.safety.proofs.Memory.{Name, inFlight, var, Content, has, p-ref, var≢flight}
 use Rattle.safety.proofs.NameMaps.{upd, upd-same, upd-other}
 use Rattle.safety.proofs.Ghost as Gh
 use Rattle.safety.proofs.Typing.{boxes, Ref}
-use Rattle.rules.proofs.LinkChains.{drop-add}
+use Rattle.statics.proofs.LinkChains.{drop-add}
 use Rattle.safety.proofs.Certificates.{Whole}
 use Rattle.safety.proofs.Covering.{in-shared}
 use Rattle.safety.proofs.Inversion.{readable-ok}

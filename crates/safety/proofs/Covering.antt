@@ -6,13 +6,13 @@ use mathlib.Core.Logic.{_≢_}
 use mathlib.Core.Bool.{Bool, true, false, false≢true}
 use mathlib.Core.Option.{some}
 use mathlib.Core.List.{List}
-use Rattle.reader.specs.Script.{Place}
-use Rattle.rules.specs.Links.{Link, leadingBoxes}
-use Rattle.rules.specs.Environment.{Borrow, noBorrow, sharedOf, exclusiveOf, places, Variable, Slot, free, used, live, fresh, movedAway}
-use Rattle.rules.specs.Follow.{isBorrow}
-use Rattle.rules.specs.Neat.{Among}
-use Rattle.rules.proofs.Slots.{free≢live, used≢live}
-use Rattle.rules.proofs.Answers.{none≢some}
+use Rattle.syntax.specs.Script.{Place}
+use Rattle.statics.specs.Links.{Link, leadingBoxes}
+use Rattle.statics.specs.Environment.{Borrow, noBorrow, sharedOf, exclusiveOf, places, Variable, Slot, free, used, live, fresh, movedAway}
+use Rattle.statics.specs.Follow.{isBorrow}
+use Rattle.statics.specs.Neat.{Among}
+use Rattle.statics.proofs.Slots.{free≢live, used≢live}
+use Rattle.statics.proofs.Answers.{none≢some}
 use Rattle.safety.proofs.Ghost.{stale, vacant}
 use Rattle.safety.proofs.Ghost as Gh
 use Rattle.safety.proofs.Typing.{borrowed, isExclusive, boxes}

@@ -6,29 +6,29 @@ use mathlib.Core.Path.{_≡_, refl, sym, ap, _∙_, subst}
 use mathlib.Core.Bool.{true, false≢true}
 use mathlib.Core.Option.{Option, none, some}
 use mathlib.Core.List.{[], append-nil}
-use Rattle.reader.specs.Result.{ok, _>>=_}
-use Rattle.reader.specs.Limits.{Limits}
-use Rattle.reader.specs.Script.{Term, block, Terms}
-use Rattle.reader.specs.Within.{Within}
-use Rattle.rules.specs.Environment.{Environment, Ty}
-use Rattle.rules.specs.Uses.{finishing}
-use Rattle.reader.specs.Reader.{branch}
-use Rattle.reader.proofs.Building.{a-block}
-use Rattle.rules.specs.Judge.{judge, isAnswer, nothingTaken, judgeScript}
-use Rattle.machine.specs.Values.{Value, num}
-use Rattle.machine.specs.Store.{Store, State}
-use Rattle.machine.specs.Locate.{numberIn}
-use Rattle.machine.specs.Drop.{closeAll}
-use Rattle.rules.proofs.NeatJudged.{formed-lets}
-use Rattle.machine.specs.Run.{Outcome, runBlockEnd, begun, run, runs, runScript}
-use Rattle.machine.specs.Boxes.{boxesRun}
+use Rattle.syntax.specs.Result.{ok, _>>=_}
+use Rattle.syntax.specs.Limits.{Limits}
+use Rattle.syntax.specs.Script.{Term, block, Terms}
+use Rattle.syntax.specs.Within.{Within}
+use Rattle.statics.specs.Environment.{Environment, Ty}
+use Rattle.statics.specs.Uses.{finishing}
+use Rattle.syntax.specs.Reader.{branch}
+use Rattle.syntax.proofs.Building.{a-block}
+use Rattle.statics.specs.Judge.{judge, isAnswer, nothingTaken, judgeScript}
+use Rattle.dynamics.specs.Values.{Value, num}
+use Rattle.dynamics.specs.Store.{Store, State}
+use Rattle.dynamics.specs.Locate.{numberIn}
+use Rattle.dynamics.specs.Drop.{closeAll}
+use Rattle.statics.proofs.NeatJudged.{formed-lets}
+use Rattle.dynamics.specs.Run.{Outcome, runBlockEnd, begun, run, runs, runScript}
+use Rattle.dynamics.specs.Boxes.{boxesRun}
 use Rattle.safety.specs.Safety.{Safe, Demand3}
-use Rattle.rules.proofs.Answers.{err≢ok}
-use Rattle.machine.proofs.FaultLaws.{met-faults}
-use Rattle.reader.proofs.Answers.{then, needed}
+use Rattle.statics.proofs.Answers.{err≢ok}
+use Rattle.dynamics.proofs.FaultLaws.{met-faults}
+use Rattle.syntax.proofs.Answers.{then, needed}
 use Rattle.safety.proofs.EndNumbers.{end-numbers}
-use Rattle.machine.proofs.CellCounts.{count-given}
-use Rattle.machine.proofs.Counting.{taken-is, boxes-bound}
+use Rattle.dynamics.proofs.CellCounts.{count-given}
+use Rattle.dynamics.proofs.Counting.{taken-is, boxes-bound}
 use Rattle.safety.proofs.Inversion.{number-nil}
 use Rattle.safety.proofs.Invariant.{Invariant}
 use Rattle.safety.proofs.Soundness.{Sound, sound}

@@ -3,12 +3,12 @@ use Prim.Native.Nat.{ℕ, zero, suc, _≤_}
 use native.Mathlib.Omega.{arith}
 use mathlib.Core.Path.{_≡_, refl, sym, ap, _∙_, subst}
 use mathlib.Core.Logic.{_≢_}
-use Rattle.reader.specs.Result.{ok}
-use Rattle.machine.specs.Values.{Location, cell, Value, owner, Row, closed, givenBack, openWith}
-use Rattle.machine.specs.Store.{Store, put, State, withStore}
-use Rattle.machine.specs.Drop.{InOrder, dropValue}
-use Rattle.machine.proofs.StoreLaws.{put-same, put-other}
-use Rattle.machine.proofs.DropLaws.{without-in-order, drop-owner, drop-empty, drop-num, drop-reference}
+use Rattle.syntax.specs.Result.{ok}
+use Rattle.dynamics.specs.Values.{Location, cell, Value, owner, Row, closed, givenBack, openWith}
+use Rattle.dynamics.specs.Store.{Store, put, State, withStore}
+use Rattle.dynamics.specs.Drop.{InOrder, dropValue}
+use Rattle.dynamics.proofs.StoreLaws.{put-same, put-other}
+use Rattle.dynamics.proofs.DropLaws.{without-in-order, drop-owner, drop-empty, drop-num, drop-reference}
 use Rattle.safety.proofs.Memory.{Name, inDrop, Spot, inCell, Content, noRow, has, spotDec, Plain, p-empty, p-num, p-ref, Memory, row-open}
 use Rattle.safety.proofs.NameMaps.{upd, upd-same, upd-other}
 use Rattle.safety.proofs.Lifted.{spotOf, lift, spot-inj, lift-other, lift-drop}

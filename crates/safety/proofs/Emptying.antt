@@ -2,11 +2,11 @@
 use Prim.Native.Nat.{ℕ, _+_, _-_, zero-le}
 use mathlib.Core.Path.{_≡_, refl, sym, ap, _∙_, subst, fun-ext}
 use mathlib.Core.Logic.{_≢_}
-use Rattle.reader.specs.Result.{ok}
-use Rattle.machine.specs.Values.{Location, variable, Value, empty, Row, closed, openWith}
-use Rattle.machine.specs.Store.{Store, put, State, withStore}
-use Rattle.machine.specs.Drop.{dropValue}
-use Rattle.machine.proofs.StoreLaws.{put-same}
+use Rattle.syntax.specs.Result.{ok}
+use Rattle.dynamics.specs.Values.{Location, variable, Value, empty, Row, closed, openWith}
+use Rattle.dynamics.specs.Store.{Store, put, State, withStore}
+use Rattle.dynamics.specs.Drop.{dropValue}
+use Rattle.dynamics.proofs.StoreLaws.{put-same}
 use Rattle.safety.proofs.Memory.{Name, inFlight, inDrop, var, Spot, Content, noRow, has, nameDec, p-empty, Memory, var≢drop, drop≢flight}
 use Rattle.safety.proofs.NameMaps.{upd, upd-same, upd-other}
 use Rattle.safety.proofs.Lifted.{lift, lift-other, lift-drop, lift-flight}

@@ -3,11 +3,11 @@ use Prim.Native.Nat.{ℕ, zero, suc, _+_, _-_, _≤_, _<_}
 use native.Mathlib.Omega.{arith}
 use mathlib.Core.Path.{_≡_, refl, sym, ap, ap₂, _∙_}
 use mathlib.Core.List.{List, _++_, append-assoc}
-use Rattle.machine.specs.Values.{variable, cell, closed, givenBack}
-use Rattle.machine.specs.Store.{Store}
-use Rattle.machine.specs.Encode.{stateNumber, kindNumber, locationOf, payload, triple, encodeFrom, encode}
+use Rattle.dynamics.specs.Values.{variable, cell, closed, givenBack}
+use Rattle.dynamics.specs.Store.{Store}
+use Rattle.dynamics.specs.Encode.{stateNumber, kindNumber, locationOf, payload, triple, encodeFrom, encode}
 use Rattle.safety.specs.Safety.{closedRows, givenRows}
-use Rattle.machine.proofs.EncodeLaws.{variable-location, cell-location}
+use Rattle.dynamics.proofs.EncodeLaws.{variable-location, cell-location}
 
 module _ (n : ℕ) (S : Store) where
   from-split : (r a b : ℕ) → encodeFrom n r (a + b) S ≡ encodeFrom n r a S ++ encodeFrom n (r + a) b S

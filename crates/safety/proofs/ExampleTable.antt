@@ -2,26 +2,26 @@
 use Prim.Native.Nat.{ℕ}
 use mathlib.Core.Path.{_≡_, refl}
 use mathlib.Core.List.{List}
-use Rattle.reader.specs.Result
-use Rattle.reader.specs.Limits
-use Rattle.reader.specs.Kinds
-use Rattle.reader.specs.Layout.{bytesOf}
-use Rattle.reader.specs.Layout
-use Rattle.reader.specs.Measures
-use Rattle.rules.specs.Links
-use Rattle.rules.specs.Places
-use Rattle.rules.specs.Environment
-use Rattle.rules.specs.Follow
-use Rattle.rules.specs.Uses
-use Rattle.rules.specs.Bars
-use Rattle.rules.specs.Choice
-use Rattle.rules.specs.Rules
-use Rattle.rules.specs.Judge
-use Rattle.machine.specs.Store
-use Rattle.machine.specs.Locate
-use Rattle.machine.specs.Drop
-use Rattle.machine.specs.Signed
-use Rattle.machine.specs.Run
+use Rattle.syntax.specs.Result
+use Rattle.syntax.specs.Limits
+use Rattle.syntax.specs.Kinds
+use Rattle.syntax.specs.Layout.{bytesOf}
+use Rattle.syntax.specs.Layout
+use Rattle.syntax.specs.Measures
+use Rattle.statics.specs.Links
+use Rattle.statics.specs.Places
+use Rattle.statics.specs.Environment
+use Rattle.statics.specs.Follow
+use Rattle.statics.specs.Uses
+use Rattle.statics.specs.Bars
+use Rattle.statics.specs.Choice
+use Rattle.statics.specs.Rules
+use Rattle.statics.specs.Judge
+use Rattle.dynamics.specs.Store
+use Rattle.dynamics.specs.Locate
+use Rattle.dynamics.specs.Drop
+use Rattle.dynamics.specs.Signed
+use Rattle.dynamics.specs.Run
 use Rattle.safety.specs.Examples.{e1, e1Bytes, Line, lines, table}
 use Rattle.safety.specs.Examples
 

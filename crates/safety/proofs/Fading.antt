@@ -7,10 +7,10 @@ use mathlib.Core.Logic.{_≢_}
 use mathlib.Core.Option.{some}
 use mathlib.Core.List.{List, [], _∷_}
 use lib.ListN.{drop}
-use Rattle.reader.specs.Script.{Place}
-use Rattle.rules.specs.Links.{Link, boxed, shared, exclusive, leadingBoxes}
-use Rattle.machine.specs.Values.{Location, reference}
-use Rattle.rules.proofs.Answers.{none≢some}
+use Rattle.syntax.specs.Script.{Place}
+use Rattle.statics.specs.Links.{Link, boxed, shared, exclusive, leadingBoxes}
+use Rattle.dynamics.specs.Values.{Location, reference}
+use Rattle.statics.proofs.Answers.{none≢some}
 use Rattle.safety.proofs.Memory.{Name, inDrop, var, Spot, Content, has}
 use Rattle.safety.proofs.Ghost.{Borrow, noBorrow, stale, sharedOf, exclusiveOf, Variable, Slot, vacant, live}
 use Rattle.safety.proofs.Typing.{borrowed, Fits, boxes, Reach, here, hop, Ref, At, Holds, Typed}

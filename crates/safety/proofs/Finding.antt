@@ -7,18 +7,18 @@ use mathlib.Core.Bool.{true}
 use mathlib.Core.Option.{Option, none}
 use mathlib.Core.List.{List, []}
 use lib.ListN.{length, drop}
-use Rattle.reader.specs.Result.{ok}
-use Rattle.reader.specs.Script.{Place}
-use Rattle.rules.specs.Links.{Link, leadingBoxes}
-use Rattle.rules.specs.Environment.{Variable, live, Environment, Ty}
-use Rattle.rules.specs.Uses.{Unfinished}
-use Rattle.rules.specs.Follow.{isBorrow}
-use Rattle.rules.specs.Rules.{Located}
-use Rattle.rules.specs.Neat.{place, Among}
-use Rattle.rules.proofs.LinkChains.{boxes-drop}
-use Rattle.machine.specs.Values.{Location, Value, empty, num, Row, closed, openWith}
-use Rattle.machine.specs.Store.{State}
-use Rattle.machine.specs.Locate.{locate}
+use Rattle.syntax.specs.Result.{ok}
+use Rattle.syntax.specs.Script.{Place}
+use Rattle.statics.specs.Links.{Link, leadingBoxes}
+use Rattle.statics.specs.Environment.{Variable, live, Environment, Ty}
+use Rattle.statics.specs.Uses.{Unfinished}
+use Rattle.statics.specs.Follow.{isBorrow}
+use Rattle.statics.specs.Rules.{Located}
+use Rattle.statics.specs.Neat.{place, Among}
+use Rattle.statics.proofs.LinkChains.{boxes-drop}
+use Rattle.dynamics.specs.Values.{Location, Value, empty, num, Row, closed, openWith}
+use Rattle.dynamics.specs.Store.{State}
+use Rattle.dynamics.specs.Locate.{locate}
 use Rattle.safety.proofs.Memory.{Name, var, Spot, Plain, p-num}
 use Rattle.safety.proofs.Lifted.{spotOf, lift, lift-at}
 use Rattle.safety.proofs.Ghost as Gh

@@ -8,22 +8,22 @@ use mathlib.Core.List.{List, []}
 use lib.ListN.{length}
 use lib.Dec.{leb, ltb}
 use borrow.Author.Tests.{leb-true, leb-false, ltb-true, le-leb}
-use Rattle.reader.specs.Result.{ok, need, pick}
-use Rattle.reader.specs.Script.{Place}
-use Rattle.rules.specs.Links.{leadingBoxes}
-use Rattle.rules.specs.Places.{every, only}
-use Rattle.rules.specs.Environment.{Variable, Slot, free, used, live, Environment, Ty, holding}
-use Rattle.rules.specs.Uses.{Unfinished, namedLater}
-use Rattle.rules.specs.Follow.{Met, follow, ownLink, isBorrow, ownPath, wholeSlot, wholeThere, valueWhole}
-use Rattle.rules.specs.Rules.{inScope, reached, Located, judgePlace}
-use Rattle.rules.specs.Neat.{place, Among}
-use Rattle.rules.proofs.Answers.{scoped, was-found}
-use Rattle.rules.proofs.SetLaws.{every-in, only-in}
-use Rattle.rules.proofs.NeatPaths.{onward-in}
-use Rattle.rules.proofs.FollowClosed.{all-shut}
-use Rattle.machine.specs.Values.{Value}
-use Rattle.machine.specs.Store.{State}
-use Rattle.reader.proofs.Answers.{then, needed}
+use Rattle.syntax.specs.Result.{ok, need, pick}
+use Rattle.syntax.specs.Script.{Place}
+use Rattle.statics.specs.Links.{leadingBoxes}
+use Rattle.statics.specs.Places.{every, only}
+use Rattle.statics.specs.Environment.{Variable, Slot, free, used, live, Environment, Ty, holding}
+use Rattle.statics.specs.Uses.{Unfinished, namedLater}
+use Rattle.statics.specs.Follow.{Met, follow, ownLink, isBorrow, ownPath, wholeSlot, wholeThere, valueWhole}
+use Rattle.statics.specs.Rules.{inScope, reached, Located, judgePlace}
+use Rattle.statics.specs.Neat.{place, Among}
+use Rattle.statics.proofs.Answers.{scoped, was-found}
+use Rattle.statics.proofs.SetLaws.{every-in, only-in}
+use Rattle.statics.proofs.NeatPaths.{onward-in}
+use Rattle.statics.proofs.FollowClosed.{all-shut}
+use Rattle.dynamics.specs.Values.{Value}
+use Rattle.dynamics.specs.Store.{State}
+use Rattle.syntax.proofs.Answers.{then, needed}
 use Rattle.safety.proofs.Known.{by-name}
 use Rattle.safety.proofs.Certificates.{Path, Own, Passed, Whole}
 use Rattle.safety.proofs.Invariant.{Invariant}

@@ -3,14 +3,14 @@ use Prim.Native.Nat.{ℕ}
 use mathlib.Core.Path.{_≡_, refl, sym, ap, _∙_}
 use mathlib.Core.Logic.{_≢_, _⊎_, inl, inr}
 use mathlib.Core.Option.{Option, none, some}
-use Rattle.reader.specs.Result.{ok}
-use Rattle.rules.specs.Environment.{used, Environment, Ty}
-use Rattle.rules.specs.Uses.{Unfinished}
-use Rattle.rules.proofs.Slots.{used≢live}
-use Rattle.machine.specs.Values.{Value, empty, closed}
-use Rattle.machine.specs.Store.{State, withStore}
-use Rattle.machine.specs.Drop.{dropValue}
-use Rattle.machine.proofs.DropLaws.{drop-empty}
+use Rattle.syntax.specs.Result.{ok}
+use Rattle.statics.specs.Environment.{used, Environment, Ty}
+use Rattle.statics.specs.Uses.{Unfinished}
+use Rattle.statics.proofs.Slots.{used≢live}
+use Rattle.dynamics.specs.Values.{Value, empty, closed}
+use Rattle.dynamics.specs.Store.{State, withStore}
+use Rattle.dynamics.specs.Drop.{dropValue}
+use Rattle.dynamics.proofs.DropLaws.{drop-empty}
 use Rattle.safety.proofs.Memory.{Name, inFlight, inDrop, var, noRow, has, nameDec, eitherDec, var≢flight, drop≢flight}
 use Rattle.safety.proofs.NameMaps.{upd, upd-same, upd-other}
 use Rattle.safety.proofs.Ghost.{vacant}

@@ -6,8 +6,8 @@ use mathlib.Core.Logic.{_≢_, _⊎_, inl, inr}
 use mathlib.Core.Bool.{true}
 use mathlib.Core.Option.{some}
 use lib.ListN.{drop}
-use Rattle.reader.specs.Script.{Place}
-use Rattle.machine.specs.Values.{Value, num, reference}
+use Rattle.syntax.specs.Script.{Place}
+use Rattle.dynamics.specs.Values.{Value, num, reference}
 use Rattle.safety.proofs.Memory.{Name, inFlight, inDrop, var, Spot, Content, noRow, has, nameDec, var≢flight, drop≢flight}
 use Rattle.safety.proofs.Ghost.{Variable, Slot, live}
 use Rattle.safety.proofs.Typing.{borrowed, isExclusive, Fits, boxes, Ref, At, Holds, Typed, avoid-back, at-off}

@@ -6,10 +6,10 @@ use mathlib.Core.Logic.{_≢_, _⊎_, inl, inr}
 use mathlib.Core.Bool.{true}
 use mathlib.Core.Option.{some}
 use lib.ListN.{drop}
-use Rattle.reader.specs.Script.{Place}
-use Rattle.rules.specs.Links.{leadingBoxes}
-use Rattle.rules.proofs.LinkChains.{drop-add, boxes-drop}
-use Rattle.machine.specs.Values.{Value, empty, num, reference}
+use Rattle.syntax.specs.Script.{Place}
+use Rattle.statics.specs.Links.{leadingBoxes}
+use Rattle.statics.proofs.LinkChains.{drop-add, boxes-drop}
+use Rattle.dynamics.specs.Values.{Value, empty, num, reference}
 use Rattle.safety.proofs.Memory.{Name, inDrop, var, Spot, Content, noRow, has, nameDec, eitherDec}
 use Rattle.safety.proofs.NameMaps.{upd, upd-same, upd-other}
 use Rattle.safety.proofs.Ghost.{Variable, Slot, live, fresh, movedAway}

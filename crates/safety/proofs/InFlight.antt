@@ -3,10 +3,10 @@ use Prim.Native.Nat.{ℕ, _<_}
 use native.Mathlib.Omega.{arith}
 use mathlib.Core.Path.{_≡_, refl, ap}
 use mathlib.Core.Option.{Option, some}
-use Rattle.rules.specs.Environment.{live, Environment, Ty, fresh}
-use Rattle.rules.specs.Uses.{Unfinished}
-use Rattle.machine.specs.Values.{Location, Value, num, reference}
-use Rattle.machine.specs.Store.{State}
+use Rattle.statics.specs.Environment.{live, Environment, Ty, fresh}
+use Rattle.statics.specs.Uses.{Unfinished}
+use Rattle.dynamics.specs.Values.{Location, Value, num, reference}
+use Rattle.dynamics.specs.Store.{State}
 use Rattle.safety.proofs.Memory.{Name, inFlight, has}
 use Rattle.safety.proofs.Ghost.{stale}
 use Rattle.safety.proofs.Ghost as Gh

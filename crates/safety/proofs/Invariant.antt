@@ -6,14 +6,14 @@ use mathlib.Core.Logic.{_⊎_}
 use mathlib.Core.Bool.{true}
 use mathlib.Core.Option.{Option, none, some}
 use mathlib.Core.List.{List, [], _∷_}
-use Rattle.reader.specs.Script.{Place}
-use Rattle.rules.specs.Links.{leadingBoxes}
-use Rattle.rules.specs.Environment.{Borrow, places, Variable, Slot, used, live, Environment, Ty, fresh, levelOf, livesAt}
-use Rattle.rules.specs.Uses.{Unfinished, namedLater}
-use Rattle.rules.specs.Neat.{Among}
-use Rattle.rules.proofs.Slots.{used≢live}
-use Rattle.machine.specs.Values.{Value, empty, Row, closed, openWith}
-use Rattle.machine.specs.Store.{State}
+use Rattle.syntax.specs.Script.{Place}
+use Rattle.statics.specs.Links.{leadingBoxes}
+use Rattle.statics.specs.Environment.{Borrow, places, Variable, Slot, used, live, Environment, Ty, fresh, levelOf, livesAt}
+use Rattle.statics.specs.Uses.{Unfinished, namedLater}
+use Rattle.statics.specs.Neat.{Among}
+use Rattle.statics.proofs.Slots.{used≢live}
+use Rattle.dynamics.specs.Values.{Value, empty, Row, closed, openWith}
+use Rattle.dynamics.specs.Store.{State}
 use Rattle.safety.proofs.Memory.{Name, inFlight, inDrop, var, Spot, Content, noRow, Memory}
 use Rattle.safety.proofs.Lifted.{lift}
 use Rattle.safety.proofs.Ghost.{vacant}

@@ -7,18 +7,18 @@ use mathlib.Core.Bool.{Bool, true, false, false≢true, not}
 use mathlib.Core.List.{List, [], _∷_}
 use lib.Dec.{leb, ltb}
 use borrow.Author.Tests.{leb-true, leb-false, not-true, lt-ltb}
-use Rattle.reader.specs.Result.{ok, need, pick}
-use Rattle.reader.specs.Script.{Place}
-use Rattle.rules.specs.Links.{Link, leadingBoxes, isNumber}
-use Rattle.rules.specs.Environment.{Borrow, noBorrow, sharedOf, exclusiveOf, places, Variable, Slot, live, Environment, levelOf, livesAt, holding}
-use Rattle.rules.specs.Follow.{valueWhole}
-use Rattle.rules.specs.Uses.{Unfinished}
-use Rattle.rules.specs.Bars.{borrowsAny, borrowsExclusive, heldBy, inUse, readBarred, writeBarred}
-use Rattle.rules.specs.Rules.{Located, judgePlace, judgeReadable}
-use Rattle.rules.specs.Neat.{Among}
-use Rattle.rules.proofs.InUse.{held-not}
-use Rattle.rules.proofs.SetLaws.{every-in, rooted-in, rooted-not}
-use Rattle.reader.proofs.Answers.{then, needed}
+use Rattle.syntax.specs.Result.{ok, need, pick}
+use Rattle.syntax.specs.Script.{Place}
+use Rattle.statics.specs.Links.{Link, leadingBoxes, isNumber}
+use Rattle.statics.specs.Environment.{Borrow, noBorrow, sharedOf, exclusiveOf, places, Variable, Slot, live, Environment, levelOf, livesAt, holding}
+use Rattle.statics.specs.Follow.{valueWhole}
+use Rattle.statics.specs.Uses.{Unfinished}
+use Rattle.statics.specs.Bars.{borrowsAny, borrowsExclusive, heldBy, inUse, readBarred, writeBarred}
+use Rattle.statics.specs.Rules.{Located, judgePlace, judgeReadable}
+use Rattle.statics.specs.Neat.{Among}
+use Rattle.statics.proofs.InUse.{held-not}
+use Rattle.statics.proofs.SetLaws.{every-in, rooted-in, rooted-not}
+use Rattle.syntax.proofs.Answers.{then, needed}
 use Rattle.safety.proofs.Covering.{exclusiveIn}
 
 -- ---- who holds what

@@ -7,22 +7,22 @@ use mathlib.Core.Bool.{Bool, true, false, false≢true}
 use mathlib.Core.Option.{Option, none, some}
 use lib.Dec.{leb}
 use borrow.Author.Tests.{leb-true, leb-false}
-use Rattle.reader.specs.Result.{pick}
-use Rattle.reader.specs.Script.{Place}
-use Rattle.rules.specs.Links.{leadingBoxes}
-use Rattle.rules.specs.Places.{unite}
-use Rattle.rules.specs.Environment.{places, borrowEnd, Variable, Slot, free, used, live, Environment, Ty, fresh, borrowOf}
-use Rattle.rules.specs.Uses.{Unfinished}
-use Rattle.rules.specs.Choice.{carriedSlot, carried, movedFromOf, earlier, joinedSlot, joined, agreeing, either}
-use Rattle.rules.specs.Neat.{Among}
-use Rattle.rules.proofs.Slots.{free≢live, used≢live, carried-live, live-carried, joined-live}
-use Rattle.rules.proofs.LinkChains.{same-links}
-use Rattle.rules.proofs.SetLaws.{unite-left, unite-right}
-use Rattle.rules.proofs.NeatSteps.{Lives, Lived}
-use Rattle.machine.specs.Values.{empty}
-use Rattle.machine.specs.Store.{State, Ran}
-use Rattle.machine.specs.Run.{Outcome}
-use Rattle.rules.proofs.NeatBlocks.{joined-used}
+use Rattle.syntax.specs.Result.{pick}
+use Rattle.syntax.specs.Script.{Place}
+use Rattle.statics.specs.Links.{leadingBoxes}
+use Rattle.statics.specs.Places.{unite}
+use Rattle.statics.specs.Environment.{places, borrowEnd, Variable, Slot, free, used, live, Environment, Ty, fresh, borrowOf}
+use Rattle.statics.specs.Uses.{Unfinished}
+use Rattle.statics.specs.Choice.{carriedSlot, carried, movedFromOf, earlier, joinedSlot, joined, agreeing, either}
+use Rattle.statics.specs.Neat.{Among}
+use Rattle.statics.proofs.Slots.{free≢live, used≢live, carried-live, live-carried, joined-live}
+use Rattle.statics.proofs.LinkChains.{same-links}
+use Rattle.statics.proofs.SetLaws.{unite-left, unite-right}
+use Rattle.statics.proofs.NeatSteps.{Lives, Lived}
+use Rattle.dynamics.specs.Values.{empty}
+use Rattle.dynamics.specs.Store.{State, Ran}
+use Rattle.dynamics.specs.Run.{Outcome}
+use Rattle.statics.proofs.NeatBlocks.{joined-used}
 use Rattle.safety.proofs.Covering.{covered-live, live-covers}
 use Rattle.safety.proofs.Widening.{Wide, wide-same, wide-end, covered-wide}
 use Rattle.safety.proofs.Invariant.{Invariant}

@@ -2,8 +2,8 @@
 use Prim.Native.Nat.{ℕ}
 use mathlib.Core.Path.{_≡_, refl, sym, _∙_, subst}
 use mathlib.Core.Bool.{true}
-use Rattle.reader.specs.Script.{Place}
-use Rattle.rules.specs.Uses.{Unfinished, namedLater}
+use Rattle.syntax.specs.Script.{Place}
+use Rattle.statics.specs.Uses.{Unfinished, namedLater}
 use Rattle.safety.proofs.Memory.{Name, inFlight, var, var≢flight, Spot, Content}
 use Rattle.safety.proofs.Ghost.{Variable, Slot}
 use Rattle.safety.proofs.Typing.{Reach, here, hop, Holds, Typed}

@@ -1,13 +1,13 @@
 -- What is accepted under a set of limits is accepted under every set that is nowhere smaller, and its run is the same (LANGUAGE 2.8, 7.7).
 use Prim.Native.Nat.{ℕ}
 use mathlib.Core.Path.{_≡_, sym, ap, _∙_}
-use Rattle.reader.specs.Result.{ok}
-use Rattle.reader.specs.Limits.{Limits}
-use Rattle.reader.specs.Script.{Term}
-use Rattle.reader.proofs.MoreLimits.{within-more}
-use Rattle.rules.proofs.LargerJudge.{verdict-same}
-use Rattle.machine.specs.Store.{Store, State, Ran}
-use Rattle.machine.specs.Run.{runScript}
+use Rattle.syntax.specs.Result.{ok}
+use Rattle.syntax.specs.Limits.{Limits}
+use Rattle.syntax.specs.Script.{Term}
+use Rattle.syntax.proofs.MoreLimits.{within-more}
+use Rattle.statics.proofs.LargerJudge.{verdict-same}
+use Rattle.dynamics.specs.Store.{Store, State, Ran}
+use Rattle.dynamics.specs.Run.{runScript}
 use Rattle.safety.specs.Safety.{Safe}
 use Rattle.safety.specs.Larger.{SameEnd, LargerSets}
 use Rattle.safety.proofs.Demand3.{demand-three}

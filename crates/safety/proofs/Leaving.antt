@@ -4,7 +4,7 @@ use native.Mathlib.Omega.{arith}
 use native.Mathlib.Decide.{decLt}
 use mathlib.Core.Path.{_≡_, refl}
 use borrow.Author.Tests.{lt-ltb, le-ltb}
-use Rattle.rules.specs.Environment.{Variable, Slot, free, used, live, Environment, leaveSlot}
+use Rattle.statics.specs.Environment.{Variable, Slot, free, used, live, Environment, leaveSlot}
 use Rattle.safety.proofs.Memory.{Name, inFlight, inDrop, var}
 
 -- It is in scope, and lives deeper than the level.

@@ -6,24 +6,24 @@ use mathlib.Core.Bool.{true, false≢true}
 use mathlib.Core.Option.{none, some}
 use mathlib.Core.List.{List, _∷_}
 use lib.ListN.{length, drop}
-use Rattle.reader.specs.Script.{Place}
-use Rattle.rules.specs.Links.{Link, shared, leadingBoxes}
-use Rattle.rules.specs.Environment.{places, Variable, Slot, live, Environment, borrowOf, borrowsAt}
-use Rattle.rules.specs.Uses.{Unfinished, namedLater}
-use Rattle.rules.specs.Rules.{Located}
-use Rattle.rules.specs.Neat.{place, Among}
-use Rattle.machine.specs.Values.{empty}
-use Rattle.machine.specs.Store.{State}
+use Rattle.syntax.specs.Script.{Place}
+use Rattle.statics.specs.Links.{Link, shared, leadingBoxes}
+use Rattle.statics.specs.Environment.{places, Variable, Slot, live, Environment, borrowOf, borrowsAt}
+use Rattle.statics.specs.Uses.{Unfinished, namedLater}
+use Rattle.statics.specs.Rules.{Located}
+use Rattle.statics.specs.Neat.{place, Among}
+use Rattle.dynamics.specs.Values.{empty}
+use Rattle.dynamics.specs.Store.{State}
 use Rattle.safety.proofs.Memory.{Name, var}
 use Rattle.safety.proofs.Ghost as Gh
 use Rattle.safety.proofs.Typing.{borrowed, isExclusive, Fits, boxes, Reach, here, hop, Ref, Holds}
-use Rattle.rules.proofs.LinkChains.{boxes-drop}
+use Rattle.statics.proofs.LinkChains.{boxes-drop}
 use Rattle.safety.proofs.Chains.{fits-down, fits-shared}
 use Rattle.safety.proofs.Paths.{inv-hop}
 use Rattle.safety.proofs.OnPath.{agreed}
 use Rattle.safety.proofs.Known.{Known, by-name, by-holder, known-along}
 use Rattle.safety.proofs.Certificates.{Whole, root-whole}
-use Rattle.rules.proofs.SetLaws.{borrows-in}
+use Rattle.statics.proofs.SetLaws.{borrows-in}
 use Rattle.safety.proofs.Covering.{BorrowIn, borrow-among, borrow-known, Covered, covered-back, covered-whole}
 use Rattle.safety.proofs.Invariant.{Invariant}
 use Rattle.safety.proofs.Finding.{along, Found, whole-along}

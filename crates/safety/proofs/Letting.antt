@@ -6,17 +6,17 @@ use mathlib.Core.Path.{_≡_, refl, sym, ap, ap₂, _∙_, subst}
 use mathlib.Core.Logic.{_≢_, _⊎_, inl, inr}
 use mathlib.Core.Option.{Option, none, some}
 use mathlib.Core.List.{_∷_}
-use Rattle.reader.specs.Result.{ok, _>>=_, need}
-use Rattle.reader.specs.Script.{Place}
-use Rattle.rules.specs.Environment.{Variable, Slot, free, used, live, Environment, Ty, update, fresh}
-use Rattle.rules.specs.Uses.{Unfinished}
-use Rattle.rules.specs.Rules.{Out, valued, judgeLet}
-use Rattle.rules.proofs.Slots.{free≢live, used≢live, update-same, update-other}
-use Rattle.machine.specs.Values.{variable, Value, empty, closed, openWith}
-use Rattle.machine.specs.Store.{Store, put, isOpen, State}
-use Rattle.machine.specs.Run.{runLet}
-use Rattle.rules.proofs.Answers.{err≢ok}
-use Rattle.machine.proofs.StoreLaws.{put-same}
+use Rattle.syntax.specs.Result.{ok, _>>=_, need}
+use Rattle.syntax.specs.Script.{Place}
+use Rattle.statics.specs.Environment.{Variable, Slot, free, used, live, Environment, Ty, update, fresh}
+use Rattle.statics.specs.Uses.{Unfinished}
+use Rattle.statics.specs.Rules.{Out, valued, judgeLet}
+use Rattle.statics.proofs.Slots.{free≢live, used≢live, update-same, update-other}
+use Rattle.dynamics.specs.Values.{variable, Value, empty, closed, openWith}
+use Rattle.dynamics.specs.Store.{Store, put, isOpen, State}
+use Rattle.dynamics.specs.Run.{runLet}
+use Rattle.statics.proofs.Answers.{err≢ok}
+use Rattle.dynamics.proofs.StoreLaws.{put-same}
 use Rattle.safety.proofs.Memory.{Name, inFlight, inDrop, var, Spot, Content, noRow, has, p-empty, Memory, eitherDec, var≢flight, var≢drop, drop≢flight}
 use Rattle.safety.proofs.NameMaps.{upd, upd-same, upd-other}
 use Rattle.safety.proofs.Lifted.{lift, lift-other, lift-flight}

@@ -1,9 +1,9 @@
 -- The rows of names and cells in a store.
 use mathlib.Core.Path.{_≡_, refl, sym, ap, _∙_}
 use mathlib.Core.Logic.{_≢_}
-use Rattle.machine.specs.Values.{Location, variable, cell, Row}
-use Rattle.machine.specs.Store.{Store, put}
-use Rattle.machine.proofs.StoreLaws.{put-same, put-other}
+use Rattle.dynamics.specs.Values.{Location, variable, cell, Row}
+use Rattle.dynamics.specs.Store.{Store, put}
+use Rattle.dynamics.proofs.StoreLaws.{put-same, put-other}
 use Rattle.safety.proofs.Memory.{inFlight, inDrop, var, Spot, top, inCell, top≢cell}
 
 abbrev pub spotOf : Location → Spot

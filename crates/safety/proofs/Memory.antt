@@ -4,7 +4,7 @@ use native.Mathlib.Omega.{arith}
 use native.Mathlib.Decide.{ℕ-discrete, decLt}
 use mathlib.Core.Path.{_≡_, refl, sym, ap, _∙_}
 use mathlib.Core.Logic.{_≢_, _⊎_, inl, inr}
-use Rattle.machine.specs.Values.{Location, Value, empty, num, owner, reference, Row, closed, openWith}
+use Rattle.dynamics.specs.Values.{Location, Value, empty, num, owner, reference, Row, closed, openWith}
 
 -- Who has a value: the value in flight from term to term, the value being dropped, a variable of the script.
 pub data Name : Type 0 where

@@ -9,20 +9,20 @@ use mathlib.Core.Option.{none, some}
 use mathlib.Core.List.{List}
 use lib.ListN.{drop}
 use borrow.Author.Tests.{leb-true, not-true}
-use Rattle.reader.specs.Result.{ok, _>>=_, need}
-use Rattle.reader.specs.Script.{Place}
-use Rattle.rules.specs.Links.{Link, leadingBoxes}
-use Rattle.rules.specs.Environment.{Variable, live, Environment, update, fresh, movedAway}
-use Rattle.rules.specs.Uses.{Unfinished, namedLater}
-use Rattle.rules.specs.Follow.{valueWhole}
-use Rattle.rules.specs.Bars.{writeBarred}
-use Rattle.rules.specs.Rules.{Out, inScope, judgeMove}
-use Rattle.rules.proofs.Answers.{scoped}
-use Rattle.machine.specs.Values.{Location, variable, Value, empty, num, owner, reference, closed, openWith}
-use Rattle.machine.specs.Store.{Store, put, State, withStore}
-use Rattle.machine.specs.Locate.{locateFrom, locate, filled}
-use Rattle.machine.specs.Run.{runMove}
-use Rattle.reader.proofs.Answers.{then, needed}
+use Rattle.syntax.specs.Result.{ok, _>>=_, need}
+use Rattle.syntax.specs.Script.{Place}
+use Rattle.statics.specs.Links.{Link, leadingBoxes}
+use Rattle.statics.specs.Environment.{Variable, live, Environment, update, fresh, movedAway}
+use Rattle.statics.specs.Uses.{Unfinished, namedLater}
+use Rattle.statics.specs.Follow.{valueWhole}
+use Rattle.statics.specs.Bars.{writeBarred}
+use Rattle.statics.specs.Rules.{Out, inScope, judgeMove}
+use Rattle.statics.proofs.Answers.{scoped}
+use Rattle.dynamics.specs.Values.{Location, variable, Value, empty, num, owner, reference, closed, openWith}
+use Rattle.dynamics.specs.Store.{Store, put, State, withStore}
+use Rattle.dynamics.specs.Locate.{locateFrom, locate, filled}
+use Rattle.dynamics.specs.Run.{runMove}
+use Rattle.syntax.proofs.Answers.{then, needed}
 use Rattle.safety.proofs.Memory.{Name, inFlight, inDrop, var, Spot, top, Content, has, p-empty, Memory, eitherDec, var≢flight, var≢drop, drop≢flight, row-open, top-only}
 use Rattle.safety.proofs.NameMaps.{upd, upd-same, upd-other}
 use Rattle.safety.proofs.Lifted.{spotOf, lift, lift-other, lift-same, lift-flight}

@@ -1,7 +1,7 @@
 -- A map on names with one name changed.
 use mathlib.Core.Path.{_≡_, refl}
 use mathlib.Core.Logic.{_≢_}
-use Rattle.rules.proofs.Choose.{choose, choose-yes, choose-no}
+use Rattle.statics.proofs.Choose.{choose, choose-yes, choose-no}
 use Rattle.safety.proofs.Memory.{Name, nameDec}
 
 pub upd : {A : Type 0} → (Name → A) → Name → A → Name → A

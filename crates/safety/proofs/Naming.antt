@@ -3,7 +3,7 @@ use Prim.Native.Nat.{ℕ, _≤_, _<_}
 use native.Mathlib.Omega.{arith}
 use mathlib.Core.Path.{_≡_, refl, sym, ap, _∙_}
 use mathlib.Core.Logic.{_≢_, _⊎_, inl, inr}
-use Rattle.machine.specs.Values.{Value, Row, closed, openWith}
+use Rattle.dynamics.specs.Values.{Value, Row, closed, openWith}
 use Rattle.safety.proofs.Memory.{Name, Spot, top, inCell, Content, noRow, has, nameDec, Plain, Linked, Owned, Memory, top≢cell, has≢noRow, top-only}
 
 -- ---- a name opened, with a value that owns nothing

@@ -4,14 +4,14 @@ use native.Mathlib.Omega.{arith}
 use mathlib.Core.Path.{_≡_, refl, sym, ap, _∙_}
 use mathlib.Core.Bool.{true}
 use mathlib.Core.Option.{none, some}
-use Rattle.reader.specs.Script.{Place}
-use Rattle.rules.specs.Links.{leadingBoxes}
-use Rattle.rules.specs.Environment.{Environment, Ty}
-use Rattle.rules.specs.Uses.{Unfinished}
-use Rattle.rules.specs.Rules.{numberTy}
-use Rattle.machine.specs.Values.{Value, empty, num, closed, openWith}
-use Rattle.machine.specs.Store.{State}
-use Rattle.rules.proofs.Answers.{none≢some}
+use Rattle.syntax.specs.Script.{Place}
+use Rattle.statics.specs.Links.{leadingBoxes}
+use Rattle.statics.specs.Environment.{Environment, Ty}
+use Rattle.statics.specs.Uses.{Unfinished}
+use Rattle.statics.specs.Rules.{numberTy}
+use Rattle.dynamics.specs.Values.{Value, empty, num, closed, openWith}
+use Rattle.dynamics.specs.Store.{State}
+use Rattle.statics.proofs.Answers.{none≢some}
 use Rattle.safety.proofs.Memory.{Name, inFlight, inDrop, var, has, nameDec, Plain, p-num, var≢flight, drop≢flight}
 use Rattle.safety.proofs.NameMaps.{upd, upd-same, upd-other}
 use Rattle.safety.proofs.Lifted.{lift, lift-flight}

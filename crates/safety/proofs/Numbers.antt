@@ -3,16 +3,16 @@ use Prim.Native.Nat.{ℕ}
 use mathlib.Core.Path.{_≡_, refl}
 use mathlib.Core.Bool.{true}
 use mathlib.Core.Option.{none, some}
-use Rattle.reader.specs.Result.{ok, _>>=_}
-use Rattle.reader.specs.Script.{Place}
-use Rattle.rules.specs.Environment.{Environment}
-use Rattle.rules.specs.Uses.{Unfinished, namedLater}
-use Rattle.rules.specs.Rules.{numberTy, judgeReadable, judgeNumber}
-use Rattle.machine.specs.Values.{Location, empty, num, openWith}
-use Rattle.machine.specs.Store.{State, Ran}
-use Rattle.machine.specs.Locate.{locate, filled, numberIn}
-use Rattle.machine.specs.Run.{Outcome, runCopy, runNumber, runPair}
-use Rattle.reader.proofs.Answers.{then, needed}
+use Rattle.syntax.specs.Result.{ok, _>>=_}
+use Rattle.syntax.specs.Script.{Place}
+use Rattle.statics.specs.Environment.{Environment}
+use Rattle.statics.specs.Uses.{Unfinished, namedLater}
+use Rattle.statics.specs.Rules.{numberTy, judgeReadable, judgeNumber}
+use Rattle.dynamics.specs.Values.{Location, empty, num, openWith}
+use Rattle.dynamics.specs.Store.{State, Ran}
+use Rattle.dynamics.specs.Locate.{locate, filled, numberIn}
+use Rattle.dynamics.specs.Run.{Outcome, runCopy, runNumber, runPair}
+use Rattle.syntax.proofs.Answers.{then, needed}
 use Rattle.safety.proofs.Inversion.{number-nil, readable-ok}
 use Rattle.safety.proofs.Invariant.{Invariant}
 use Rattle.safety.proofs.Finding.{number-there}

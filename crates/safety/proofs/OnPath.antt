@@ -7,9 +7,9 @@ use mathlib.Core.Bool.{true}
 use mathlib.Core.Option.{some}
 use mathlib.Core.List.{List}
 use lib.ListN.{take, drop}
-use Rattle.reader.specs.Script.{Place}
-use Rattle.rules.specs.Links.{Link, noShared}
-use Rattle.rules.proofs.LinkChains.{drop-add}
+use Rattle.syntax.specs.Script.{Place}
+use Rattle.statics.specs.Links.{Link, noShared}
+use Rattle.statics.proofs.LinkChains.{drop-add}
 use Rattle.safety.proofs.Memory.{Name, var, Spot, Content, nameDec}
 use Rattle.safety.proofs.Ghost.{Variable, Slot, live}
 use Rattle.safety.proofs.Typing.{borrowed, isExclusive, boxes, Reach, here, hop, Holds, Typed}

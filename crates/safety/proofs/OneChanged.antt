@@ -5,11 +5,11 @@ use native.Mathlib.Decide.{ℕ-discrete}
 use mathlib.Core.Path.{_≡_, refl, sym, ap, _∙_, subst}
 use mathlib.Core.Logic.{_≢_}
 use mathlib.Core.Option.{Option}
-use Rattle.rules.specs.Environment.{Variable, Slot, used, live, Environment, Ty, update}
-use Rattle.rules.specs.Uses.{Unfinished}
-use Rattle.rules.proofs.Slots.{used≢live, update-same, update-other}
-use Rattle.machine.specs.Values.{Value}
-use Rattle.machine.specs.Store.{State}
+use Rattle.statics.specs.Environment.{Variable, Slot, used, live, Environment, Ty, update}
+use Rattle.statics.specs.Uses.{Unfinished}
+use Rattle.statics.proofs.Slots.{used≢live, update-same, update-other}
+use Rattle.dynamics.specs.Values.{Value}
+use Rattle.dynamics.specs.Store.{State}
 use Rattle.safety.proofs.Memory.{Name, var}
 use Rattle.safety.proofs.Ghost as Gh
 use Rattle.safety.proofs.Known.{Known}

@@ -3,7 +3,7 @@ use Prim.Native.Nat.{ℕ, suc, _≤_, _<_}
 use native.Mathlib.Omega.{arith}
 use mathlib.Core.Path.{_≡_, sym, ap, _∙_, subst}
 use mathlib.Core.Logic.{_≢_}
-use Rattle.machine.specs.Values.{Value, Row, closed, openWith}
+use Rattle.dynamics.specs.Values.{Value, Row, closed, openWith}
 use Rattle.safety.proofs.Memory.{Name, Spot, top, inCell, Content, noRow, has, nameDec, Plain, Linked, Owned, Memory, top≢cell, has≢noRow}
 
 module _ {H : Name → Content} {S : Spot → Row} {k : ℕ} {ρ : Name → ℕ → Spot} (m : Memory H S k ρ)

@@ -5,12 +5,12 @@ use native.Mathlib.Nat.{zero-add, suc-add}
 use native.Mathlib.Decide.{decLe, decLt}
 use mathlib.Core.Path.{_≡_, refl, sym, ap, ap₂, _∙_}
 use mathlib.Core.Option.{some}
-use Rattle.reader.specs.Result.{ok, _>>=_, need}
-use Rattle.reader.specs.Script.{Place}
-use Rattle.rules.specs.Links.{leadingBoxes}
-use Rattle.machine.specs.Values.{Location, variable, cell, Value, empty, num, owner, reference, Row, openWith}
-use Rattle.machine.specs.Store.{isOpen, State}
-use Rattle.machine.specs.Locate.{followed, locateFrom}
+use Rattle.syntax.specs.Result.{ok, _>>=_, need}
+use Rattle.syntax.specs.Script.{Place}
+use Rattle.statics.specs.Links.{leadingBoxes}
+use Rattle.dynamics.specs.Values.{Location, variable, cell, Value, empty, num, owner, reference, Row, openWith}
+use Rattle.dynamics.specs.Store.{isOpen, State}
+use Rattle.dynamics.specs.Locate.{followed, locateFrom}
 use Rattle.safety.proofs.Memory.{Name, var, Spot, Content, has, Memory, row-open}
 use Rattle.safety.proofs.Lifted.{spotOf, lift, lift-at}
 use Rattle.safety.proofs.Ghost.{Borrow, noBorrow, stale, sharedOf, exclusiveOf, Variable, Slot, live}

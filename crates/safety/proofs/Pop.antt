@@ -4,9 +4,9 @@ use native.Mathlib.Omega.{arith}
 use native.Mathlib.Decide.{ℕ-discrete}
 use mathlib.Core.Path.{_≡_, refl, sym, ap, _∙_}
 use mathlib.Core.Logic.{_≢_, _⊎_, inl, inr}
-use Rattle.machine.specs.Values.{Value, owner, Row, closed, givenBack, openWith}
-use Rattle.machine.proofs.Apart.{open≢closed}
-use Rattle.rules.proofs.Choose.{choose, choose-yes, choose-no}
+use Rattle.dynamics.specs.Values.{Value, owner, Row, closed, givenBack, openWith}
+use Rattle.dynamics.proofs.Apart.{open≢closed}
+use Rattle.statics.proofs.Choose.{choose, choose-yes, choose-no}
 use Rattle.safety.proofs.Memory.{Name, Spot, top, inCell, Content, has, nameDec, Linked, Owned, Memory, top≢cell, row-open, top-only}
 use Rattle.safety.proofs.OneName.{one-name, still-owned}
 

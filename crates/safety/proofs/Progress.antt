@@ -4,14 +4,14 @@ use native.Mathlib.Omega.{arith}
 use mathlib.Core.Path.{_≡_, refl, _∙_}
 use mathlib.Core.Option.{Option, none}
 use mathlib.Core.List.{_++_}
-use Rattle.reader.specs.Result.{ok, _>>=_}
-use Rattle.rules.specs.Environment.{Variable, used, live, Environment, Ty}
-use Rattle.rules.specs.Uses.{Unfinished}
-use Rattle.machine.specs.Values.{Value, empty}
-use Rattle.machine.specs.Store.{State, Ran}
-use Rattle.machine.specs.Run.{Outcome}
-use Rattle.reader.proofs.Answers.{after}
-use Rattle.rules.proofs.Finishing.{named-before}
+use Rattle.syntax.specs.Result.{ok, _>>=_}
+use Rattle.statics.specs.Environment.{Variable, used, live, Environment, Ty}
+use Rattle.statics.specs.Uses.{Unfinished}
+use Rattle.dynamics.specs.Values.{Value, empty}
+use Rattle.dynamics.specs.Store.{State, Ran}
+use Rattle.dynamics.specs.Run.{Outcome}
+use Rattle.syntax.proofs.Answers.{after}
+use Rattle.statics.proofs.Finishing.{named-before}
 use Rattle.safety.proofs.Invariant.{Invariant, later}
 
 -- r is the run of a term that is judged from Γ on and leads to Γ′, with a value of type o.

@@ -6,17 +6,17 @@ use mathlib.Core.Bool.{Bool, true, false}
 use mathlib.Core.Option.{Option, none, some}
 use mathlib.Core.List.{List, [], _∷_}
 use lib.Dec.{T, leb, leb→le}
-use Rattle.reader.specs.Result.{Result, ok, err, Refusal, need, _>>=_}
-use Rattle.reader.specs.Limits.{Limits}
-use Rattle.reader.specs.Script.{Place, Term, number, reading, copy, move, borrowShared, borrowExclusive, box, declare, assign, below, block, choice, sum, Terms, last, more}
-use Rattle.reader.specs.Kinds.{Kind, kNumber, kReading, kCopy, kMove, kShared, kExclusive, kBox, kLet, kAssign, kBelow, kBlock, kChoice, kSum, Field, word, until}
-use Rattle.reader.specs.Layout.{Form, inBytes, inRows}
-use Rattle.reader.specs.Reader.{Cursor, Reads, _>>=_ as _&_, done, expect, first, peek, skip, next, ranged, field, operands, zeroFields, restOfRow, known, kind, opening, counted, several, built, term, nothingLeft, over, script, mark, version, leading, wholeScript, answer, parse, decodeIn, decode}
-use Rattle.rules.specs.Environment.{Slot, free, used, live, Environment, Ty}
-use Rattle.rules.specs.Follow.{Met}
-use Rattle.rules.specs.Uses.{Unfinished}
-use Rattle.rules.specs.Rules.{inScope, reached, valued, judgePlace, judgeReadable, judgeCopy, judgeMove, recordedPlaces, judgeShared, judgeExclusive, judgeBox, judgeLet, judgeWrite, judgeAssign, judgeNumber, judgeBelow, judgeBlockEnd, judgeChoice}
-use Rattle.rules.specs.Judge.{judge, judges, judgeScript}
+use Rattle.syntax.specs.Result.{Result, ok, err, Refusal, need, _>>=_}
+use Rattle.syntax.specs.Limits.{Limits}
+use Rattle.syntax.specs.Script.{Place, Term, number, reading, copy, move, borrowShared, borrowExclusive, box, declare, assign, below, block, choice, sum, Terms, last, more}
+use Rattle.syntax.specs.Kinds.{Kind, kNumber, kReading, kCopy, kMove, kShared, kExclusive, kBox, kLet, kAssign, kBelow, kBlock, kChoice, kSum, Field, word, until}
+use Rattle.syntax.specs.Layout.{Form, inBytes, inRows}
+use Rattle.syntax.specs.Reader.{Cursor, Reads, _>>=_ as _&_, done, expect, first, peek, skip, next, ranged, field, operands, zeroFields, restOfRow, known, kind, opening, counted, several, built, term, nothingLeft, over, script, mark, version, leading, wholeScript, answer, parse, decodeIn, decode}
+use Rattle.statics.specs.Environment.{Slot, free, used, live, Environment, Ty}
+use Rattle.statics.specs.Follow.{Met}
+use Rattle.statics.specs.Uses.{Unfinished}
+use Rattle.statics.specs.Rules.{inScope, reached, valued, judgePlace, judgeReadable, judgeCopy, judgeMove, recordedPlaces, judgeShared, judgeExclusive, judgeBox, judgeLet, judgeWrite, judgeAssign, judgeNumber, judgeBelow, judgeBlockEnd, judgeChoice}
+use Rattle.statics.specs.Judge.{judge, judges, judgeScript}
 
 -- If the result is a refusal, its number is from a to b.
 pub record Only {A : Type 0} (a b : ℕ) (m : Result Refusal A) : Type 0 where

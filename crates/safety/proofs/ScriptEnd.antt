@@ -5,11 +5,11 @@ use mathlib.Core.Path.{_≡_, refl, sym, ap, _∙_, subst}
 use mathlib.Core.Logic.{_≢_}
 use mathlib.Core.Option.{some}
 use mathlib.Core.List.{List, []}
-use Rattle.rules.specs.Links.{Link, leadingBoxes}
-use Rattle.rules.specs.Environment.{Variable, live, Environment, Ty}
-use Rattle.rules.specs.Uses.{Unfinished}
-use Rattle.machine.specs.Values.{variable, cell, Value, num, Row, closed, givenBack, openWith}
-use Rattle.machine.specs.Store.{State}
+use Rattle.statics.specs.Links.{Link, leadingBoxes}
+use Rattle.statics.specs.Environment.{Variable, live, Environment, Ty}
+use Rattle.statics.specs.Uses.{Unfinished}
+use Rattle.dynamics.specs.Values.{variable, cell, Value, num, Row, closed, givenBack, openWith}
+use Rattle.dynamics.specs.Store.{State}
 use Rattle.safety.proofs.Memory.{Name, inFlight, inDrop, var, Spot, inCell, noRow, has, nameDec, var≢flight, top≢cell, has≢noRow}
 use Rattle.safety.proofs.Lifted.{lift}
 use Rattle.safety.proofs.Ghost as Gh

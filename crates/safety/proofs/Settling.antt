@@ -4,14 +4,14 @@ use Prim.Native.Nat.{ℕ, _<_}
 use mathlib.Core.Path.{_≡_, refl, sym, _∙_, subst}
 use mathlib.Core.Bool.{Bool, true, false, true≢false, Bool-discrete, not-eq-not}
 use mathlib.Core.Option.{Option, none}
-use Rattle.reader.specs.Script.{Place}
-use Rattle.rules.specs.Links.{leadingBoxes}
-use Rattle.rules.specs.Environment.{Variable, used, live, Environment, Ty}
-use Rattle.rules.specs.Uses.{Unfinished, namedLater}
-use Rattle.rules.specs.Bars.{inUse}
-use Rattle.rules.proofs.InUse.{in-use-held}
-use Rattle.machine.specs.Values.{Value, empty}
-use Rattle.machine.specs.Store.{State}
+use Rattle.syntax.specs.Script.{Place}
+use Rattle.statics.specs.Links.{leadingBoxes}
+use Rattle.statics.specs.Environment.{Variable, used, live, Environment, Ty}
+use Rattle.statics.specs.Uses.{Unfinished, namedLater}
+use Rattle.statics.specs.Bars.{inUse}
+use Rattle.statics.proofs.InUse.{in-use-held}
+use Rattle.dynamics.specs.Values.{Value, empty}
+use Rattle.dynamics.specs.Store.{State}
 use Rattle.safety.proofs.Memory.{Name, inFlight, inDrop, var}
 use Rattle.safety.proofs.Ghost.{vacant}
 use Rattle.safety.proofs.Ghost as Gh

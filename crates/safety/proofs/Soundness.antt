@@ -8,26 +8,26 @@ use mathlib.Core.Option.{Option, none, some}
 use mathlib.Core.List.{[], _∷_, _++_, append-assoc}
 use lib.ListN.{drop}
 use lib.Dec.{eqb}
-use Rattle.reader.specs.Result.{Result, ok, Refusal, _>>=_, need, pick}
-use Rattle.reader.specs.Script.{Place, Term, number, reading, copy, move, borrowShared, borrowExclusive, box, declare, assign, below, block, choice, sum, Terms, last, more}
-use Rattle.reader.specs.Measures.{sizes}
-use Rattle.rules.specs.Environment.{Slot, free, used, Environment, Ty, update, isFree, livesAt, leaveSlot, leave}
-use Rattle.rules.specs.Uses.{Unfinished, naming, finishing, finishingAll, namedLater}
-use Rattle.rules.specs.Choice.{carried, joined, agreeing, either}
-use Rattle.rules.specs.Rules.{Out, numberTy, judgeNumber, judgeBelow, judgeAssign, borrowIn, judgeBlockEnd, judgeChoice}
-use Rattle.rules.specs.Judge.{judge, judges}
-use Rattle.rules.proofs.Answers.{was-free}
-use Rattle.rules.proofs.Slots.{free≢live, used≢live, update-same, update-other, leave-live}
-use Rattle.rules.proofs.Finishing.{left-after, left-after-block, named-next, named-after, named-before}
-use Rattle.rules.proofs.InUse.{in-use-named}
-use Rattle.rules.specs.Neat.{LetsBelow, LetsBelowAll}
-use Rattle.rules.proofs.NeatSteps.{Lived}
-use Rattle.machine.specs.Values.{empty, num}
-use Rattle.machine.specs.Store.{State, Ran}
-use Rattle.machine.specs.Drop.{dropValue}
-use Rattle.machine.specs.Signed.{compared, heldSum}
-use Rattle.machine.specs.Run.{Outcome, runNumber, runPair, runBlockEnd, entered, run, runs}
-use Rattle.reader.proofs.Answers.{then, after, needed}
+use Rattle.syntax.specs.Result.{Result, ok, Refusal, _>>=_, need, pick}
+use Rattle.syntax.specs.Script.{Place, Term, number, reading, copy, move, borrowShared, borrowExclusive, box, declare, assign, below, block, choice, sum, Terms, last, more}
+use Rattle.syntax.specs.Measures.{sizes}
+use Rattle.statics.specs.Environment.{Slot, free, used, Environment, Ty, update, isFree, livesAt, leaveSlot, leave}
+use Rattle.statics.specs.Uses.{Unfinished, naming, finishing, finishingAll, namedLater}
+use Rattle.statics.specs.Choice.{carried, joined, agreeing, either}
+use Rattle.statics.specs.Rules.{Out, numberTy, judgeNumber, judgeBelow, judgeAssign, borrowIn, judgeBlockEnd, judgeChoice}
+use Rattle.statics.specs.Judge.{judge, judges}
+use Rattle.statics.proofs.Answers.{was-free}
+use Rattle.statics.proofs.Slots.{free≢live, used≢live, update-same, update-other, leave-live}
+use Rattle.statics.proofs.Finishing.{left-after, left-after-block, named-next, named-after, named-before}
+use Rattle.statics.proofs.InUse.{in-use-named}
+use Rattle.statics.specs.Neat.{LetsBelow, LetsBelowAll}
+use Rattle.statics.proofs.NeatSteps.{Lived}
+use Rattle.dynamics.specs.Values.{empty, num}
+use Rattle.dynamics.specs.Store.{State, Ran}
+use Rattle.dynamics.specs.Drop.{dropValue}
+use Rattle.dynamics.specs.Signed.{compared, heldSum}
+use Rattle.dynamics.specs.Run.{Outcome, runNumber, runPair, runBlockEnd, entered, run, runs}
+use Rattle.syntax.proofs.Answers.{then, after, needed}
 use Rattle.safety.proofs.Invariant.{Invariant, later}
 use Rattle.safety.proofs.Settling.{Settled, settle, is-settled}
 use Rattle.safety.proofs.Progress.{Progress, and-then, finished}

@@ -3,13 +3,13 @@ use Prim.Native.Nat.{ℕ}
 use native.Mathlib.Omega.{arith}
 use mathlib.Core.Path.{_≡_, refl}
 use mathlib.Core.Option.{none}
-use Rattle.rules.specs.Uses.{Unfinished}
-use Rattle.rules.specs.Judge.{nothingTaken}
-use Rattle.rules.proofs.Slots.{free≢live}
-use Rattle.machine.specs.Values.{Value, empty, closed}
-use Rattle.machine.specs.Store.{Store}
-use Rattle.machine.specs.Run.{begun}
-use Rattle.machine.proofs.Apart.{open≢closed}
+use Rattle.statics.specs.Uses.{Unfinished}
+use Rattle.statics.specs.Judge.{nothingTaken}
+use Rattle.statics.proofs.Slots.{free≢live}
+use Rattle.dynamics.specs.Values.{Value, empty, closed}
+use Rattle.dynamics.specs.Store.{Store}
+use Rattle.dynamics.specs.Run.{begun}
+use Rattle.dynamics.proofs.Apart.{open≢closed}
 use Rattle.safety.proofs.Memory.{inFlight, inDrop, var, Spot, top, inCell, noRow, has}
 use Rattle.safety.proofs.Lifted.{lift}
 use Rattle.safety.proofs.Ghost.{vacant}

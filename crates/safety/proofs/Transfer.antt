@@ -4,9 +4,9 @@ use native.Mathlib.Omega.{arith}
 use native.Mathlib.Decide.{decLt}
 use mathlib.Core.Path.{_≡_, refl, sym, ap, _∙_, subst}
 use mathlib.Core.Logic.{_≢_, _⊎_, inl, inr}
-use Rattle.machine.specs.Values.{Value, empty, Row, closed, openWith}
-use Rattle.machine.proofs.Apart.{open≢closed}
-use Rattle.rules.proofs.Choose.{choose, choose-yes, choose-no, choose-same}
+use Rattle.dynamics.specs.Values.{Value, empty, Row, closed, openWith}
+use Rattle.dynamics.proofs.Apart.{open≢closed}
+use Rattle.statics.proofs.Choose.{choose, choose-yes, choose-no, choose-same}
 use Rattle.safety.proofs.Memory.{Name, Spot, top, inCell, Content, noRow, has, nameDec, spotDec, Plain, p-empty, Linked, Owned, Memory, has≢noRow, row-open, top-only}
 
 -- Where the own links of z are afterwards.

@@ -6,9 +6,9 @@ use mathlib.Core.Bool.{Bool, true, false}
 use mathlib.Core.Option.{Option, none, some}
 use mathlib.Core.List.{List, [], _∷_}
 use lib.ListN.{length, take, drop}
-use Rattle.reader.specs.Script.{Place}
-use Rattle.rules.specs.Links.{Link, boxed, shared, exclusive, leadingBoxes, noShared}
-use Rattle.machine.specs.Values.{Location, empty, num, reference}
+use Rattle.syntax.specs.Script.{Place}
+use Rattle.statics.specs.Links.{Link, boxed, shared, exclusive, leadingBoxes, noShared}
+use Rattle.dynamics.specs.Values.{Location, empty, num, reference}
 use Rattle.safety.proofs.Memory.{Name, inDrop, var, Spot, Content, noRow, has}
 use Rattle.safety.proofs.Lifted.{spotOf}
 use Rattle.safety.proofs.Ghost.{Borrow, noBorrow, stale, sharedOf, exclusiveOf, Variable, Slot, live}

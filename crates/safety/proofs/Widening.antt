@@ -3,13 +3,13 @@ use Prim.Native.Nat.{suc, _≤_, _<_}
 use native.Mathlib.Omega.{arith}
 use mathlib.Core.Path.{_≡_, refl, sym, ap, _∙_, subst}
 use mathlib.Core.List.{List, [], _∷_}
-use Rattle.reader.specs.Script.{Place}
-use Rattle.rules.specs.Links.{Link, boxed, shared, exclusive, leadingBoxes}
-use Rattle.rules.specs.Places.{unite}
-use Rattle.rules.specs.Environment.{Borrow, noBorrow, sharedOf, exclusiveOf, places, borrowEnd, Variable, Slot, free, used, live, fresh, wider}
-use Rattle.rules.specs.Neat.{Among}
-use Rattle.rules.proofs.Slots.{free≢live, used≢live}
-use Rattle.rules.proofs.SetLaws.{unite-left, unite-right}
+use Rattle.syntax.specs.Script.{Place}
+use Rattle.statics.specs.Links.{Link, boxed, shared, exclusive, leadingBoxes}
+use Rattle.statics.specs.Places.{unite}
+use Rattle.statics.specs.Environment.{Borrow, noBorrow, sharedOf, exclusiveOf, places, borrowEnd, Variable, Slot, free, used, live, fresh, wider}
+use Rattle.statics.specs.Neat.{Among}
+use Rattle.statics.proofs.Slots.{free≢live, used≢live}
+use Rattle.statics.proofs.SetLaws.{unite-left, unite-right}
 use Rattle.safety.proofs.Memory.{Name}
 use Rattle.safety.proofs.Ghost as Gh
 use Rattle.safety.proofs.Typing.{Fits}

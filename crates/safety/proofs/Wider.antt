@@ -6,13 +6,13 @@ use native.Mathlib.Decide.{decLe}
 use mathlib.Core.Path.{_≡_, refl, sym, ap, _∙_, subst}
 use mathlib.Core.Logic.{_≢_}
 use mathlib.Core.Option.{Option, none}
-use Rattle.rules.specs.Links.{leadingBoxes}
-use Rattle.rules.specs.Environment.{Variable, Slot, free, used, live, Environment, Ty}
-use Rattle.rules.specs.Uses.{Unfinished}
-use Rattle.rules.proofs.Slots.{free≢live, used≢live}
-use Rattle.machine.specs.Values.{Value, Row, closed}
-use Rattle.machine.specs.Store.{State, Ran}
-use Rattle.machine.specs.Run.{Outcome}
+use Rattle.statics.specs.Links.{leadingBoxes}
+use Rattle.statics.specs.Environment.{Variable, Slot, free, used, live, Environment, Ty}
+use Rattle.statics.specs.Uses.{Unfinished}
+use Rattle.statics.proofs.Slots.{free≢live, used≢live}
+use Rattle.dynamics.specs.Values.{Value, Row, closed}
+use Rattle.dynamics.specs.Store.{State, Ran}
+use Rattle.dynamics.specs.Run.{Outcome}
 use Rattle.safety.proofs.Memory.{Name, inFlight, inDrop, var, Memory}
 use Rattle.safety.proofs.Lifted.{lift}
 use Rattle.safety.proofs.Ghost as Gh

@@ -8,13 +8,13 @@ use mathlib.Core.Bool.{Bool, true, false, false≢true}
 use mathlib.Core.List.{List, [], _∷_}
 use lib.Dec.{eqb}
 use borrow.Author.Tests.{eqb-true}
-use Rattle.reader.specs.Result.{pick}
-use Rattle.reader.specs.Script.{Place}
-use Rattle.rules.specs.Places.{someOf, rooted}
-use Rattle.rules.specs.Environment.{Borrow, Variable, Slot, free, used, live, Environment, update, fresh, refilled, wider, widened, single, write}
-use Rattle.rules.specs.Neat.{place, Among}
-use Rattle.rules.proofs.Slots.{free≢live, used≢live, update-same, update-other}
-use Rattle.rules.proofs.SetLaws.{rooted-in}
+use Rattle.syntax.specs.Result.{pick}
+use Rattle.syntax.specs.Script.{Place}
+use Rattle.statics.specs.Places.{someOf, rooted}
+use Rattle.statics.specs.Environment.{Borrow, Variable, Slot, free, used, live, Environment, update, fresh, refilled, wider, widened, single, write}
+use Rattle.statics.specs.Neat.{place, Among}
+use Rattle.statics.proofs.Slots.{free≢live, used≢live, update-same, update-other}
+use Rattle.statics.proofs.SetLaws.{rooted-in}
 use Rattle.safety.proofs.Widening.{Wide, wide-same, wide-old}
 use Rattle.safety.proofs.Wider.{Wider}
 

@@ -11,11 +11,11 @@ use mathlib.Core.Bool.{true}
 use mathlib.Core.Option.{some}
 use mathlib.Core.List.{List}
 use lib.ListN.{take, drop}
-use Rattle.reader.specs.Script.{Place}
-use Rattle.rules.specs.Links.{Link, leadingBoxes, noShared}
-use Rattle.rules.proofs.LinkChains.{drop-add, boxes-drop}
-use Rattle.machine.specs.Values.{Value, num, reference}
-use Rattle.rules.proofs.Choose.{choose, choose-yes, choose-no}
+use Rattle.syntax.specs.Script.{Place}
+use Rattle.statics.specs.Links.{Link, leadingBoxes, noShared}
+use Rattle.statics.proofs.LinkChains.{drop-add, boxes-drop}
+use Rattle.dynamics.specs.Values.{Value, num, reference}
+use Rattle.statics.proofs.Choose.{choose, choose-yes, choose-no}
 use Rattle.safety.proofs.Memory.{Name, inFlight, inDrop, var, Spot, Content, noRow, has, nameDec, var≢flight, var≢drop}
 use Rattle.safety.proofs.Ghost.{Variable, Slot, live, fresh}
 use Rattle.safety.proofs.Typing.{borrowed, isExclusive, boxes, Reach, here, hop, Ref, At, Holds, Typed, avoid-back, at-off}

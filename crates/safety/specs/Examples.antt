@@ -1,14 +1,14 @@
 -- Scripts E1 to E11 and some with a choice, what they come to, and what LANGUAGE says they come to: 8.4, and 3.31 and 4.23.
 use Prim.Native.Nat.{ℕ, zero, suc}
 use mathlib.Core.List.{List, [], _∷_}
-use Rattle.reader.specs.Result.{Result, ok, err, Refusal}
-use Rattle.reader.specs.Limits.{base}
-use Rattle.reader.specs.Script.{Place, Term, number, reading, copy, move, borrowShared, borrowExclusive, box, declare, assign, below, block, choice, sum, Terms, last, more}
-use Rattle.reader.specs.Measures.{size}
-use Rattle.rules.specs.Judge.{judgeScript}
-use Rattle.machine.specs.Values.{closed}
-use Rattle.machine.specs.Store.{State, Ran}
-use Rattle.machine.specs.Run.{runScript}
+use Rattle.syntax.specs.Result.{Result, ok, err, Refusal}
+use Rattle.syntax.specs.Limits.{base}
+use Rattle.syntax.specs.Script.{Place, Term, number, reading, copy, move, borrowShared, borrowExclusive, box, declare, assign, below, block, choice, sum, Terms, last, more}
+use Rattle.syntax.specs.Measures.{size}
+use Rattle.statics.specs.Judge.{judgeScript}
+use Rattle.dynamics.specs.Values.{closed}
+use Rattle.dynamics.specs.Store.{State, Ran}
+use Rattle.dynamics.specs.Run.{runScript}
 
 -- Places in the notation of LANGUAGE 1.5.
 abbrev v : ℕ → Place

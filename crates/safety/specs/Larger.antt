@@ -2,13 +2,13 @@
 -- smaller, and its run is the same.
 use Prim.Native.Nat.{ℕ}
 use mathlib.Core.Path.{_≡_}
-use Rattle.reader.specs.Result.{ok}
-use Rattle.reader.specs.Limits.{Limits}
-use Rattle.reader.specs.Larger.{NoSmaller}
-use Rattle.reader.specs.Script.{Term}
-use Rattle.reader.specs.Within.{Within}
-use Rattle.rules.specs.Judge.{judgeScript}
-use Rattle.machine.specs.Store.{Store}
+use Rattle.syntax.specs.Result.{ok}
+use Rattle.syntax.specs.Limits.{Limits}
+use Rattle.syntax.specs.Larger.{NoSmaller}
+use Rattle.syntax.specs.Script.{Term}
+use Rattle.syntax.specs.Within.{Within}
+use Rattle.statics.specs.Judge.{judgeScript}
+use Rattle.dynamics.specs.Store.{Store}
 use Rattle.safety.specs.Safety.{Safe}
 
 -- The judge says the same of a script within the smaller set, accepted or not: the number and the term of a refusal do not change.

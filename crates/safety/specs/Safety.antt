@@ -2,18 +2,18 @@
 use Prim.Native.Nat.{ℕ, zero, suc, _-_, _≤_, _<_}
 use mathlib.Core.Path.{_≡_}
 use mathlib.Core.List.{List, [], _∷_, _++_}
-use Rattle.reader.specs.Result.{ok}
-use Rattle.reader.specs.Limits.{Limits, storeRows}
-use Rattle.reader.specs.Script.{Term}
-use Rattle.reader.specs.Within.{Within}
-use Rattle.rules.specs.Judge.{judgeScript}
-use Rattle.machine.specs.Values.{variable, cell, closed, givenBack}
-use Rattle.machine.specs.Store.{Store, State, Fault}
-use Rattle.machine.specs.Encode.{encode}
-use Rattle.machine.specs.Drop.{cellsGivenBack}
-use Rattle.machine.specs.Run.{begun, runScript}
-use Rattle.machine.specs.Boxes.{boxesRun}
-use Rattle.machine.specs.Faults.{RunMeets}
+use Rattle.syntax.specs.Result.{ok}
+use Rattle.syntax.specs.Limits.{Limits, storeRows}
+use Rattle.syntax.specs.Script.{Term}
+use Rattle.syntax.specs.Within.{Within}
+use Rattle.statics.specs.Judge.{judgeScript}
+use Rattle.dynamics.specs.Values.{variable, cell, closed, givenBack}
+use Rattle.dynamics.specs.Store.{Store, State, Fault}
+use Rattle.dynamics.specs.Encode.{encode}
+use Rattle.dynamics.specs.Drop.{cellsGivenBack}
+use Rattle.dynamics.specs.Run.{begun, runScript}
+use Rattle.dynamics.specs.Boxes.{boxesRun}
+use Rattle.dynamics.specs.Faults.{RunMeets}
 
 -- Rows 0, 0, 0 and rows 2, 0, 0.
 unfoldable pub closedRows : ℕ → List ℕ

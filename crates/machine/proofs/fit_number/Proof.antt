@@ -2,7 +2,7 @@
 use mathlib.Core.Path.{refl, sym, _∙_}
 use borrow.Author.Tests.{eq-eqb, ne-eqb, not-true, not-false}
 use borrow.Author.Needs.{needs}
-use Rattle.machine.specs.Parts.{fitNumber}
+use Rattle.machine.specs.ScriptParts.{fitNumber}
 use Rattle.machine.proofs.fit_number.Statement.{statement}
 use Rattle.machine.proofs.fit_number.Tie as tie
 

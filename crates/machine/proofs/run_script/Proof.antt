@@ -1,6 +1,6 @@
 -- `machine::run_script` meets its contract. Assumes nothing.
 use Rattle.machine.proofs.ScriptLaws.{run-inside, run-ranged, script-begins, script-closes, script-faults, script-wrong, script-answers}
-use Rattle.reader.specs.Limits.{storeNumbers}
+use Rattle.syntax.specs.Limits.{storeNumbers}
 use borrow.Author.Needs.{needs}
 use native.Mathlib.Omega.{arith}
 use mathlib.Core.Path.{sym, ap, _∙_}

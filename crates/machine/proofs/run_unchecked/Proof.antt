@@ -1,7 +1,7 @@
 -- `machine::run_unchecked` meets its contract. Assumes nothing.
 use mathlib.Core.Path.{sym, ap, _∙_}
 use borrow.Author.Needs.{needs}
-use Rattle.reader.specs.Answers.{told}
+use Rattle.reader.specs.Outcomes.{told}
 use Rattle.reader.proofs.Promise.{rows-counted}
 use Rattle.machine.proofs.FitLaws.{unfit, all-fit}
 use Rattle.machine.proofs.ScriptLaws.{unfit-refused, rows-refused}

@@ -2,9 +2,9 @@
 use native.Mathlib.Omega.{arith}
 use mathlib.Core.Path.{sym, _∙_}
 use borrow.Author.Needs.{needs}
-use Rattle.reader.proofs.PackedLaws.{spanned-refused, spanned-fine}
-use Rattle.reader.proofs.RowSpans.{Words}
-use Rattle.reader.proofs.DueBlock.{due-refused, due-same}
+use Rattle.syntax.proofs.PackedLaws.{spanned-refused, spanned-fine}
+use Rattle.row_judge.proofs.RowSpans.{Words}
+use Rattle.row_judge.proofs.DueBlock.{due-refused, due-same}
 use Rattle.reader.proofs.RowsJudged.{judged-refused, judged-fit, judged-left, judged-count}
 use Rattle.reader.proofs.judge_given.Statement.{statement}
 use Rattle.reader.proofs.judge_given.Tie as tie

@@ -3,7 +3,7 @@ use native.Mathlib.Omega.{arith}
 use mathlib.Core.Path.{sym, _∙_}
 use borrow.Author.Needs.{needs}
 use borrow.Author.Tests.{not-true, not-false}
-use Rattle.reader.specs.Kinds.{newest}
+use Rattle.syntax.specs.Kinds.{newest}
 use Rattle.reader.proofs.RowsJudged.{other-set, other-length, judged-newest}
 use Rattle.reader.proofs.judge_rows.Statement.{statement}
 use Rattle.reader.proofs.judge_rows.Tie as tie

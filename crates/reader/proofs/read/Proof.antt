@@ -3,10 +3,10 @@ use native.Mathlib.Omega.{arith}
 use mathlib.Core.Path.{sym, _∙_}
 use borrow.Author.Needs.{needs}
 use borrow.Author.Tests.{not-true, not-false}
-use Rattle.reader.specs.Limits.{rowNumbers}
-use Rattle.reader.proofs.PackedLaws.{found-refused, found-fine}
+use Rattle.syntax.specs.Limits.{rowNumbers}
+use Rattle.syntax.proofs.PackedLaws.{found-refused, found-fine}
 use Rattle.reader.proofs.ReadLaws.{known-alike, read-set, read-long, read-rows, read-refused, read-room, read-fine}
-use Rattle.reader.proofs.Lists.{under-bytes}
+use Rattle.syntax.proofs.Lists.{under-bytes}
 use Rattle.reader.proofs.read.Statement.{statement}
 use Rattle.reader.proofs.read.Tie as tie
 

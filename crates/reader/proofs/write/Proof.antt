@@ -5,11 +5,11 @@ use mathlib.Core.Bool.{true}
 use lib.ListN.{length}
 use borrow.Author.Needs.{needs}
 use borrow.Author.Tests.{not-true, not-false}
-use Rattle.reader.specs.Kinds.{newest, knows}
-use Rattle.reader.specs.Limits.{inRanges, rowNumbers}
-use Rattle.reader.specs.RowParts.{judgedIn}
-use Rattle.reader.specs.Answers.{told}
-use Rattle.reader.proofs.Versions.{few-versions}
+use Rattle.syntax.specs.Kinds.{newest, knows}
+use Rattle.syntax.specs.Limits.{inRanges, rowNumbers}
+use Rattle.syntax.specs.RowParts.{judgedIn}
+use Rattle.reader.specs.Outcomes.{told}
+use Rattle.syntax.proofs.Versions.{few-versions}
 use Rattle.reader.proofs.OutputAnswers.{Judged, judged, set-refused, length-refused, version-refused, refused-rows, short-output, script-written}
 use Rattle.reader.proofs.write.Statement.{statement}
 use Rattle.reader.proofs.write.Tie as tie

@@ -1,6 +1,6 @@
 -- `room::call` meets its contract. Assumes nothing.
-use Rattle.reader.specs.Kinds.{newest}
-use Rattle.reader.proofs.Lists.{under-bytes}
+use Rattle.syntax.specs.Kinds.{newest}
+use Rattle.syntax.proofs.Lists.{under-bytes}
 use Rattle.reader.proofs.Promise.{read-judged}
 use Rattle.room.proofs.CallLaws.{call-unfit, fit-run, call-unread, call-read}
 use Rattle.room.proofs.CallSafe.{safe-call}

@@ -2,7 +2,7 @@
 use mathlib.Core.Path.{refl}
 use borrow.Author.Tests.{lt-ltb, le-ltb, not-true, not-false}
 use borrow.Author.Needs.{needs}
-use Rattle.reader.specs.Limits.{maxBytes}
+use Rattle.syntax.specs.Limits.{maxBytes}
 use Rattle.room.specs.Parts.{fitNumber}
 use Rattle.room.proofs.fit_number.Statement.{statement}
 use Rattle.room.proofs.fit_number.Tie as tie

@@ -1,7 +1,7 @@
 -- `roomscript::roomscript_call` meets its contract. Assumes nothing.
 use mathlib.Core.Path.{ap}
 use borrow.Author.Needs.{needs}
-use Rattle.roomscript.specs.Answers.{calledIn, inC}
+use Rattle.c_answers.specs.Answers.{calledIn, inC}
 use Rattle.roomscript.proofs.roomscript_call.Statement.{statement}
 use Rattle.roomscript.proofs.roomscript_call.Tie as tie
 

@@ -1,7 +1,7 @@
 -- `roomscript::roomscript_check` meets its contract. Assumes nothing.
 use mathlib.Core.Path.{_∙_, ap}
 use borrow.Author.Needs.{needs}
-use Rattle.roomscript.specs.Answers.{answerIn}
+use Rattle.c_answers.specs.Answers.{answerIn}
 use Rattle.roomscript.proofs.roomscript_check.Statement.{statement}
 use Rattle.roomscript.proofs.roomscript_check.Tie as tie
 

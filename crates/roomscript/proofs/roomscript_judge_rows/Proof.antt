@@ -1,7 +1,7 @@
 -- `roomscript::roomscript_judge_rows` meets its contract. Assumes nothing.
 use mathlib.Core.Path.{_∙_, ap}
 use borrow.Author.Needs.{needs}
-use Rattle.roomscript.specs.Answers.{answerIn}
+use Rattle.c_answers.specs.Answers.{answerIn}
 use Rattle.roomscript.proofs.roomscript_judge_rows.Statement.{statement}
 use Rattle.roomscript.proofs.roomscript_judge_rows.Tie as tie
 

@@ -1,7 +1,7 @@
 -- `roomscript::roomscript_read` meets its contract. Assumes nothing.
 use mathlib.Core.Path.{ap}
 use borrow.Author.Needs.{needs}
-use Rattle.roomscript.specs.Answers.{scriptIn, inC}
+use Rattle.c_answers.specs.Answers.{scriptIn, inC}
 use Rattle.roomscript.proofs.roomscript_read.Statement.{statement}
 use Rattle.roomscript.proofs.roomscript_read.Tie as tie
 

@@ -1,7 +1,7 @@
 -- `roomscript::roomscript_run` meets its contract. Assumes nothing.
 use mathlib.Core.Path.{ap}
 use borrow.Author.Needs.{needs}
-use Rattle.roomscript.specs.Answers.{ranIn, inC}
+use Rattle.c_answers.specs.Answers.{ranIn, inC}
 use Rattle.roomscript.proofs.roomscript_run.Statement.{statement}
 use Rattle.roomscript.proofs.roomscript_run.Tie as tie
 

@@ -1,7 +1,7 @@
 -- `roomscript::roomscript_run_unchecked` meets its contract. Assumes nothing.
 use mathlib.Core.Path.{ap}
 use borrow.Author.Needs.{needs}
-use Rattle.roomscript.specs.Answers.{uncheckedIn, inC}
+use Rattle.c_answers.specs.Answers.{uncheckedIn, inC}
 use Rattle.roomscript.proofs.roomscript_run_unchecked.Statement.{statement}
 use Rattle.roomscript.proofs.roomscript_run_unchecked.Tie as tie
 

@@ -1,7 +1,7 @@
 -- `roomscript::roomscript_write` meets its contract. Assumes nothing.
 use mathlib.Core.Path.{ap}
 use borrow.Author.Needs.{needs}
-use Rattle.roomscript.specs.Answers.{answerIn, inC}
+use Rattle.c_answers.specs.Answers.{answerIn, inC}
 use Rattle.roomscript.proofs.roomscript_write.Statement.{statement}
 use Rattle.roomscript.proofs.roomscript_write.Tie as tie
 

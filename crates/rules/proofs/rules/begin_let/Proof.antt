@@ -2,8 +2,8 @@
 use mathlib.Core.Path.{sym, _∙_}
 use borrow.Author.Needs.{needs}
 use borrow.Author.Tests.{not-true, not-false}
-use Rattle.reader.specs.Result.{need, _>>=_}
-use Rattle.rules.specs.Verdicts.{begun}
+use Rattle.syntax.specs.Result.{need, _>>=_}
+use Rattle.rules.specs.RuleAnswers.{begun}
 use Rattle.rules.proofs.rules.begin_let.Statement.{statement}
 use Rattle.rules.proofs.rules.begin_let.Tie as tie
 

@@ -1,7 +1,8 @@
 -- `rules::rules::judge_answer` meets its contract. Assumes nothing.
 use borrow.Author.Needs.{needs}
-use Rattle.reader.specs.Result.{need}
-use Rattle.rules.specs.Verdicts.{asRequirement, asValue}
+use Rattle.syntax.specs.Result.{need}
+use Rattle.rules.specs.RuleAnswers.{asRequirement}
+use Rattle.variables.specs.Verdicts.{asValue}
 use Rattle.rules.proofs.rules.judge_answer.Statement.{statement}
 use Rattle.rules.proofs.rules.judge_answer.Tie as tie
 

@@ -1,8 +1,8 @@
 -- `rules::rules::judge_below` meets its contract. Assumes nothing.
 use borrow.Author.Needs.{needs}
-use Rattle.reader.specs.Result.{_>>=_}
-use Rattle.rules.specs.Rules.{judgeBelow}
-use Rattle.rules.proofs.ToldLaws.{told-refused}
+use Rattle.syntax.specs.Result.{_>>=_}
+use Rattle.statics.specs.Rules.{judgeBelow}
+use Rattle.variables.proofs.ToldLaws.{told-refused}
 use Rattle.rules.proofs.PlaceLaws.{number-at, no-number}
 use Rattle.rules.proofs.rules.judge_below.Statement.{statement}
 use Rattle.rules.proofs.rules.judge_below.Tie as tie

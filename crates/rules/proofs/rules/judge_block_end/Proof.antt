@@ -2,12 +2,12 @@
 use mathlib.Core.Path.{ap, _∙_}
 use borrow.Author.Needs.{needs}
 use borrow.Author.Tests.{not-true, not-false}
-use Rattle.reader.specs.Result.{need, _>>=_}
-use Rattle.rules.specs.Rules.{judgeBlockEnd}
-use Rattle.rules.specs.Verdicts.{answeredAs}
-use Rattle.rules.proofs.ToldLaws.{told-refused}
+use Rattle.syntax.specs.Result.{need, _>>=_}
+use Rattle.statics.specs.Rules.{judgeBlockEnd}
+use Rattle.variables.specs.Verdicts.{answeredAs}
+use Rattle.variables.proofs.ToldLaws.{told-refused}
 use Rattle.rules.proofs.ValueLaws.{value-lives, block-left}
-use Rattle.rules.proofs.LeavingLaws.{around-in}
+use Rattle.paths.proofs.LeavingLaws.{around-in}
 use Rattle.rules.proofs.rules.judge_block_end.Statement.{statement}
 use Rattle.rules.proofs.rules.judge_block_end.Tie as tie
 

@@ -1,11 +1,11 @@
 -- `rules::rules::judge_box` meets its contract. Assumes nothing.
 use borrow.Author.Needs.{needs}
-use Rattle.reader.specs.Result.{_>>=_}
-use Rattle.rules.specs.Links.{leadingBoxes}
-use Rattle.rules.specs.Environment.{borrowEnd}
-use Rattle.rules.specs.Rules.{valued, judgeBox}
-use Rattle.rules.specs.Verdicts.{asValue}
-use Rattle.rules.proofs.ToldLaws.{told-refused}
+use Rattle.syntax.specs.Result.{_>>=_}
+use Rattle.statics.specs.Links.{leadingBoxes}
+use Rattle.statics.specs.Environment.{borrowEnd}
+use Rattle.statics.specs.Rules.{valued, judgeBox}
+use Rattle.variables.specs.Verdicts.{asValue}
+use Rattle.variables.proofs.ToldLaws.{told-refused}
 use Rattle.rules.proofs.rules.judge_box.Statement.{statement}
 use Rattle.rules.proofs.rules.judge_box.Tie as tie
 

@@ -4,16 +4,16 @@ use mathlib.Core.Path.{_≡_, sym, _∙_}
 use mathlib.Core.Bool.{true, false}
 use borrow.Author.Needs.{needs}
 use borrow.Author.Tests.{not-true, not-false}
-use Rattle.reader.specs.Result.{_>>=_}
-use Rattle.rules.specs.Links.{isNumber, copies}
-use Rattle.rules.specs.Follow.{valueWhole}
-use Rattle.rules.specs.Uses.{Unfinished}
-use Rattle.rules.specs.Bars.{readBarred}
-use Rattle.rules.specs.Rules.{judgeCopy}
-use Rattle.rules.specs.Chains.{chainOf}
-use Rattle.rules.specs.Table.{environmentOf, asPlace}
-use Rattle.rules.specs.Verdicts.{Named, Read}
-use Rattle.rules.proofs.ToldLaws.{told-refused}
+use Rattle.syntax.specs.Result.{_>>=_}
+use Rattle.statics.specs.Links.{isNumber, copies}
+use Rattle.statics.specs.Follow.{valueWhole}
+use Rattle.statics.specs.Uses.{Unfinished}
+use Rattle.statics.specs.Bars.{readBarred}
+use Rattle.statics.specs.Rules.{judgeCopy}
+use Rattle.variables.specs.Chains.{chainOf}
+use Rattle.variables.specs.Table.{environmentOf, asPlace}
+use Rattle.rules.specs.RuleAnswers.{Named, Read}
+use Rattle.variables.proofs.ToldLaws.{told-refused}
 use Rattle.rules.proofs.PlaceLaws.{whole-at, read-at, read-refused, copy-refused, copy-number}
 use Rattle.rules.proofs.LentLaws.{copy-asks, copy-lent}
 use Rattle.rules.proofs.rules.judge_copy.Statement.{statement}

@@ -6,12 +6,12 @@ use mathlib.Core.Bool.{true}
 use mathlib.Core.List.{List}
 use borrow.Author.Needs.{needs}
 use borrow.Author.Tests.{not-true, not-false}
-use Rattle.reader.specs.Result.{_>>=_}
-use Rattle.reader.specs.Script.{Place}
-use Rattle.rules.specs.Rules.{judgeExclusive}
-use Rattle.rules.specs.Table.{environmentOf, asPlace}
-use Rattle.rules.specs.Verdicts.{Named}
-use Rattle.rules.proofs.ToldLaws.{told-refused}
+use Rattle.syntax.specs.Result.{_>>=_}
+use Rattle.syntax.specs.Script.{Place}
+use Rattle.statics.specs.Rules.{judgeExclusive}
+use Rattle.variables.specs.Table.{environmentOf, asPlace}
+use Rattle.rules.specs.RuleAnswers.{Named}
+use Rattle.variables.proofs.ToldLaws.{told-refused}
 use Rattle.rules.proofs.PlaceLaws.{named-at, named-refused, named-live, named-inside, exclusive-moved, exclusive-shared, exclusive-barred, exclusive-there}
 use Rattle.rules.proofs.rules.judge_exclusive.Statement.{statement}
 use Rattle.rules.proofs.rules.judge_exclusive.Tie as tie

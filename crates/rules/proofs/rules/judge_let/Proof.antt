@@ -1,10 +1,10 @@
 -- `rules::rules::judge_let` meets its contract. Assumes nothing.
 use mathlib.Core.Path.{ap, _∙_}
 use borrow.Author.Needs.{needs}
-use Rattle.reader.specs.Result.{_>>=_}
-use Rattle.rules.specs.Rules.{valued, judgeLet}
-use Rattle.rules.specs.Verdicts.{asValue, answeredAs}
-use Rattle.rules.proofs.ToldLaws.{told-refused}
+use Rattle.syntax.specs.Result.{_>>=_}
+use Rattle.statics.specs.Rules.{valued, judgeLet}
+use Rattle.variables.specs.Verdicts.{asValue, answeredAs}
+use Rattle.variables.proofs.ToldLaws.{told-refused}
 use Rattle.rules.proofs.ValueLaws.{unrecorded, let-there}
 use Rattle.rules.proofs.rules.judge_let.Statement.{statement}
 use Rattle.rules.proofs.rules.judge_let.Tie as tie

@@ -6,12 +6,12 @@ use mathlib.Core.Bool.{true, false}
 use mathlib.Core.List.{List}
 use borrow.Author.Needs.{needs}
 use borrow.Author.Tests.{not-true, not-false}
-use Rattle.reader.specs.Script.{Place}
-use Rattle.rules.specs.Links.{leadingBoxes}
-use Rattle.rules.specs.Follow.{valueWhole}
-use Rattle.rules.specs.Table.{environmentOf, asPlace}
-use Rattle.rules.specs.Verdicts.{Named}
-use Rattle.rules.proofs.ToldLaws.{told-refused}
+use Rattle.syntax.specs.Script.{Place}
+use Rattle.statics.specs.Links.{leadingBoxes}
+use Rattle.statics.specs.Follow.{valueWhole}
+use Rattle.variables.specs.Table.{environmentOf, asPlace}
+use Rattle.rules.specs.RuleAnswers.{Named}
+use Rattle.variables.proofs.ToldLaws.{told-refused}
 use Rattle.rules.proofs.PlaceLaws.{named-at, move-refused, named-live, named-inside, whole-is}
 use Rattle.rules.proofs.MoveLaws.{boxes-is, move-passed, move-moved, move-barred, move-there}
 use Rattle.rules.proofs.rules.judge_move.Statement.{statement}

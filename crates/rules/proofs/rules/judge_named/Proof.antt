@@ -3,10 +3,10 @@ use Prim.Native.Nat.{ℕ}
 use native.Mathlib.Omega.{arith}
 use mathlib.Core.Path.{ap, ap₂, _∙_}
 use borrow.Author.Needs.{needs}
-use Rattle.rules.specs.Chains.{chainOf, restOf}
-use Rattle.rules.specs.Table.{linksAt, environmentOf, asPlace}
-use Rattle.rules.proofs.ChainLaws.{rest-there, rest-missing}
-use Rattle.rules.proofs.EntryLaws.{status-dead, outside-dead}
+use Rattle.variables.specs.Chains.{chainOf, restOf}
+use Rattle.variables.specs.Table.{linksAt, environmentOf, asPlace}
+use Rattle.variables.proofs.ChainLaws.{rest-there, rest-missing}
+use Rattle.variables.proofs.EntryLaws.{status-dead, outside-dead}
 use Rattle.rules.proofs.PlaceLaws.{name-unknown, named-root, name-short}
 use Rattle.rules.proofs.rules.judge_named.Statement.{statement}
 use Rattle.rules.proofs.rules.judge_named.Tie as tie

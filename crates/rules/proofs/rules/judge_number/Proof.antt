@@ -2,12 +2,12 @@
 use Prim.Native.Nat.{ℕ}
 use mathlib.Core.Path.{_≡_}
 use borrow.Author.Needs.{needs}
-use Rattle.reader.specs.Result.{need, _>>=_}
-use Rattle.rules.specs.Uses.{Unfinished}
-use Rattle.rules.specs.Bars.{readBarred}
-use Rattle.rules.specs.Rules.{judgeNumber}
-use Rattle.rules.specs.Table.{environmentOf, asPlace}
-use Rattle.rules.specs.Verdicts.{Read}
+use Rattle.syntax.specs.Result.{need, _>>=_}
+use Rattle.statics.specs.Uses.{Unfinished}
+use Rattle.statics.specs.Bars.{readBarred}
+use Rattle.statics.specs.Rules.{judgeNumber}
+use Rattle.variables.specs.Table.{environmentOf, asPlace}
+use Rattle.rules.specs.RuleAnswers.{Read}
 use Rattle.rules.proofs.PlaceLaws.{read-at, number-refused}
 use Rattle.rules.proofs.rules.judge_number.Statement.{statement}
 use Rattle.rules.proofs.rules.judge_number.Tie as tie

@@ -2,8 +2,8 @@
 use native.Mathlib.Omega.{arith}
 use mathlib.Core.Path.{_≡_}
 use borrow.Author.Needs.{needs}
-use Rattle.rules.specs.Table.{environmentOf, asPlace}
-use Rattle.rules.specs.Verdicts.{Named}
+use Rattle.variables.specs.Table.{environmentOf, asPlace}
+use Rattle.rules.specs.RuleAnswers.{Named}
 use Rattle.rules.proofs.PlaceLaws.{named-at, named-refused, named-live, named-inside, search-fits, place-moved, place-there}
 use Rattle.rules.proofs.OwnLaws.{found-own}
 use Rattle.rules.proofs.rules.judge_place.Statement.{statement}

@@ -4,8 +4,8 @@ use mathlib.Core.Bool.{true}
 use borrow.Author.Needs.{needs}
 use borrow.Author.Tests.{not-true, not-false}
 use Rattle.rules.specs.declared.rules.Readable.{Readable}
-use Rattle.rules.specs.Table.{environmentOf, asPlace}
-use Rattle.rules.specs.Verdicts.{Named, ReadableIs}
+use Rattle.variables.specs.Table.{environmentOf, asPlace}
+use Rattle.rules.specs.RuleAnswers.{Named, ReadableIs}
 use Rattle.rules.proofs.PlaceLaws.{named-at, named-live, whole-is, whole-there, whole-refused, readable-refused, readable-moved, readable-barred, readable-there}
 use Rattle.rules.proofs.rules.judge_readable.Statement.{statement}
 use Rattle.rules.proofs.rules.judge_readable.Tie as tie

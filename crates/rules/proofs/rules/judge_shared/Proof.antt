@@ -7,17 +7,17 @@ use mathlib.Core.List.{List}
 use mathlib.Core.Option.{none}
 use lib.ListN.{take}
 use borrow.Author.Needs.{needs}
-use Rattle.reader.specs.Result.{_>>=_}
-use Rattle.reader.specs.Script.{Place}
-use Rattle.rules.specs.Links.{lastShared}
-use Rattle.rules.specs.Follow.{valueWhole}
-use Rattle.rules.specs.Uses.{Unfinished}
-use Rattle.rules.specs.Bars.{readBarred}
-use Rattle.rules.specs.Rules.{judgeShared}
-use Rattle.rules.specs.Chains.{chainOf, asPassed}
-use Rattle.rules.specs.Table.{linksAt, environmentOf, asPlace}
-use Rattle.rules.specs.Verdicts.{Named, Read}
-use Rattle.rules.proofs.ToldLaws.{told-refused}
+use Rattle.syntax.specs.Result.{_>>=_}
+use Rattle.syntax.specs.Script.{Place}
+use Rattle.statics.specs.Links.{lastShared}
+use Rattle.statics.specs.Follow.{valueWhole}
+use Rattle.statics.specs.Uses.{Unfinished}
+use Rattle.statics.specs.Bars.{readBarred}
+use Rattle.statics.specs.Rules.{judgeShared}
+use Rattle.variables.specs.Chains.{chainOf, asPassed}
+use Rattle.variables.specs.Table.{linksAt, environmentOf, asPlace}
+use Rattle.rules.specs.RuleAnswers.{Named, Read}
+use Rattle.variables.proofs.ToldLaws.{told-refused}
 use Rattle.rules.proofs.PlaceLaws.{whole-at, read-at, read-refused, named-inside, shared-there}
 use Rattle.rules.proofs.LentLaws.{shared-asks, shared-lent}
 use Rattle.rules.proofs.rules.judge_shared.Statement.{statement}

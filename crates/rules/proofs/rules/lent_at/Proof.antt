@@ -1,8 +1,8 @@
 -- `rules::rules::lent_at` meets its contract. Assumes nothing.
 use native.Mathlib.Omega.{arith}
 use borrow.Author.Needs.{needs}
-use Rattle.rules.specs.Table.{variableAt}
-use Rattle.rules.proofs.EntryLaws.{live-inside}
+use Rattle.variables.specs.Table.{variableAt}
+use Rattle.variables.proofs.EntryLaws.{live-inside}
 use Rattle.rules.proofs.LentLaws.{lent-own, lent-low, lent-there, never-moved}
 use Rattle.rules.proofs.rules.lent_at.Statement.{statement}
 use Rattle.rules.proofs.rules.lent_at.Tie as tie

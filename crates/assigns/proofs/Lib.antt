@@ -1,0 +1,2 @@
+-- Laws on writes.
+pub mod AssignLaws

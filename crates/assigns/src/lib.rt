@@ -1,0 +1,3 @@
+// The rule of assign (LANGUAGE 3.25).
+
+pub mod assign; // assign.rt: the rule of assign

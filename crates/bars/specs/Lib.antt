@@ -1,0 +1,2 @@
+-- Who is named later, and who may lead to a root.
+pub mod Leading

@@ -1,0 +1,2 @@
+-- Answers in C's form, field by field.
+pub mod Answers

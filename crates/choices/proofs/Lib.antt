@@ -1,0 +1,4 @@
+-- Laws on the two blocks.
+pub mod RowLaws
+pub mod KeptLaws
+pub mod ChoiceLaws

@@ -1,0 +1,2 @@
+-- What the functions of a choice answer.
+pub mod Kept

@@ -1,0 +1,3 @@
+-- Laws on the notes.
+pub mod NoteLaws
+pub mod StoreLaws

@@ -1,0 +1,2 @@
+-- Where a place leads, as the code searches.
+pub mod Steps

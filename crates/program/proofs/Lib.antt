@@ -1,0 +1,4 @@
+-- Laws on lines and reports.
+pub mod LineLaws
+pub mod ReportLaws
+pub mod ExampleLines

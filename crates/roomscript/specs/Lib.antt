@@ -1,2 +1,0 @@
--- What the C interface answers.
-pub mod Answers

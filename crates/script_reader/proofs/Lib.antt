@@ -1,0 +1,5 @@
+-- Laws on whole scripts in bytes.
+pub mod VersionLaws
+pub mod ClearLaws
+pub mod ScriptLaws
+pub mod WholeLaws

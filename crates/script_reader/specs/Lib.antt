@@ -1,0 +1,2 @@
+-- What the reader of a script, in its named form, answers.
+pub mod Lent

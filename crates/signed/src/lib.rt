@@ -1,0 +1,3 @@
+// Signed numbers and their bits (LANGUAGE 4.9, 4.24).
+
+pub mod signed; // signed.rt: signed numbers and their bits

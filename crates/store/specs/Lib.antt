@@ -1,0 +1,3 @@
+-- What the functions on the lent store answer.
+pub mod Words
+pub mod StoreParts

@@ -1,0 +1,2 @@
+-- What judging one term answers.
+pub mod JudgeRows

@@ -1,0 +1,5 @@
+-- Laws on uses.
+pub mod EitherLaws
+pub mod RowUseLaws
+pub mod FoundUses
+pub mod BarredLaws

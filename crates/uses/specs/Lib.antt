@@ -1,0 +1,3 @@
+-- What the functions on uses answer.
+pub mod RowUses
+pub mod RowPlaces

@@ -1,0 +1,2 @@
+-- Laws on the bytes of rows.
+pub mod OutputLaws

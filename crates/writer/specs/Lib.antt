@@ -1,0 +1,2 @@
+-- What the parts of the writer's code answer.
+pub mod OutputParts
