@@ -1,5 +1,4 @@
 -- The theorems on reading, judging and writing scripts.
-pub mod SetFirst
 pub mod ReadLaws
 pub mod OutputTrees
 pub mod OutputAnswers

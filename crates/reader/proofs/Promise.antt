@@ -21,7 +21,7 @@ use Rattle.reader.specs.declared.Outcome.the-variants.{Count}
 use Rattle.reader.specs.declared.ReadOutcome.{ReadOutcome}
 use Rattle.reader.specs.declared.ReadOutcome.the-variants.{Script}
 use Rattle.syntax.proofs.Answers.{then, needed}
-use Rattle.reader.proofs.SetFirst.{set-taken}
+use Rattle.syntax.proofs.SetFirst.{set-taken}
 use Rattle.syntax.proofs.RoundTrip.{parsed, decodes, rows-length}
 
 -- What an accepted answer for rows says: the set is in its ranges, the rows have its length and decode.

@@ -20,7 +20,7 @@ use Rattle.syntax.specs.Answers.{Told, lengthsFit, parsedInto, onFit, readOf}
 use Rattle.reader.specs.Outcomes.{toldRead}
 use Rattle.reader.specs.declared.ReadOutcome.the-variants.{Script, Refused}
 use Rattle.syntax.specs.ByteParts as got
-use Rattle.reader.proofs.SetFirst.{set-refused}
+use Rattle.syntax.proofs.SetFirst.{set-refused}
 use Rattle.script_reader.proofs.ScriptLaws.{parse-is, parse-refused}
 use Rattle.syntax.proofs.Lengths.{laid-rows}
 use Rattle.script_reader.proofs.WholeLaws.{script-size}

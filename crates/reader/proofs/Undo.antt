@@ -20,7 +20,7 @@ use Rattle.syntax.specs.Within.{Under, Within, Allowed}
 use Rattle.syntax.specs.Answers.{Told, Answered, lengthsFit, parsedInto, onFit, readOf, rowsTree, judgedOf, givenWhole, writable, writtenInto, writtenOf}
 use Rattle.syntax.specs.Undo.{ReadAfterWrite, WriteAfterRead, JudgedAreRead, ReadIsAllowed, AllowedIsRead}
 use Rattle.reader.proofs.Promise.{tree-decoded}
-use Rattle.reader.proofs.SetFirst.{set-taken}
+use Rattle.syntax.proofs.SetFirst.{set-taken}
 use Rattle.syntax.proofs.Answers.{err-ok, then, needed}
 use Rattle.syntax.proofs.Versions.{known-says, known-does, version-most, newest-known}
 use Rattle.syntax.proofs.RoundTrip.{parsed, parses, decoded, decoded-in, decodes, decodes-in, byte-length, byte-most, rows-length}
