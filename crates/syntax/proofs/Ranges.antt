@@ -50,6 +50,10 @@ packs l h p e =
     let d : p / 65536 % 64 ≡ l .levels = rw y (omega (arith, r .levels)) in
     λ i. record { terms = a i; variables = b i; boxes = c i; levels = d i }
 
+-- Its number has nothing where a version would stand.
+pub packs-below : (l : Limits) → inRanges l ≡ true → (p : ℕ) → p ≡ l .terms * 4194304 + l .levels * 65536 + l .boxes * 256 + l .variables → p < 34359738368
+packs-below l h p e = let r = ranged l h in omega (arith, r .terms, r .levels, r .boxes, r .variables)
+
 -- A number of a high and a low part, divided by a unit that divides the high part's: the quotient and its remainder by a modulus that
 -- divides what is left. Stated for each field of a packed set.
 above : (q r : ℕ) → ((q * 34359738368 + r) / 4194304 % 8192 ≡ r / 4194304 % 8192) × ((q * 34359738368 + r) % 256 ≡ r % 256)

@@ -135,10 +135,10 @@ pub fn store_numbers(set: Limits) -> usize
 }
 
 // A set in its ranges (LANGUAGE 2.8) in one number, as functions that call themselves hand it down: a number goes in a
-// register, where a struct goes through memory at every call.
+// register, where a struct goes through memory at every call. It is below VERSION_UNIT, so that it has no version.
 pub fn packed(set: Limits) -> usize
     requires { ⌜ inRanges set ≡ true ⌝ }
-    ensures { λ r. ⌜ unpacked r ≡ set ⌝ }
+    ensures { λ r. ⌜ (unpacked r ≡ set) × (r < 34359738368) ⌝ }
 {
     let terms = set.terms as usize * TERMS_UNIT;
     let levels = set.levels as usize * LEVELS_UNIT;

@@ -1,7 +1,7 @@
 -- What the rules' functions answer, in the rules' terms: the refusal or the values of each case (LANGUAGE 3.17).
-use Prim.Native.Nat.{ℕ, _-_, _%_}
+use Prim.Native.Nat.{ℕ, _+_, _-_, _%_}
 use mathlib.Core.Path.{_≡_}
-use mathlib.Core.Bool.{Bool, not}
+use mathlib.Core.Bool.{Bool, false, not}
 use mathlib.Core.Option.{Option, none, some}
 use mathlib.Core.List.{List}
 use lib.ListN.{length}
@@ -37,6 +37,12 @@ unfoldable pub verdictOf : Told → Verdict
 verdictOf t =
     pick (leb 1099511627776 (t .code)) (verdict.Refused ((t .code - 1099511627776) % 4294967296))
     (pick (eqb (t .code) 0) (verdict.Fine value.None) (verdict.Fine (value.Of (record { links = (t .code - 1) % 4294967296; roots = t .roots }))))
+
+-- The one way in which a verdict is told: with these numbers, and with no roots but a value's.
+unfoldable pub ToldAs : Verdict → Told → Type 0
+ToldAs (verdict.Refused n) t = (t .code ≡ 1099511627776 + n) × ((x : ℕ) → has (t .roots) x ≡ false)
+ToldAs (verdict.Fine value.None) t = (t .code ≡ 0) × ((x : ℕ) → has (t .roots) x ≡ false)
+ToldAs (verdict.Fine (value.Of v)) t = (t .code ≡ v .links + 1) × (t .roots ≡ v .roots)
 
 -- The verdict of the term i, with the table afterwards: its own refusals are at i.
 unfoldable pub answeredAs : List ℕ → ℕ → Verdict → Judged Out

@@ -6,7 +6,7 @@ ghost use Rattle.statics.specs.Rules.{numberTy};
 ghost use Rattle.variables.specs.Chains.{linkOf, chainOf};
 ghost use Rattle.variables.specs.Table.{endIn};
 ghost use Rattle.variables.specs.declared.verdicts.Verdict.the-variants as verdict;
-ghost use Rattle.variables.specs.Verdicts.{verdictOf, typeOf, Answers, valueOf, atMost8};
+ghost use Rattle.variables.specs.Verdicts.{verdictOf, ToldAs, typeOf, Answers, valueOf, atMost8};
 use crate::chains::one_more_fits;
 use crate::chains::with_first;
 use crate::refusals;
@@ -65,7 +65,7 @@ pub fn verdict_of(told: Told) -> Verdict
 
 // A refusal (LANGUAGE 3.17), told.
 pub fn refused(number: u32) -> Told
-    ensures { λ r. ⌜ verdictOf r ≡ verdict.Refused number ⌝ }
+    ensures { λ r. ⌜ (verdictOf r ≡ verdict.Refused number) × ToldAs (verdict.Refused number) r ⌝ }
 {
     Told {
         code: REFUSED + number as u64,
@@ -75,7 +75,7 @@ pub fn refused(number: u32) -> Told
 
 // The value of an accepted term (LANGUAGE 3.4), told.
 pub fn fine(value: Value) -> Told
-    ensures { λ r. ⌜ verdictOf r ≡ verdict.Fine value ⌝ }
+    ensures { λ r. ⌜ (verdictOf r ≡ verdict.Fine value) × ToldAs (verdict.Fine value) r ⌝ }
 {
     match value {
         Value::None => Told {

@@ -28,7 +28,7 @@ run-block-requires c κs =
     let at-clear = at-packed .before .before .before in
     let known = at-clear .before .before .before .before in
     let start = known .before in
-    rw (at-packed .packed .ensures) (script-begins _ _ _ _ (start .pre .0) (λ j. omega (arith, known .shared-slice-known .given j)) _ (at-clear .clear .ensures) _ (start .pre .1))
+    rw (at-packed .packed .ensures .0) (script-begins _ _ _ _ (start .pre .0) (λ j. omega (arith, known .shared-slice-known .given j)) _ (at-clear .clear .ensures) _ (start .pre .1))
 
 close-block-requires : tie.Need-close-block-requires
 close-block-requires c κs =
@@ -37,14 +37,14 @@ close-block-requires c κs =
     let at-clear = at-packed .before .before .before in
     let known = at-clear .before .before .before .before in
     let start = known .before in
-    rw (at-packed .packed .ensures) (script-closes _ _ _ _ (start .pre .0) (λ j. omega (arith, known .shared-slice-known .given j)) _ (at-clear .clear .ensures) _ (start .pre .1) _ _ _ (rw (at-packed .packed .ensures) at (at-run-block .run-block .ensures)) (at-run-block .run-block .kept .1 .1 .1 .1 .1 .1 .0))
+    rw (at-packed .packed .ensures .0) (script-closes _ _ _ _ (start .pre .0) (λ j. omega (arith, known .shared-slice-known .given j)) _ (at-clear .clear .ensures) _ (start .pre .1) _ _ _ (rw (at-packed .packed .ensures .0) at (at-run-block .run-block .ensures)) (at-run-block .run-block .kept .1 .1 .1 .1 .1 .1 .0))
 
 same-length : tie.Need-same-length
 same-length c =
     let at-close-block = c .before .before .before .before in
     let at-packed = at-close-block .before .before .before .before .before .before .before .before .before .before .before in
     let start = at-packed .before .before .before .before .before .before .before .before in
-    at-close-block .close-block .ensures .tidy .long ∙ ap storeNumbers (at-packed .packed .ensures) ∙ sym (start .pre .0 .size)
+    at-close-block .close-block .ensures .tidy .long ∙ ap storeNumbers (at-packed .packed .ensures .0) ∙ sym (start .pre .0 .size)
 
 same-length-2 : tie.Need-same-length-2
 same-length-2 c = c .before .before .before .before .before .before .before .before .before .before .before .run-block .kept .1 .1 .1 .1 .1 .1 .0
@@ -57,14 +57,14 @@ returns c =
     let at-clear = at-packed .before .before .before in
     let known = at-clear .before .before .before .before in
     let start = known .before in
-    script-faults _ _ _ _ (start .pre .0) (λ j. omega (arith, known .shared-slice-known .given j)) _ (at-clear .clear .ensures) _ (start .pre .1) _ _ _ (rw (at-packed .packed .ensures) at (at-run-block .run-block .ensures)) _ _ (rw (at-packed .packed .ensures) at (at-close-block .close-block .ensures)) (c .if1 .taken)
+    script-faults _ _ _ _ (start .pre .0) (λ j. omega (arith, known .shared-slice-known .given j)) _ (at-clear .clear .ensures) _ (start .pre .1) _ _ _ (rw (at-packed .packed .ensures .0) at (at-run-block .run-block .ensures)) _ _ (rw (at-packed .packed .ensures .0) at (at-close-block .close-block .ensures)) (c .if1 .taken)
 
 same-length-3 : tie.Need-same-length-3
 same-length-3 c =
     let at-close-block = c .before .before .before .before .before .before in
     let at-packed = at-close-block .before .before .before .before .before .before .before .before .before .before .before in
     let start = at-packed .before .before .before .before .before .before .before .before in
-    at-close-block .close-block .ensures .tidy .long ∙ ap storeNumbers (at-packed .packed .ensures) ∙ sym (start .pre .0 .size)
+    at-close-block .close-block .ensures .tidy .long ∙ ap storeNumbers (at-packed .packed .ensures .0) ∙ sym (start .pre .0 .size)
 
 same-length-4 : tie.Need-same-length-4
 same-length-4 c = c .before .before .before .before .before .before .before .before .before .before .before .before .before .run-block .kept .1 .1 .1 .1 .1 .1 .0
@@ -78,7 +78,7 @@ returns-2 c =
     let at-clear = at-packed .before .before .before in
     let known = at-clear .before .before .before .before in
     let start = known .before in
-    script-wrong _ _ _ _ (start .pre .0) (λ j. omega (arith, known .shared-slice-known .given j)) _ (at-clear .clear .ensures) _ (start .pre .1) _ _ _ (rw (at-packed .packed .ensures) at (at-run-block .run-block .ensures)) _ _ (rw (at-packed .packed .ensures) at (at-close-block .close-block .ensures)) (at-if1 .if1 .left) (c .if2 .taken)
+    script-wrong _ _ _ _ (start .pre .0) (λ j. omega (arith, known .shared-slice-known .given j)) _ (at-clear .clear .ensures) _ (start .pre .1) _ _ _ (rw (at-packed .packed .ensures .0) at (at-run-block .run-block .ensures)) _ _ (rw (at-packed .packed .ensures .0) at (at-close-block .close-block .ensures)) (at-if1 .if1 .left) (c .if2 .taken)
 
 number-of-requires : tie.Need-number-of-requires
 number-of-requires c κs = search needs
@@ -88,7 +88,7 @@ same-length-5 c =
     let at-close-block = c .before .before .before .before .before .before .before in
     let at-packed = at-close-block .before .before .before .before .before .before .before .before .before .before .before in
     let start = at-packed .before .before .before .before .before .before .before .before in
-    at-close-block .close-block .ensures .tidy .long ∙ ap storeNumbers (at-packed .packed .ensures) ∙ sym (start .pre .0 .size)
+    at-close-block .close-block .ensures .tidy .long ∙ ap storeNumbers (at-packed .packed .ensures .0) ∙ sym (start .pre .0 .size)
 
 same-length-6 : tie.Need-same-length-6
 same-length-6 c = c .before .before .before .before .before .before .before .before .before .before .before .before .before .before .run-block .kept .1 .1 .1 .1 .1 .1 .0
@@ -104,7 +104,7 @@ returns-3 c =
     let known = at-clear .before .before .before .before in
     let start = known .before in
     let h : SFits w32 (c .number-of .result) = search needs in
-    script-answers _ _ _ _ (start .pre .0) (λ j. omega (arith, known .shared-slice-known .given j)) _ (at-clear .clear .ensures) _ (start .pre .1) _ _ _ (rw (at-packed .packed .ensures) at (at-run-block .run-block .ensures)) _ _ (rw (at-packed .packed .ensures) at (at-close-block .close-block .ensures)) (at-if1 .if1 .left) (at-if2 .if2 .left) _ (toZ-ofZ h ∙ c .number-of .ensures)
+    script-answers _ _ _ _ (start .pre .0) (λ j. omega (arith, known .shared-slice-known .given j)) _ (at-clear .clear .ensures) _ (start .pre .1) _ _ _ (rw (at-packed .packed .ensures .0) at (at-run-block .run-block .ensures)) _ _ (rw (at-packed .packed .ensures .0) at (at-close-block .close-block .ensures)) (at-if1 .if1 .left) (at-if2 .if2 .left) _ (toZ-ofZ h ∙ c .number-of .ensures)
 
 pub run-script-spec : {M : Type 1} → statement M
 run-script-spec =

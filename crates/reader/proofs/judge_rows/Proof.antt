@@ -30,11 +30,11 @@ with-version-requires : tie.Need-with-version-requires
 with-version-requires c κs = omega arith
 
 judge-given-requires : tie.Need-judge-given-requires
-judge-given-requires c κs = rw (c .with-version .ensures .0, c .before .packed .ensures) (sym (c .before .before .before .before .before .in-ranges .ensures) ∙ not-false (c .before .before .before .before .before .in-ranges .result) (c .before .before .before .before .if1 .left), c .before .before .if2 .left ∙ c .before .before .before .row-numbers .ensures)
+judge-given-requires c κs = rw (c .with-version .ensures .0, c .before .packed .ensures .0) (sym (c .before .before .before .before .before .in-ranges .ensures) ∙ not-false (c .before .before .before .before .before .in-ranges .result) (c .before .before .before .before .if1 .left), c .before .before .if2 .left ∙ c .before .before .before .row-numbers .ensures)
 
 returns-3 : tie.Need-returns-3
 unfolding newest
-returns-3 c = (rw (c .before .with-version .ensures .0, c .before .with-version .ensures .1, c .before .before .packed .ensures) at (c .judge-given .ensures)) ∙ judged-newest _ _ (sym (c .before .before .before .before .before .before .in-ranges .ensures) ∙ not-false (c .before .before .before .before .before .before .in-ranges .result) (c .before .before .before .before .before .if1 .left)) (c .before .before .before .if2 .left ∙ c .before .before .before .before .row-numbers .ensures)
+returns-3 c = (rw (c .before .with-version .ensures .0, c .before .with-version .ensures .1, c .before .before .packed .ensures .0) at (c .judge-given .ensures)) ∙ judged-newest _ _ (sym (c .before .before .before .before .before .before .in-ranges .ensures) ∙ not-false (c .before .before .before .before .before .before .in-ranges .result) (c .before .before .before .before .before .if1 .left)) (c .before .before .before .if2 .left ∙ c .before .before .before .before .row-numbers .ensures)
 
 pub judge-rows-spec : {M : Type 1} → statement M
 judge-rows-spec =

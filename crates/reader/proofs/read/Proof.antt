@@ -35,7 +35,7 @@ with-version-requires : tie.Need-with-version-requires
 with-version-requires c κs = omega (arith, c .newest-known .ensures .0)
 
 read-script-requires : tie.Need-read-script-requires
-read-script-requires c κs = rw (c .before .with-version .ensures .0, c .before .before .before .packed .ensures) (c .before .before .before .before .before .before .if2 .left, ((sym (c .before .before .before .before .before .before .before .before .in-ranges .ensures) ∙ not-false (c .before .before .before .before .before .before .before .before .in-ranges .result) (c .before .before .before .before .before .before .before .if1 .left)), c .before .before .before .before .if3 .left ∙ c .before .before .before .before .before .row-numbers .ensures))
+read-script-requires c κs = rw (c .before .with-version .ensures .0, c .before .before .before .packed .ensures .0) (c .before .before .before .before .before .before .if2 .left, ((sym (c .before .before .before .before .before .before .before .before .in-ranges .ensures) ∙ not-false (c .before .before .before .before .before .before .before .before .in-ranges .result) (c .before .before .before .before .before .before .before .if1 .left)), c .before .before .before .before .if3 .left ∙ c .before .before .before .before .before .row-numbers .ensures))
 
 clear-from-requires : tie.Need-clear-from-requires
 clear-from-requires c κs = search needs
@@ -47,14 +47,14 @@ same-length : tie.Need-same-length
 same-length c = search needs
 
 returns-4 : tie.Need-returns-4
-returns-4 c = let full = c .before .before .before .before .before .before .before .before .before .before .before .before .before .if3 .left ∙ c .before .before .before .before .before .before .before .before .before .before .before .before .before .before .row-numbers .ensures in let q = rw (c .before .before .before .before .before .before .before .before .before .before .with-version .ensures .0, c .before .before .before .before .before .before .before .before .before .before .with-version .ensures .1, c .before .before .before .before .before .before .before .before .before .before .before .before .packed .ensures) at (c .before .before .before .before .before .before .before .before .read-script .ensures) in rw (c .number-of .ensures) (read-refused _ _ _ _ (sym (c .before .before .before .before .before .before .before .before .before .before .before .before .before .before .before .before .before .in-ranges .ensures) ∙ not-false (c .before .before .before .before .before .before .before .before .before .before .before .before .before .before .before .before .before .in-ranges .result) (c .before .before .before .before .before .before .before .before .before .before .before .before .before .before .before .before .if1 .left)) (c .before .before .before .before .before .before .before .before .before .before .before .before .before .before .before .if2 .left) full _ _ q _ _ (found-refused _ (c .before .before .before .before .before .if4 .taken)) (c .before .before .before .before .before .before .before .before .read-script .kept .1 .1 .0 ∙ full) _ (c .before .before .before .clear-from .ensures) ∙ known-alike _ _ _ _ _ (c .before .before .before .before .before .before .before .before .before .before .before .newest-known .ensures .1))
+returns-4 c = let full = c .before .before .before .before .before .before .before .before .before .before .before .before .before .if3 .left ∙ c .before .before .before .before .before .before .before .before .before .before .before .before .before .before .row-numbers .ensures in let q = rw (c .before .before .before .before .before .before .before .before .before .before .with-version .ensures .0, c .before .before .before .before .before .before .before .before .before .before .with-version .ensures .1, c .before .before .before .before .before .before .before .before .before .before .before .before .packed .ensures .0) at (c .before .before .before .before .before .before .before .before .read-script .ensures) in rw (c .number-of .ensures) (read-refused _ _ _ _ (sym (c .before .before .before .before .before .before .before .before .before .before .before .before .before .before .before .before .before .in-ranges .ensures) ∙ not-false (c .before .before .before .before .before .before .before .before .before .before .before .before .before .before .before .before .before .in-ranges .result) (c .before .before .before .before .before .before .before .before .before .before .before .before .before .before .before .before .if1 .left)) (c .before .before .before .before .before .before .before .before .before .before .before .before .before .before .before .if2 .left) full _ _ q _ _ (found-refused _ (c .before .before .before .before .before .if4 .taken)) (c .before .before .before .before .before .before .before .before .read-script .kept .1 .1 .0 ∙ full) _ (c .before .before .before .clear-from .ensures) ∙ known-alike _ _ _ _ _ (c .before .before .before .before .before .before .before .before .before .before .before .newest-known .ensures .1))
 
 mul-clear-from : tie.Need-mul-clear-from
 mul-clear-from c = search needs
 
 clear-from-requires-2 : tie.Need-clear-from-requires-2
 unfolding rowNumbers
-clear-from-requires-2 c κs = let full = c .before .before .before .before .before .before .before .before .before .if3 .left ∙ c .before .before .before .before .before .before .before .before .before .before .row-numbers .ensures in let u = under-bytes (c .before .before .before .before .before .before .before .before .before .before .before .before .before .before .before .before .args .script .now) (c .before .before .before .before .before .before .before .before .before .before .before .before .before .before .before .shared-slice-known .given) in let q = rw (c .before .before .before .before .before .before .with-version .ensures .0, c .before .before .before .before .before .before .with-version .ensures .1, c .before .before .before .before .before .before .before .before .packed .ensures) at (c .before .before .before .before .read-script .ensures) in omega (arith, read-room _ _ _ _ (sym (c .before .before .before .before .before .before .before .before .before .before .before .before .before .in-ranges .ensures) ∙ not-false (c .before .before .before .before .before .before .before .before .before .before .before .before .before .in-ranges .result) (c .before .before .before .before .before .before .before .before .before .before .before .before .if1 .left)) (c .before .before .before .before .before .before .before .before .before .before .before .if2 .left) full _ _ q u _ _ _ (found-fine _ (c .before .if4 .left)), c .before .before .before .before .read-script .kept .1 .1 .0, full)
+clear-from-requires-2 c κs = let full = c .before .before .before .before .before .before .before .before .before .if3 .left ∙ c .before .before .before .before .before .before .before .before .before .before .row-numbers .ensures in let u = under-bytes (c .before .before .before .before .before .before .before .before .before .before .before .before .before .before .before .before .args .script .now) (c .before .before .before .before .before .before .before .before .before .before .before .before .before .before .before .shared-slice-known .given) in let q = rw (c .before .before .before .before .before .before .with-version .ensures .0, c .before .before .before .before .before .before .with-version .ensures .1, c .before .before .before .before .before .before .before .before .packed .ensures .0) at (c .before .before .before .before .read-script .ensures) in omega (arith, read-room _ _ _ _ (sym (c .before .before .before .before .before .before .before .before .before .before .before .before .before .in-ranges .ensures) ∙ not-false (c .before .before .before .before .before .before .before .before .before .before .before .before .before .in-ranges .result) (c .before .before .before .before .before .before .before .before .before .before .before .before .if1 .left)) (c .before .before .before .before .before .before .before .before .before .before .before .if2 .left) full _ _ q u _ _ _ (found-fine _ (c .before .if4 .left)), c .before .before .before .before .read-script .kept .1 .1 .0, full)
 
 cast-t23 : tie.Need-cast-t23
 cast-t23 c = omega (arith, c .before .before .before .before .if4 .left)
@@ -63,7 +63,7 @@ same-length-2 : tie.Need-same-length-2
 same-length-2 c = search needs
 
 returns-5 : tie.Need-returns-5
-returns-5 c = let full = c .before .before .before .before .before .before .before .before .before .before .before .before .if3 .left ∙ c .before .before .before .before .before .before .before .before .before .before .before .before .before .row-numbers .ensures in let u = under-bytes (c .before .before .before .before .before .before .before .before .before .before .before .before .before .before .before .before .before .before .before .args .script .now) (c .before .before .before .before .before .before .before .before .before .before .before .before .before .before .before .before .before .before .shared-slice-known .given) in let q = rw (c .before .before .before .before .before .before .before .before .before .with-version .ensures .0, c .before .before .before .before .before .before .before .before .before .with-version .ensures .1, c .before .before .before .before .before .before .before .before .before .before .before .packed .ensures) at (c .before .before .before .before .before .before .before .read-script .ensures) in read-fine _ _ _ _ (sym (c .before .before .before .before .before .before .before .before .before .before .before .before .before .before .before .before .in-ranges .ensures) ∙ not-false (c .before .before .before .before .before .before .before .before .before .before .before .before .before .before .before .before .in-ranges .result) (c .before .before .before .before .before .before .before .before .before .before .before .before .before .before .before .if1 .left)) (c .before .before .before .before .before .before .before .before .before .before .before .before .before .before .if2 .left) full _ _ q u _ _ _ (found-fine _ (c .before .before .before .before .if4 .left)) _ (c .before .before .clear-from2 .ensures) ∙ known-alike _ _ _ _ _ (c .before .before .before .before .before .before .before .before .before .before .newest-known .ensures .1)
+returns-5 c = let full = c .before .before .before .before .before .before .before .before .before .before .before .before .if3 .left ∙ c .before .before .before .before .before .before .before .before .before .before .before .before .before .row-numbers .ensures in let u = under-bytes (c .before .before .before .before .before .before .before .before .before .before .before .before .before .before .before .before .before .before .before .args .script .now) (c .before .before .before .before .before .before .before .before .before .before .before .before .before .before .before .before .before .before .shared-slice-known .given) in let q = rw (c .before .before .before .before .before .before .before .before .before .with-version .ensures .0, c .before .before .before .before .before .before .before .before .before .with-version .ensures .1, c .before .before .before .before .before .before .before .before .before .before .before .packed .ensures .0) at (c .before .before .before .before .before .before .before .read-script .ensures) in read-fine _ _ _ _ (sym (c .before .before .before .before .before .before .before .before .before .before .before .before .before .before .before .before .in-ranges .ensures) ∙ not-false (c .before .before .before .before .before .before .before .before .before .before .before .before .before .before .before .before .in-ranges .result) (c .before .before .before .before .before .before .before .before .before .before .before .before .before .before .before .if1 .left)) (c .before .before .before .before .before .before .before .before .before .before .before .before .before .before .if2 .left) full _ _ q u _ _ _ (found-fine _ (c .before .before .before .before .if4 .left)) _ (c .before .before .clear-from2 .ensures) ∙ known-alike _ _ _ _ _ (c .before .before .before .before .before .before .before .before .before .before .newest-known .ensures .1)
 
 pub read-spec : {M : Type 1} → statement M
 read-spec =

@@ -26,7 +26,7 @@ unfolding newest
 version-known c = sym (c .before .before .before .before .knows-version .ensures) ∙ not-false (c .before .before .before .before .knows-version .result) (c .before .before .before .if3 .left)
 
 rows-judged : (c : tie.After-judge-given) → told (c .judge-given .result) ≡ judgedIn (c .before .before .before .before .before .before .before .before .before .before .before .args .set) (c .before .before .before .before .before .before .before .before .before .before .before .args .version) (c .before .before .before .before .before .before .before .before .before .before .before .args .rows .now)
-rows-judged c = rw (c .before .with-version .ensures .0, c .before .with-version .ensures .1, c .before .before .packed .ensures) at (c .judge-given .ensures)
+rows-judged c = rw (c .before .with-version .ensures .0, c .before .with-version .ensures .1, c .before .before .packed .ensures .0) at (c .judge-given .ensures)
 
 -- Where they are judged to be a script's: its bytes are those of the rows.
 judged-rows : (c : tie.After-known-told) → Judged (c .before .before .before .before .before .before .before .before .before .before .before .before .before .before .args .set) (c .before .before .before .before .before .before .before .before .before .before .before .before .before .before .args .version) (c .before .before .before .before .before .before .before .before .before .before .before .before .before .before .args .rows .now) (c .before .judged .given .0 .0)
@@ -60,7 +60,7 @@ with-version-requires : tie.Need-with-version-requires
 with-version-requires c κs = omega (arith, few-versions _ _ (sym (c .before .before .knows-version .ensures) ∙ not-false (c .before .before .knows-version .result) (c .before .if3 .left)))
 
 judge-given-requires : tie.Need-judge-given-requires
-judge-given-requires c κs = rw (c .with-version .ensures .0, c .before .packed .ensures) (sym (c .before .before .before .before .before .before .before .in-ranges .ensures) ∙ not-false (c .before .before .before .before .before .before .before .in-ranges .result) (c .before .before .before .before .before .before .if1 .left), c .before .before .before .before .if2 .left ∙ c .before .before .before .before .before .row-numbers .ensures)
+judge-given-requires c κs = rw (c .with-version .ensures .0, c .before .packed .ensures .0) (sym (c .before .before .before .before .before .before .before .in-ranges .ensures) ∙ not-false (c .before .before .before .before .before .before .before .in-ranges .result) (c .before .before .before .before .before .before .if1 .left), c .before .before .before .before .if2 .left ∙ c .before .before .before .before .before .row-numbers .ensures)
 
 enum-known-judged : tie.Need-enum-known-judged
 enum-known-judged c = search needs

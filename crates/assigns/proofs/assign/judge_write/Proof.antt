@@ -20,7 +20,7 @@ refused-requires c κs = search needs
 
 returns : tie.Need-returns
 unfolding judgeWrite asValue valued _>>=_
-returns c = (λ i. told-refused _ _ (c .refused .ensures) _ i ∙ rw (c .before .enum-told .given .1), c .before .before .before .before .pre .0)
+returns c = (λ i. told-refused _ _ (c .refused .ensures .0) _ i ∙ rw (c .before .enum-told .given .1), c .before .before .before .before .pre .0)
 
 judge-place-requires : tie.Need-judge-place-requires
 judge-place-requires c κs = search needs
@@ -62,7 +62,7 @@ returns-2 c =
     let at-inner = at-judge-place .before .before .before in (
       λ i.
           let refused = located-as _ _ _ _ _ _ (at-judge-place .judge-place .ensures i) (at-located .located .given .1) in
-          told-refused _ _ (c .refused2 .ensures) _ i ∙ rw (at-inner .inner .given .1, refused) refl,
+          told-refused _ _ (c .refused2 .ensures .0) _ i ∙ rw (at-inner .inner .given .1, refused) refl,
       at-inner .before .before .before .pre .0,
     )
 

@@ -35,7 +35,7 @@ returns c =
     let at-index-of = at-no-shared .before in
     let start = at-index-of .before .before in
     let shared = passes-as _ _ _ _ _ (at-index-of .index-of .ensures) (at-no-shared .no-shared .ensures) (not-true (at-no-shared .no-shared .result) (c .before .if1 .taken)) in
-    (λ i. told-refused _ _ (c .refused .ensures) _ i ∙ sym (shared-passed _ _ _ (start .pre .0 .1 .1) i _ _ _ _ (start .pre .1 i) _ shared), start .pre .0 .0)
+    (λ i. told-refused _ _ (c .refused .ensures .0) _ i ∙ sym (shared-passed _ _ _ (start .pre .0 .1 .1) i _ _ _ _ (start .pre .1 i) _ shared), start .pre .0 .0)
 
 refused-requires-2 : tie.Need-refused-requires-2
 refused-requires-2 c κs = search needs
@@ -44,7 +44,7 @@ returns-2 : tie.Need-returns-2
 returns-2 c =
     let at-passed = c .before .before .before in
     let start = at-passed .before .before .before .before in
-    (λ i. told-refused _ _ (c .refused2 .ensures) _ i ∙ sym (other-links _ _ _ (start .pre .0 .1 .1) i _ _ _ _ (start .pre .1 i) _ (passed at-passed) (c .before .if2 .taken)), start .pre .0 .0)
+    (λ i. told-refused _ _ (c .refused2 .ensures .0) _ i ∙ sym (other-links _ _ _ (start .pre .0 .1 .1) i _ _ _ _ (start .pre .1 i) _ (passed at-passed) (c .before .if2 .taken)), start .pre .0 .0)
 
 recorded-roots-requires : tie.Need-recorded-roots-requires
 recorded-roots-requires c κs = search needs
@@ -67,7 +67,7 @@ returns-3 c =
     let at-same = at-recorded .before .before in
     let at-passed = at-same .before .before in
     let start = at-passed .before .before .before .before in (
-      λ i. told-refused _ _ (c .refused3 .ensures) _ i
+      λ i. told-refused _ _ (c .refused3 .ensures .0) _ i
           ∙ sym (lives-too-short _ _ _ (start .pre .0 .1 .1) i _ _ _ _ (start .pre .1 i) _ (passed at-passed) (at-same .if2 .left) _ (at-recorded .recorded-roots .ensures (start .args .env .now)) (at-live .live-long-enough .result) (at-live .live-long-enough .ensures) (not-true (at-live .live-long-enough .result) (c .before .if3 .taken))),
       start .pre .0 .0,
     )
@@ -93,7 +93,7 @@ returns-4 c =
     let at-same = at-recorded .before .before in
     let at-passed = at-same .before .before in
     let start = at-passed .before .before .before .before in (
-      λ i. told-fine _ _ (c .fine .ensures) _ i
+      λ i. told-fine _ _ (c .fine .ensures .0) _ i
           ∙ sym (written _ _ _ (start .pre .0 .1 .1) i _ _ _ _ (start .pre .1 i) _ (passed at-passed) (at-same .if2 .left) _ (at-recorded .recorded-roots .ensures (start .args .env .now)) (at-live .live-long-enough .result) (at-live .live-long-enough .ensures) (enough at-enough) _ (at-write-to .write-to .ensures .0)),
       at-write-to .write-to .ensures .1,
     )

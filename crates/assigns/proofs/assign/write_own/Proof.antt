@@ -15,7 +15,7 @@ refused-requires c κs = search needs
 returns : tie.Need-returns
 returns c =
     let start = c .before .before .before .before in
-    (λ i. told-refused _ _ (c .refused .ensures) _ i ∙ sym (own-other-links _ _ (start .pre .0) i _ (start .pre .1 i) _ (c .before .if1 .taken)), start .pre .0 .0)
+    (λ i. told-refused _ _ (c .refused .ensures .0) _ i ∙ sym (own-other-links _ _ (start .pre .0) i _ (start .pre .1 i) _ (c .before .if1 .taken)), start .pre .0 .0)
 
 index-of-requires : tie.Need-index-of-requires
 index-of-requires c κs = search needs
@@ -43,7 +43,7 @@ returns-2 c =
     let at-index-of = at-recorded .before .before in
     let at-same = at-index-of .before in
     let start = at-same .before .before .before in (
-      λ i. told-refused _ _ (c .refused2 .ensures) _ i
+      λ i. told-refused _ _ (c .refused2 .ensures .0) _ i
           ∙ sym (own-too-short _ _ (start .pre .0) i _ (start .pre .1 i) _ (at-same .if1 .left) _ (at-recorded .recorded-roots .ensures (start .args .env .now)) _ (at-index-of .index-of .ensures) _ (at-level .level-at .ensures) (at-lives .lives-at .result) (at-lives .lives-at .ensures) (not-true (at-lives .lives-at .result) (c .before .if2 .taken))),
       start .pre .0 .0,
     )
@@ -71,7 +71,7 @@ returns-3 c =
     let at-index-of = at-recorded .before .before in
     let at-same = at-index-of .before in
     let start = at-same .before .before .before in (
-      λ i. told-fine _ _ (c .fine .ensures) _ i
+      λ i. told-fine _ _ (c .fine .ensures .0) _ i
           ∙ sym (own-written _ _ (start .pre .0) i _ (start .pre .1 i) _ (at-same .if1 .left) _ (at-recorded .recorded-roots .ensures (start .args .env .now)) _ (at-index-of .index-of .ensures) _ (at-level .level-at .ensures) (at-lives .lives-at .result) (at-lives .lives-at .ensures) (not-false (at-lives .lives-at .result) (at-enough .if2 .left)) _ (at-refill .refill .ensures .0)),
       at-refill .refill .ensures .1,
     )

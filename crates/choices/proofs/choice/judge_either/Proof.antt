@@ -29,7 +29,7 @@ returns : tie.Need-returns
 unfolding agreeing asValue need _>>=_
 returns c =
     let at-enum-told3 = c .before in
-    λ env i. rw (at-enum-told3 .before .before .enum-told .given .1, at-enum-told3 .enum-told3 .given .1) (told-refused _ _ (c .refused .ensures) env i)
+    λ env i. rw (at-enum-told3 .before .before .enum-told .given .1, at-enum-told3 .enum-told3 .given .1) (told-refused _ _ (c .refused .ensures .0) env i)
 
 fine-requires : tie.Need-fine-requires
 fine-requires c κs = search needs
@@ -38,7 +38,7 @@ returns-2 : tie.Need-returns-2
 unfolding agreeing asValue need _>>=_
 returns-2 c =
     let at-enum-told2 = c .before in
-    λ env i. rw (at-enum-told2 .before .before .enum-told .given .1, at-enum-told2 .enum-told2 .given .1) (told-fine _ _ (c .fine .ensures) env i)
+    λ env i. rw (at-enum-told2 .before .before .enum-told .given .1, at-enum-told2 .enum-told2 .given .1) (told-fine _ _ (c .fine .ensures .0) env i)
 
 enum-known-second : tie.Need-enum-known-second
 enum-known-second c = search needs
@@ -53,7 +53,7 @@ returns-3 : tie.Need-returns-3
 unfolding agreeing asValue need _>>=_
 returns-3 c =
     let at-enum-told4 = c .before in
-    λ env i. rw (at-enum-told4 .before .before .before .first .given .1, at-enum-told4 .enum-told4 .given .1) (told-refused _ _ (c .refused2 .ensures) env i)
+    λ env i. rw (at-enum-told4 .before .before .before .first .given .1, at-enum-told4 .enum-told4 .given .1) (told-refused _ _ (c .refused2 .ensures .0) env i)
 
 refused-requires-3 : tie.Need-refused-requires-3
 refused-requires-3 c κs = search needs
@@ -63,7 +63,7 @@ unfolding agreeing asValue need _>>=_
 returns-4 c =
     let at-if1 = c .before in
     let at-second = at-if1 .before .before .before .before in
-    λ env i. rw (at-second .before .before .before .first .given .1, at-second .second .given .1, same-links _ _, ne-eqb _ _ (at-if1 .if1 .taken)) (told-refused _ _ (c .refused3 .ensures) env i)
+    λ env i. rw (at-second .before .before .before .first .given .1, at-second .second .given .1, same-links _ _, ne-eqb _ _ (at-if1 .if1 .taken)) (told-refused _ _ (c .refused3 .ensures .0) env i)
 
 unite-requires : tie.Need-unite-requires
 unite-requires c κs = search needs

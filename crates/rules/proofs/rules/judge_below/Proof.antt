@@ -21,7 +21,7 @@ unfolding judgeBelow _>>=_
 returns c =
     let at-left = c .before .before in
     let at-judge-number = at-left .before .before in
-    λ i ns first second. rw (no-number _ i (at-judge-number .judge-number .ensures i ns first) (at-left .left .given .1)) (told-refused _ _ (c .refused .ensures) _ i)
+    λ i ns first second. rw (no-number _ i (at-judge-number .judge-number .ensures i ns first) (at-left .left .given .1)) (told-refused _ _ (c .refused .ensures .0) _ i)
 
 enum-told : tie.Need-enum-told
 enum-told c = search needs
@@ -44,7 +44,7 @@ returns-2 c =
     let at-judge-number = at-enum-told .before .before in
     λ i ns first second.
     rw (number-at _ i (at-judge-number .judge-number .ensures i ns first) (at-enum-told .enum-told .given .1), no-number _ i (at-judge-number2 .judge-number2 .ensures i ns second) (at-right .right .given .1))
-    (told-refused _ _ (c .refused2 .ensures) _ i)
+    (told-refused _ _ (c .refused2 .ensures .0) _ i)
 
 enum-told-2 : tie.Need-enum-told-2
 enum-told-2 c = search needs

@@ -31,7 +31,7 @@ returns c =
     let at-roots-in = at-lives-at .before in
     let start = at-roots-in .before .before .before in
     let short = value-lives _ (start .args .variables) _ _ _ _ (at-roots-in .roots-in .ensures) (at-lives-at .lives-at .ensures) ∙ not-true (at-lives-at .lives-at .result) (at-if1 .if1 .taken) in
-    (λ i. told-refused _ _ (c .refused .ensures) _ i ∙ rw short, start .pre .0)
+    (λ i. told-refused _ _ (c .refused .ensures .0) _ i ∙ rw short, start .pre .0)
 
 leave-blocks-requires : tie.Need-leave-blocks-requires
 leave-blocks-requires c κs = let start = c .before .before .before .before .before .before in (start .pre .0, around-in (start .args .env .now) _ (start .args .level) (start .pre .1))
@@ -51,7 +51,7 @@ returns-2 c =
     let start = at-roots-in .before .before .before in
     let long = value-lives _ (start .args .variables) _ _ _ _ (at-roots-in .roots-in .ensures) (at-lives-at .lives-at .ensures) ∙ not-false (at-lives-at .lives-at .result) (at-if1 .if1 .left) in
     let left = at-leave-blocks .leave-blocks .ensures .0 _ (start .pre .1) in
-    (λ i. ap (answeredAs _ i) (c .fine .ensures) ∙ block-left _ _ (at-leave-blocks .leave-blocks .ensures .2) _ _ i _ long left, at-leave-blocks .leave-blocks .ensures .1)
+    (λ i. ap (answeredAs _ i) (c .fine .ensures .0) ∙ block-left _ _ (at-leave-blocks .leave-blocks .ensures .2) _ _ i _ long left, at-leave-blocks .leave-blocks .ensures .1)
 
 pub judge-block-end-spec : {M : Type 1} → statement M
 judge-block-end-spec = tie.close (tie.spec roots-in-requires lives-at-requires refused-requires same-length returns leave-blocks-requires fine-requires same-length-2 returns-2)

@@ -20,7 +20,7 @@ refused-requires c κs = search needs
 
 returns : tie.Need-returns
 unfolding judgeBox asValue valued _>>=_
-returns c = λ nv env i. rw (c .before .enum-told .given .1) (told-refused _ _ (c .refused .ensures) env i)
+returns c = λ nv env i. rw (c .before .enum-told .given .1) (told-refused _ _ (c .refused .ensures .0) env i)
 
 longer-value-requires : tie.Need-longer-value-requires
 longer-value-requires c κs = search needs

@@ -65,7 +65,7 @@ returns : tie.Need-returns
 returns c =
     let at-copied = c .before .before in
     let k = at-copied .before in
-    λ i ns barred. told-refused _ _ (c .refused2 .ensures) _ i
+    λ i ns barred. told-refused _ _ (c .refused2 .ensures .0) _ i
     ∙ sym (copy-refused _ _ (start k .pre) i _ (read k i ns barred) (sym (at-copied .is-copied .ensures) ∙ not-true (at-copied .is-copied .result) (c .before .if1 .taken)))
 
 is-number-requires : tie.Need-is-number-requires
@@ -109,7 +109,7 @@ returns-3 c =
     let env = start .args .env .now in
     λ i ns barred.
     let refused = read-refused (start .args .variables) ns (environmentOf env) i (asPlace (start .args .place)) (at-judge-readable .judge-readable .ensures .0 i ns barred) (at-readable .readable .given .1) in
-    rw (told-refused _ _ (c .refused .ensures) env i, refused)
+    rw (told-refused _ _ (c .refused .ensures .0) env i, refused)
 
 returns-4 : tie.Need-returns-4
 returns-4 c =

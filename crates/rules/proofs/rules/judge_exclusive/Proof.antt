@@ -74,7 +74,7 @@ returns : tie.Need-returns
 returns c =
     let at-whole = c .before .before in
     let k = at-whole .before in
-    λ i ns barred. told-refused _ _ (c .refused2 .ensures) _ i
+    λ i ns barred. told-refused _ _ (c .refused2 .ensures .0) _ i
     ∙ sym (exclusive-moved (env k) (nv k) (start k .pre) i (p k) (named k) _ (is-root k) _ (at-whole .value-whole .ensures) ns (not-true (at-whole .value-whole .result) (c .before .if1 .taken)))
 
 links-at-requires : tie.Need-links-at-requires
@@ -98,7 +98,7 @@ returns-2 c =
     let at-links = at-follows .before in
     let at-whole = at-links .before .before in
     let k = at-whole .before in
-    λ i ns barred. told-refused _ _ (c .refused3 .ensures) _ i
+    λ i ns barred. told-refused _ _ (c .refused3 .ensures .0) _ i
     ∙ sym (exclusive-shared (env k) (nv k) (start k .pre) i (p k) (named k) _ (is-root k) _ (at-whole .value-whole .ensures) ns (whole (at-links .before)) _ _ (at-follows .index-of2 .ensures) (at-links .links-at .ensures) _ (at-shared .no-shared .ensures) (not-true (at-shared .no-shared .result) (c .before .if2 .taken)))
 
 refused-requires-4 : tie.Need-refused-requires-4
@@ -112,7 +112,7 @@ returns-3 c =
     let at-links = at-follows .before in
     let at-whole = at-links .before .before in
     let k = at-whole .before in
-    λ i ns barred. told-refused _ _ (c .refused4 .ensures) _ i
+    λ i ns barred. told-refused _ _ (c .refused4 .ensures .0) _ i
     ∙ sym (exclusive-barred (env k) (nv k) (start k .pre) i (p k) (named k) _ (is-root k) _ (at-whole .value-whole .ensures) ns (whole (at-links .before)) _ _ (at-follows .index-of2 .ensures) (at-links .links-at .ensures) _ (at-shared .no-shared .ensures) (unshared at-unshared) _ barred (c .before .if3 .taken))
 
 only-requires : tie.Need-only-requires
@@ -131,7 +131,7 @@ returns-4 c =
     let start = at-judge-named .before .before .before in
     λ i ns barred.
     let refused = named-refused (start .args .variables) (environmentOf (start .args .env .now)) i (asPlace (start .args .place)) (at-judge-named .judge-named .ensures i) (at-named .named .given .1) in
-    told-refused _ _ (c .refused .ensures) _ i ∙ rw refused
+    told-refused _ _ (c .refused .ensures .0) _ i ∙ rw refused
 
 returns-5 : tie.Need-returns-5
 returns-5 c =

@@ -23,7 +23,7 @@ unfolding judgeLet asValue valued _>>=_
 returns c =
     let at-enum-told = c .before in
     let start = at-enum-told .before .before .before in
-    (λ i. rw (at-enum-told .enum-told .given .1) (told-refused _ _ (c .refused .ensures) _ i), start .pre .0 .0)
+    (λ i. rw (at-enum-told .enum-told .given .1) (told-refused _ _ (c .refused .ensures .0) _ i), start .pre .0 .0)
 
 recorded-roots-requires : tie.Need-recorded-roots-requires
 recorded-roots-requires c κs = search needs
@@ -48,7 +48,7 @@ returns-2 c =
     let at-inner = at-recorded-roots .before .before .before .before in
     let start = at-inner .before .before .before in (
       λ i.
-          ap (answeredAs _ i) (c .fine .ensures)
+          ap (answeredAs _ i) (c .fine .ensures .0)
           ∙ let-there _ _ _ _ i _ _ _ (at-recorded-roots .recorded-roots .result) (at-inner .inner .given .1) (at-recorded-roots .recorded-roots .ensures (start .args .env .now)) (at-store .store .ensures .0),
       at-store .store .ensures .1,
     )

@@ -97,7 +97,7 @@ returns : tie.Need-returns
 returns c =
     let at-boxes = c .before .before in
     let k = at-boxes .before .before .before .before in (
-      λ i ns barred. told-refused _ _ (c .refused2 .ensures) _ i
+      λ i ns barred. told-refused _ _ (c .refused2 .ensures .0) _ i
           ∙ sym (move-passed (env k) (nv k) (p k) (named k) ns i (omega (arith, counted at-boxes, at-boxes .index-of2 .ensures, c .before .if1 .taken))),
       start k .pre .0,
     )
@@ -118,7 +118,7 @@ returns-2 c =
     let at-whole = c .before .before in
     let at-own = at-whole .before .before in
     let k = at-own .before .before .before .before .before in (
-      λ i ns barred. told-refused _ _ (c .refused3 .ensures) _ i
+      λ i ns barred. told-refused _ _ (c .refused3 .ensures .0) _ i
           ∙ sym (move-moved (env k) (nv k) (p k) (named k) (own at-own) ns i (whole-is (env k) (p k) (named k) _ (is-root k) (nv k) _ false (at-whole .value-whole .ensures) (not-true (at-whole .value-whole .result) (c .before .if2 .taken)))),
       start k .pre .0,
     )
@@ -133,7 +133,7 @@ returns-3 : tie.Need-returns-3
 returns-3 c =
     let e = c .before .before in
     let k = at e in (
-      λ i ns barred. told-refused _ _ (c .refused4 .ensures) _ i
+      λ i ns barred. told-refused _ _ (c .refused4 .ensures .0) _ i
           ∙ sym (move-barred (env k) (nv k) (p k) (named k) (own (e .before .before .before)) (whole e) ns i (sym barred ∙ c .before .if3 .taken)),
       start k .pre .0,
     )
@@ -162,7 +162,7 @@ returns-4 c =
     let at-named = c .before .before in
     let at-judge-named = at-named .before .before in
     let start = at-judge-named .before .before .before .before in (
-      λ i ns barred. told-refused _ _ (c .refused .ensures) _ i
+      λ i ns barred. told-refused _ _ (c .refused .ensures .0) _ i
           ∙ sym (move-refused (start .args .variables) (environmentOf (start .args .env .now)) i (asPlace (start .args .place)) (at-judge-named .judge-named .ensures i) (at-named .named .given .1) ns),
       start .pre .0,
     )

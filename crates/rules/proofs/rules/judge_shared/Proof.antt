@@ -119,7 +119,7 @@ returns c =
     let start = at-judge-readable .before .before in
     λ i ns barred.
     let none = read-refused (start .args .variables) ns (environmentOf (start .args .env .now)) i (asPlace (start .args .place)) (at-judge-readable .judge-readable .ensures .0 i ns barred) (at-readable .readable .given .1) in
-    rw none (told-refused _ _ (c .refused .ensures) _ i)
+    rw none (told-refused _ _ (c .refused .ensures .0) _ i)
 
 returns-2 : tie.Need-returns-2
 unfolding asPassed

@@ -1,7 +1,7 @@
 -- `syntax::limits::packed` meets its contract. Assumes nothing.
 use borrow.Author.Needs.{needs}
 use mathlib.Core.Path.{refl}
-use Rattle.syntax.proofs.Ranges.{packs}
+use Rattle.syntax.proofs.Ranges.{packs, packs-below}
 use Rattle.syntax.proofs.limits.packed.Statement.{statement}
 use Rattle.syntax.proofs.limits.packed.Tie as tie
 
@@ -36,7 +36,9 @@ add-result-3 : tie.Need-add-result-3
 add-result-3 c = search needs
 
 returns : tie.Need-returns
-returns c = packs _ (c .before .before .before .before .pre) _ refl
+returns c =
+    let ranged = c .before .before .before .before .pre in
+    (packs _ ranged _ refl, packs-below _ ranged _ refl)
 
 pub packed-spec : {M : Type 1} → statement M
 packed-spec =

@@ -1,8 +1,7 @@
 -- `variables::verdicts::fine` meets its contract. Assumes nothing.
-use mathlib.Core.Path.{sym, ap, _∙_}
+use mathlib.Core.Path.{refl}
 use borrow.Author.Needs.{needs}
-use Rattle.variables.specs.declared.verdicts.Verdict.the-variants as verdict
-use Rattle.variables.specs.Verdicts.{verdictOf}
+use Rattle.variables.specs.Verdicts.{verdictOf, ToldAs}
 use Rattle.variables.proofs.ToldLaws.{value-told}
 use Rattle.variables.proofs.verdicts.fine.Statement.{statement}
 use Rattle.variables.proofs.verdicts.fine.Tie as tie
@@ -23,13 +22,14 @@ add-t7 : tie.Need-add-t7
 add-t7 c = search needs
 
 returns : tie.Need-returns
-unfolding verdictOf
-returns c = rw (c .before .enum-told .given .1)
+unfolding verdictOf ToldAs
+returns c = rw (c .before .enum-told .given .1) (refl, (refl, c .no-roots .ensures))
 
 returns-2 : tie.Need-returns-2
+unfolding ToldAs
 returns-2 c =
     let at-value = c .before .before .before in
-    value-told _ _ (c .struct-known .given .0 .fits) ∙ ap verdict.Fine (sym (at-value .value .given .1))
+    rw (at-value .value .given .1) (value-told _ _ (c .struct-known .given .0 .fits), (refl, refl))
 
 pub fine-spec : {M : Type 1} → statement M
 fine-spec = tie.close (tie.spec enum-told no-roots-requires enum-known-value cast-t6 add-t7 returns returns-2)

@@ -18,7 +18,7 @@ unfolding need _>>=_
 returns c =
     let at-if1 = c .before in
     let at-one-more-fits = at-if1 .before in
-    λ env i. rw (← at-one-more-fits .one-more-fits .ensures, not-true (at-one-more-fits .one-more-fits .result) (at-if1 .if1 .taken)) (told-refused _ _ (c .refused .ensures) env i)
+    λ env i. rw (← at-one-more-fits .one-more-fits .ensures, not-true (at-one-more-fits .one-more-fits .result) (at-if1 .if1 .taken)) (told-refused _ _ (c .refused .ensures .0) env i)
 
 with-first-requires : tie.Need-with-first-requires
 with-first-requires c κs =

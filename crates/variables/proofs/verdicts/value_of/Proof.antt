@@ -10,7 +10,7 @@ fine-requires c κs = search needs
 
 returns : tie.Need-returns
 unfolding asValue
-returns c = told-fine _ _ (c .fine .ensures)
+returns c = told-fine _ _ (c .fine .ensures .0)
 
 pub value-of-spec : {M : Type 1} → statement M
 value-of-spec = tie.close (tie.spec fine-requires returns)

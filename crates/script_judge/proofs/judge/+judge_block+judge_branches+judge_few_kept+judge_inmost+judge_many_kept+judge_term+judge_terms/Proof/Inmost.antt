@@ -149,7 +149,7 @@ judge-inmost-returns-2 t c =
     let n = at-number .before .before in
     let h = at-root t n .before in
     let p = start t h .pre .1 in
-    (choice-refused _ _ _ _ (p .0) (is-choice t h) _ (h .before .place-at .ensures) _ (later t (start t h)) _ _ (judged t n) _ (at-number .number .given .1) _ (c .refused .ensures) _, p .2 .table)
+    (choice-refused _ _ _ _ (p .0) (is-choice t h) _ (h .before .place-at .ensures) _ (later t (start t h)) _ _ (judged t n) _ (at-number .number .given .1) _ (c .refused .ensures .0) _, p .2 .table)
 
 pub judge-inmost-enum-told : (t : ℕ) → judge-inmost-lts.Need-enum-told (judge-inmost-claims t) (judge-inmost-at t) judge-inmost.Post
 judge-inmost-enum-told t c = search needs

@@ -83,7 +83,7 @@ judge-term-returns t c =
     let w = at-before .before .before .before in
     let l = inwards t w in
     let begun = refused-begun _ (at-begun .begun .given .1) (at-before .judge-before .ensures .0) in
-    (refused-ended _ _ _ (c .refused .ensures) ∙ inwards-refused _ _ _ _ _ (start t l .pre .1 .0) _ _ _ _ (l .loop .inv .2) (sym (wraps-is t w) ∙ at-before .before .before .if1 .taken) _ begun, at-before .judge-before .ensures .1)
+    (refused-ended _ _ _ (c .refused .ensures .0) ∙ inwards-refused _ _ _ _ _ (start t l .pre .1 .0) _ _ _ _ (l .loop .inv .2) (sym (wraps-is t w) ∙ at-before .before .before .if1 .taken) _ begun, at-before .judge-before .ensures .1)
 
 pub judge-term-enum-told : (t : ℕ) → judge-term-lts.Need-enum-told (judge-term-claims t) (judge-term-at t) judge-term.Post judge-term-Inv-loop judge-term-μ-loop judge-term-Inv-loop2 judge-term-μ-loop2
 judge-term-enum-told t c = search needs

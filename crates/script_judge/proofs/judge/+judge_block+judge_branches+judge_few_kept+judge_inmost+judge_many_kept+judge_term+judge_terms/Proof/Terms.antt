@@ -21,7 +21,7 @@ unfolding asValue
 judge-terms-loop-holds t c =
     let start = c .before .before .before .before in
     let p = start .pre .1 in
-    (p .0, refl, p .1, value.None, c .fine .ensures, refl)
+    (p .0, refl, p .1, value.None, c .fine .ensures .0, refl)
 
 pub judge-terms-judge-term-requires : (t : ℕ) → judge-terms-lts.Need-judge-term-requires (judge-terms-claims t) (judge-terms-at t) judge-terms.Post judge-terms-Inv-loop judge-terms-μ-loop
 judge-terms-judge-term-requires t c κs =
