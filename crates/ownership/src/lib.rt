@@ -1,6 +1,4 @@
-// The ownership check (LANGUAGE 3) of a script that is given as term rows, within the limits of a set (2.8). The set's
-// number of variables decides which of two sizes the table of the variables has: one for 64, so that the language's
-// own set does not pay for clearing a larger one, and one for 128, the most of any set.
+// The ownership check (LANGUAGE 3) of a script that is given as term rows, within the limits of a set (2.8).
 ghost use mathlib.Core.Path.{_≡_};
 ghost use Rattle.syntax.specs.Result.{ok};
 ghost use Rattle.syntax.specs.Answers.{judgedOf};

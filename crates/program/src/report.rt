@@ -23,7 +23,7 @@ pub const ROWS: usize = 5 * limits::BASE.terms as usize;
 pub const STORE: usize = 3 * (limits::BASE.variables as usize + limits::BASE.boxes as usize);
 
 // A reading of the input (LANGUAGE 6.10): the four bytes from `at` on, high byte first; 0 where there are not as many.
-pub fn reading_at(input: &[u8], at: usize) -> i32
+fn reading_at(input: &[u8], at: usize) -> i32
     ensures { λ r. ⌜ r ≡ readingAt (now (input .entry)) at ⌝ }
 {
     if input.len() < 4 {
@@ -36,7 +36,7 @@ pub fn reading_at(input: &[u8], at: usize) -> i32
 }
 
 // The eight readings at the front of the input (LANGUAGE 6.10).
-pub fn readings_of(input: &[u8]) -> [i32; 8]
+fn readings_of(input: &[u8]) -> [i32; 8]
     ensures { λ r. ⌜ r ≡ readingsOf (now (input .entry)) ⌝ }
 {
     [

@@ -1,4 +1,5 @@
-// The script form (LANGUAGE 2): reading bytes into term rows, judging term rows, and writing them as bytes again.
+// The script form (LANGUAGE 2): reading bytes into term rows (6.2), judging term rows (6.3), and writing them as bytes
+// again (6.4).
 ghost use mathlib.Core.Path.{_≡_};
 ghost use Rattle.reader.specs.Outcomes.{told, toldRead};
 ghost use Rattle.syntax.specs.Answers.{readOf, judgedOf, writtenOf};

@@ -1,5 +1,5 @@
-// Runs scripts that the check accepts, from term rows or from bytes, and puts the program's line of a call into a
-// buffer. What the check accepts runs without a fault, so the answers have no case for one.
+// Runs scripts that the check accepts, from term rows (LANGUAGE 6.6) or from bytes (6.8). What the check accepts runs
+// without a fault, so the answers have no case for one.
 ghost use mathlib.Core.Path.{_≡_};
 ghost use lib.ListN.{length};
 ghost use Rattle.syntax.specs.Limits.{storeNumbers};

@@ -116,7 +116,7 @@ pub fn judge_place(env: &[u64], variables: usize, place: Place) -> Located
 
 // The place of a copy, a shared borrow, a below, a sum and a choice (LANGUAGE 3.19, 3.21, 3.27, 3.31): named, its value
 // whole (33), reading not barred (34).
-pub fn judge_readable(env: &[u64], variables: usize, place: Place, barred: bool) -> Readable
+fn judge_readable(env: &[u64], variables: usize, place: Place, barred: bool) -> Readable
     requires { ⌜ NeatTable (now env) variables ⌝ }
     ensures { λ r. ⌜ ((i : ℕ) (ns : Unfinished) → (barred ≡ readBarred variables ns (environmentOf (now (env .entry))) (asPlace place .root)) → ReadableIs variables ns (environmentOf (now (env .entry))) i (asPlace place) r) × WholeIs variables (environmentOf (now (env .entry))) (asPlace place) r ⌝ }
 {
@@ -333,7 +333,7 @@ pub fn judge_below(
 }
 
 // The roots that the value records (LANGUAGE 3.3), if there is a value.
-pub fn roots_in(value: Value) -> Roots
+fn roots_in(value: Value) -> Roots
     ensures { λ r. ⌜ RootsIn value r ⌝ }
 {
     match value {

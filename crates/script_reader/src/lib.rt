@@ -1,4 +1,4 @@
-// Reading a whole script (LANGUAGE 2.1): mark, version and outermost term.
+// Reading a whole script (LANGUAGE 2.1, 5.9): mark, version, outermost term, and what is left.
 
-pub mod reader; // reader.rt: the reader of a script in its named form
+mod reader; // reader.rt: the reader of a script in its named form
 pub mod script; // script.rt: a whole script in bytes

@@ -1,3 +1,3 @@
-// Signed numbers and their bits (LANGUAGE 4.9, 4.24).
+// Signed numbers and their bits (LANGUAGE 4.9, 4.16).
 
 pub mod signed; // signed.rt: signed numbers and their bits

@@ -47,7 +47,7 @@ pub fn raised(b: u32) -> u32
 }
 
 // The sum held to the range (LANGUAGE 4.16): 64 bits hold the sum of any two.
-pub fn held_sum(a: i32, b: i32) -> i32
+fn held_sum(a: i32, b: i32) -> i32
     ensures { λ r. ⌜ r ≡ held (a +ℤ b) ⌝ }
 {
     let sum = a as i64 + b as i64;

@@ -11,7 +11,7 @@ use syntax::limits;
 
 // Dropping (LANGUAGE 4.8): an owner gives its cell back, which must be open (63), then what the cell held is dropped;
 // so along the cells, of which each time one fewer is not given back. The fault, 0 for none.
-pub fn drop_value(sizes: usize, store: &mut [u32], kind: u32, payload: u32) -> u32
+fn drop_value(sizes: usize, store: &mut [u32], kind: u32, payload: u32) -> u32
     requires { ⌜ Tidy (unpacked sizes) (now store) × Sound (unpacked sizes) kind payload ⌝ }
     ensures { λ r. ⌜ Dropped (unpacked sizes) (now (store .entry)) kind payload (now (store .exit)) r ⌝ }
 {
@@ -39,7 +39,7 @@ pub fn drop_any(sizes: usize, store: &mut [u32], kind: u32, payload: u32) -> u32
 }
 
 // Closing one variable (LANGUAGE 4.18), the one opened as number k: its row is set to 0, 0, 0, then its value dropped.
-pub fn close_opened(sizes: usize, store: &mut [u32], opened: &[u8], k: usize) -> u32
+fn close_opened(sizes: usize, store: &mut [u32], opened: &[u8], k: usize) -> u32
     requires { ⌜ Tidy (unpacked sizes) (now store) × (k < length (now opened)) × (getD (now opened) k 0 < unpacked sizes .variables) ⌝ }
     ensures { λ r. ⌜ ClosedOne (unpacked sizes) (now (store .entry)) (getD (now (opened .entry)) k 0) (now (store .exit)) r ⌝ }
 {

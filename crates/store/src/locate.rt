@@ -21,7 +21,7 @@ pub struct Gave {
 }
 
 // One follow (LANGUAGE 4.6): the row that an owner or a reference leads to; 60 at a row without value, 61 at a number.
-pub fn follow(sizes: usize, store: &[u32], row: usize) -> Found
+fn follow(sizes: usize, store: &[u32], row: usize) -> Found
     requires { ⌜ Tidy (unpacked sizes) (now store) × (row < storeRows (unpacked sizes)) ⌝ }
     ensures { λ r. ⌜ Followed (unpacked sizes) (now (store .entry)) row r ⌝ }
 {

@@ -14,7 +14,7 @@ use syntax::kinds;
 use syntax::limits;
 
 // The row of term n (LANGUAGE 2.9).
-pub fn put_row(rows: &mut [u32], n: usize, kind: u32, a: u32, b: u32, c: u32, d: u32)
+fn put_row(rows: &mut [u32], n: usize, kind: u32, a: u32, b: u32, c: u32, d: u32)
     requires { ⌜ n * 5 + 5 ≤ length (now rows) ⌝ }
     ensures { λ _. ⌜ now (rows .exit) ≡ sets (now (rows .entry)) (n * 5) (kind ∷ a ∷ b ∷ c ∷ d ∷ []) ⌝ }
 {
@@ -31,7 +31,7 @@ pub fn put_row(rows: &mut [u32], n: usize, kind: u32, a: u32, b: u32, c: u32, d:
 }
 
 // One operand byte (LANGUAGE 5.11): 0 where the byte at j is from low to below high; else 12 if there is none, or 14.
-pub fn field_number(tail: &[u8], j: usize, low: u32, high: u32) -> u32
+fn field_number(tail: &[u8], j: usize, low: u32, high: u32) -> u32
     ensures { λ r. ⌜ r ≡ fieldNumber (now (tail .entry)) j low high ⌝ }
 {
     if tail.len() <= j {
@@ -48,7 +48,7 @@ pub fn field_number(tail: &[u8], j: usize, low: u32, high: u32) -> u32
 }
 
 // A place (LANGUAGE 2.5): the bytes at j and j + 1.
-pub fn judge_place(variables: u32, tail: &[u8], at: usize, j: usize) -> Fields
+fn judge_place(variables: u32, tail: &[u8], at: usize, j: usize) -> Fields
     requires { ⌜ (at + length (now tail) ≤ 32768) × (j ≤ 3) ⌝ }
     ensures { λ r. ⌜ r ≡ judgedFields (placeFields variables) (now (tail .entry)) at j ⌝ }
 {
@@ -65,7 +65,7 @@ pub fn judge_place(variables: u32, tail: &[u8], at: usize, j: usize) -> Fields
 }
 
 // The operand of a number (LANGUAGE 2.3): four bytes after the kind byte, any (2.4).
-pub fn read_word(tail: &[u8], at: usize, n: usize, rows: &mut [u32]) -> Fields
+fn read_word(tail: &[u8], at: usize, n: usize, rows: &mut [u32]) -> Fields
     requires { ⌜ (at + length (now tail) ≤ 32768) × (n * 5 + 5 ≤ length (now rows)) ⌝ }
     ensures { λ r. ⌜ Filled wordField 1 (now (tail .entry)) at n (now (rows .entry)) (now (rows .exit)) r ⌝ }
 {
@@ -78,7 +78,7 @@ pub fn read_word(tail: &[u8], at: usize, n: usize, rows: &mut [u32]) -> Fields
 }
 
 // The operand of a reading, a let and a block (LANGUAGE 2.3): one byte from low to below high (2.4).
-pub fn read_one(
+fn read_one(
     tail: &[u8],
     at: usize,
     kind: u32,
@@ -99,7 +99,7 @@ pub fn read_one(
 }
 
 // The operands of a copy, a move, a borrow, an assign and a choice (LANGUAGE 2.3): one place.
-pub fn read_place(
+fn read_place(
     variables: u32,
     tail: &[u8],
     at: usize,
@@ -119,7 +119,7 @@ pub fn read_place(
 }
 
 // The operands of a below and a sum (LANGUAGE 2.3): two places.
-pub fn read_two_places(
+fn read_two_places(
     variables: u32,
     tail: &[u8],
     at: usize,

@@ -119,7 +119,7 @@ pub fn run_let(
 }
 
 // The last step of an assign (LANGUAGE 4.15): writes if the row is still open.
-pub fn write_open(sizes: usize, store: &mut [u32], row: usize, kind: u32, payload: u32)
+fn write_open(sizes: usize, store: &mut [u32], row: usize, kind: u32, payload: u32)
     requires { ⌜ Tidy (unpacked sizes) (now store) × (row < storeRows (unpacked sizes)) × Sound (unpacked sizes) kind payload ⌝ }
     ensures { λ _. ⌜ Wrote (unpacked sizes) (now (store .entry)) row kind payload (now (store .exit)) ⌝ }
 {
@@ -132,7 +132,7 @@ pub fn write_open(sizes: usize, store: &mut [u32], row: usize, kind: u32, payloa
 
 // The place of an assign (LANGUAGE 4.15): locates, drops the old value, which the row keeps meanwhile, then writes. The
 // fault, 0 for none.
-pub fn assign_place(
+fn assign_place(
     sizes: usize,
     store: &mut [u32],
     root: usize,

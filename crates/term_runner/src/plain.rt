@@ -50,7 +50,7 @@ fn reading_bits(readings: &[i32], n: usize) -> u32
 }
 
 // Copy (LANGUAGE 4.10): locate, read; the row stays.
-pub fn run_copy(sizes: usize, store: &[u32], root: usize, follows: usize) -> Gave
+fn run_copy(sizes: usize, store: &[u32], root: usize, follows: usize) -> Gave
     requires { ⌜ Tidy (unpacked sizes) (now store) × (root < unpacked sizes .variables) ⌝ }
     ensures { λ r. ⌜ Copied (unpacked sizes) (now (store .entry)) root follows r ⌝ }
 {
@@ -62,7 +62,7 @@ pub fn run_copy(sizes: usize, store: &[u32], root: usize, follows: usize) -> Gav
 }
 
 // Move (LANGUAGE 4.11): locate, read; the row becomes empty.
-pub fn run_move(sizes: usize, store: &mut [u32], root: usize, follows: usize) -> Gave
+fn run_move(sizes: usize, store: &mut [u32], root: usize, follows: usize) -> Gave
     requires { ⌜ Tidy (unpacked sizes) (now store) × (root < unpacked sizes .variables) ⌝ }
     ensures { λ r. ⌜ Moved (unpacked sizes) (now (store .entry)) root follows (now (store .exit)) r ⌝ }
 {
@@ -79,7 +79,7 @@ pub fn run_move(sizes: usize, store: &mut [u32], root: usize, follows: usize) ->
 }
 
 // Borrow, of either kind (LANGUAGE 4.12): a reference to the located row.
-pub fn run_borrow(sizes: usize, store: &[u32], root: usize, follows: usize) -> Gave
+fn run_borrow(sizes: usize, store: &[u32], root: usize, follows: usize) -> Gave
     requires { ⌜ Tidy (unpacked sizes) (now store) × (root < unpacked sizes .variables) ⌝ }
     ensures { λ r. ⌜ Borrowed (unpacked sizes) (now (store .entry)) root follows r ⌝ }
 {
@@ -125,7 +125,7 @@ fn paired(kind: u32, a: u32, b: u32) -> u32
 
 // A term with two places (LANGUAGE 4.16): the number at the first, then that at the second, and what its kind makes of
 // both.
-pub fn run_pair(
+fn run_pair(
     sizes: usize,
     store: &[u32],
     kind: u32,
