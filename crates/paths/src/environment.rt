@@ -1,4 +1,4 @@
-// What the rules ask of a variable number (LANGUAGE 3.6 to 3.8), and what they do to it.
+// What the rules ask of a variable number (LANGUAGE 3.6 to 3.8), and how a block's variables leave scope (3.28).
 ghost use mathlib.Core.Path.{_≡_};
 ghost use mathlib.Core.List.{List};
 ghost use Prim.Native.Nat.{ℕ, suc};

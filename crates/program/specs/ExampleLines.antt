@@ -1,5 +1,5 @@
--- E1 to E11 (LANGUAGE 8.4) and a sum, in version 2 and in version 1, as the program is given them and as it prints them: the bytes of an input, and
--- the line. E8 and the second half of E9 are runs without a check, which the program does not do.
+-- E1 to E11 (LANGUAGE 8.4), a sum, in version 2 and in version 1, and scripts with a choice, as the program is given them and as it prints them:
+-- the bytes of an input, and the line. E8 and the second half of E9 are runs without a check, which the program does not do.
 use Prim.Native.Nat.{ℕ}
 use Prim.Native.String.{String}
 use mathlib.Core.Path.{_≡_}

@@ -1,4 +1,4 @@
--- Reading and writing undo each other, for every set: the proofs of the statements in specs/Undo. That the set is in its ranges follows from
+-- Reading and writing undo each other, for every set: the proofs of the statements in `syntax/specs/Undo`. That the set is in its ranges follows from
 -- the answer.
 use Prim.Native.Nat.{ℕ, _≤_}
 use native.Mathlib.Omega.{arith}

@@ -1,6 +1,7 @@
-// The ownership rules (LANGUAGE 3.16 to 3.29), one function each: its answer is the rule's definition, and the table
-// afterwards is that definition's environment. A rule about a term with an inner term is given the inner term's value; one
-// that asks whether its root is barred is told the answer, which depends on terms elsewhere in the script (3.34).
+// The ownership rules (LANGUAGE 3.16, 3.19 to 3.24, 3.27 to 3.29), one function each: its answer is the rule's definition,
+// and the table afterwards is that definition's environment. A rule about a term with an inner term is given the inner
+// term's value; one that asks whether its root is barred is told the answer, which depends on terms elsewhere in the
+// script (3.34).
 ghost use mathlib.Core.Path.{_≡_};
 ghost use mathlib.Core.List.{List};
 ghost use Prim.Native.Nat.{ℕ, _<_};

@@ -13,8 +13,8 @@ pub struct Entry {
     pub payload: u32,
 }
 
-// The three numbers of a row (LANGUAGE 4.1). `sizes` is the set (2.8) in one number; here, in put_row and in
-// `entered` only the contract uses it.
+// The three numbers of a row (LANGUAGE 4.1). `sizes` is the set (2.8) in one number; here and in put_row only
+// the contract uses it.
 pub fn load(sizes: usize, store: &[u32], row: usize) -> Entry
     requires { ⌜ Tidy (unpacked sizes) (now store) × (row < storeRows (unpacked sizes)) ⌝ }
     ensures { λ r. ⌜ Loaded (unpacked sizes) (now (store .entry)) row r ⌝ }

@@ -1,5 +1,5 @@
-// The answers of the term and block functions, each in one number: that is returned in a register, where an enum
-// goes through memory at every return.
+// The answers of the functions that read and judge terms and blocks, each in one number: that is returned in a register,
+// where an enum goes through memory at every return.
 ghost use mathlib.Core.Path.{_≡_};
 ghost use Prim.Native.Nat.{_+_, _*_, _-_, _/_, _%_, _<_, _≤_};
 

@@ -1,4 +1,4 @@
-// The table of the variables, 8 words to each: six hold the state (LANGUAGE 3.8), two are a note (notes.rt). The two words
+// The table of the variables, 8 words to each: six hold the state (LANGUAGE 3.8), two are a note (crate `notes`). The two words
 // of a set stand apart, so that loading one does not wait for a store to the other.
 ghost use mathlib.Core.Path.{_≡_};
 ghost use Prim.Native.Nat.{ℕ, _<_, _≤_, _+_, _*_};
