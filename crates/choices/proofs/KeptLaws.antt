@@ -18,12 +18,12 @@ use Rattle.statics.specs.Places.{unite}
 use Rattle.statics.specs.Environment.{Borrow, places, borrowEnd, Variable, live}
 use Rattle.statics.specs.Choice.{agreeing}
 use Rattle.statics.specs.Neat.{Among, Neat}
-use Rattle.statics.specs.Roots.{lengths, placeAt, placesOf, left}
+use Rattle.statics.specs.Roots.{lengths, placeAt, left}
 use Rattle.variables.specs.Chains.{chainOf}
 use Rattle.variables.specs.Masks.{has}
 use Rattle.variables.specs.Table.{entryWord, rootsAt, longAt, endIn, environmentOf, noteAt, TableFor}
 use Rattle.variables.specs.Verdicts.{typeOf, asValue, Answers, valueOf, Joins}
-use Rattle.choices.specs.Kept.{keptMovedFrom, keptRoots, KeepsAll, PutKept}
+use Rattle.choices.specs.Kept.{keptMovedFrom, keptRoots, KeptAs, KeepsAll, PutKept}
 use Rattle.variables.proofs.EqualChains.{same-links}
 use Rattle.variables.proofs.EntryLaws.{live-status}
 use Rattle.variables.proofs.EndRoots.{end-lengths, live-length, end-united}
@@ -71,33 +71,36 @@ put-kept kept x d s h = record {
 
 -- ---- the table's state kept
 
--- The words kept of y are those of the table.
-abbrev pub KeptAs : List ℕ → List ℕ → ℕ → Type 0
-KeptAs kept env y = (keptMovedFrom kept y ≡ entryWord env y 4) × (keptRoots kept y ≡ rootsAt env y)
+-- The words kept of x are those of the table.
+pub kept-here : (kept env : List ℕ) (x : ℕ) → keptMovedFrom kept x ≡ entryWord env x 4 → keptRoots kept x ≡ rootsAt env x → KeptAs kept env x
+kept-here kept env x e f v q =
+    let z = live-status env x v q .1 in
+    (e ∙ ap (λ (u : Variable). u .movedFrom) (sym z), ap (endIn env (v .chain)) f ∙ ap (λ (u : Variable). endIn env (u .chain) (rootsAt env x)) z ∙ ap (λ (u : Variable). u .borrow) (sym z))
+
+-- What is kept of y stays where its words do.
+pub kept-there : (kept kept′ env : List ℕ) (y : ℕ) → (keptMovedFrom kept′ y ≡ keptMovedFrom kept y) × (keptRoots kept′ y ≡ keptRoots kept y) → KeptAs kept env y → KeptAs kept′ env y
+kept-there kept kept′ env y W K v q = (W .0 ∙ K v q .0, ap (endIn env (v .chain)) (W .1) ∙ K v q .1)
 
 pub keep-next : (kept kept′ env : List ℕ) (x d : ℕ) (s : Roots) → d ≡ entryWord env x 4 → s ≡ rootsAt env x → PutKept kept x d s kept′ → ((y : ℕ) → y < x → KeptAs kept env y)
     → (y : ℕ) → y < x + 1 → KeptAs kept′ env y
 keep-next kept kept′ env x d s e f P done y l = go (decLt y x)
   where
     go : Dec (y < x) → KeptAs kept′ env y
-    go (yes k) = let a = P .there y (λ e. omega arith) in let b = done y k in (a .0 ∙ b .0, a .1 ∙ b .1)
-    go (no k) = let q : x ≡ y = omega arith in subst (λ (z : ℕ). KeptAs kept′ env z) q (P .here .0 ∙ e, P .here .1 ∙ f)
+    go (yes k) = kept-there kept kept′ env y (P .there y (λ e. omega arith)) (done y k)
+    go (no k) = let q : x ≡ y = omega arith in subst (λ (z : ℕ). KeptAs kept′ env z) q (kept-here kept′ env x (P .here .0 ∙ e) (P .here .1 ∙ f))
 
 -- A state whose numbers in scope are kept, all below the count.
 pub keeps-all : (n level : ℕ) (env kept : List ℕ) (count : ℕ) → Neat n (environmentOf env) level → ((x : ℕ) (v : Variable) → environmentOf env x ≡ live v → x < count)
     → ((y : ℕ) → y < count → KeptAs kept env y) → KeepsAll kept count (environmentOf env)
 keeps-all n level env kept count N low done x v e =
     let l = low x v e in
-    let K = done x l in
-    let z = live-status env x v e .1 in
+    let K = done x l v e in
     let H = N .holds x v e in
-    let b : v .borrow ≡ endIn env (v .chain) (rootsAt env x) = ap (λ (u : Variable). u .borrow) z ∙ ap (λ (u : Variable). endIn env (u .chain) (rootsAt env x)) (sym z) in
     record {
       low = l;
-      movedFrom = ap (λ (u : Variable). u .movedFrom) z ∙ sym (K .0);
-      borrow = b ∙ end-lengths (v .chain) (rootsAt env x) (longAt env) (lengths (environmentOf env)) (left (v .chain))
-          (λ y i. let R = H .recorded (placeAt (longAt env) (left (v .chain)) y) (subst (λ (k : Borrow). Among (placeAt (longAt env) (left (v .chain)) y) (places k)) (sym b) i) in sym (live-length env y (R .variable) (R .is) .1))
-          ∙ ap (λ (s : Roots). borrowEnd (v .chain) (placesOf 128 (has s) (lengths (environmentOf env)) (left (v .chain)))) (sym (K .1));
+      movedFrom = sym (K .0);
+      borrow = sym (K .1) ∙ end-lengths (v .chain) (keptRoots kept x) (longAt env) (lengths (environmentOf env)) (left (v .chain))
+          (λ y i. let R = H .recorded (placeAt (longAt env) (left (v .chain)) y) (subst (λ (k : Borrow). Among (placeAt (longAt env) (left (v .chain)) y) (places k)) (K .1) i) in sym (live-length env y (R .variable) (R .is) .1));
     }
 
 pub taken-below : (n count : ℕ) (env : List ℕ) → TableFor env n → count ≡ noteAt env (suc n) → (x : ℕ) (v : Variable) → environmentOf env x ≡ live v → x < count

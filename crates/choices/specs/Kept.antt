@@ -1,16 +1,16 @@
 -- What is kept of the variables while the other block of a choice is judged (LANGUAGE 3.31): from where each is moved away, and the roots that it
 -- records, 3 words to each of the first `count` numbers. No rule of the language is stated here.
-use Prim.Native.Nat.{ℕ, _+_, _*_, _<_, _≤_}
+use Prim.Native.Nat.{ℕ, _+_, _*_, _<_}
 use mathlib.Core.Path.{_≡_}
-use mathlib.Core.Bool.{true}
 use mathlib.Core.List.{List}
 use lib.ListN.{getD}
 use Rattle.variables.specs.declared.roots.Roots.{Roots}
-use Rattle.statics.specs.Environment.{borrowEnd, Variable, used, live, Environment}
+use Rattle.statics.specs.Places.{unite}
+use Rattle.statics.specs.Environment.{places, borrowEnd, Variable, Slot, free, used, live, Environment, update}
+use Rattle.statics.specs.Choice.{earlier}
 use Rattle.statics.specs.Roots.{lengths, placesOf, left}
-use Rattle.syntax.specs.Result.{pick}
 use Rattle.variables.specs.Masks.{has}
-use Rattle.variables.specs.Table.{entryWord, rootsAt, holdersAt, noteAt, putAt, putSet}
+use Rattle.variables.specs.Table.{endIn, environmentOf, TableFor, SameLinks}
 
 abbrev pub keptMovedFrom : List ℕ → ℕ → ℕ
 keptMovedFrom kept x = getD kept (x * 3) 0
@@ -38,18 +38,36 @@ pub record PutKept (kept : List ℕ) (x d : ℕ) (s : Roots) (kept′ : List ℕ
   pub here : (keptMovedFrom kept′ x ≡ d) × (keptRoots kept′ x ≡ s)
   pub there : (y : ℕ) → (y ≡ x → ⊥) → (keptMovedFrom kept′ y ≡ keptMovedFrom kept y) × (keptRoots kept′ y ≡ keptRoots kept y)
 
--- After what is kept of x and what the table has of it were exchanged. Who records a root, if x is in scope, is among those that may hold it.
-pub record Exchanged (n : ℕ) (env kept : List ℕ) (x : ℕ) (env′ kept′ : List ℕ) : Type 0 where
-  pub entries : (y k : ℕ) → k < 8 → (k ≡ 3 → ⊥) → (k ≡ 7 → ⊥) → entryWord env′ y k ≡ putSet (putAt (entryWord env) x 4 (keptMovedFrom kept x)) x 2 (keptRoots kept x) y k
-  pub notes : (y : ℕ) → n ≤ y → noteAt env′ y ≡ noteAt env y
-  pub held : (r y : ℕ) → r < n → has (holdersAt env r) y ≡ true → has (holdersAt env′ r) y ≡ true
-  pub new : 2 ≤ entryWord env x 0 → (r : ℕ) → r < n → has (keptRoots kept x) r ≡ true → has (holdersAt env′ r) x ≡ true
-  pub put : PutKept kept x (entryWord env x 4) (rootsAt env x) kept′
+-- The number x with what is kept of it: a variable in scope has its links and its level, and the rest is kept.
+abbrev pub restored : List ℕ → List ℕ → ℕ → Slot → Slot
+restored env kept x free = free
+restored env kept x used = used
+restored env kept x (live v) = live (record { chain = v .chain; movedFrom = keptMovedFrom kept x; borrow = endIn env (v .chain) (keptRoots kept x); level = v .level })
 
--- After x records these roots too.
-pub record RootsAdded (n : ℕ) (env : List ℕ) (x : ℕ) (s : Roots) (env′ : List ℕ) : Type 0 where
-  pub entries : (y k : ℕ) → k < 8 → (k ≡ 3 → ⊥) → (k ≡ 7 → ⊥) → (y ≡ x → (k ≡ 2 → ⊥) × (k ≡ 6 → ⊥)) → entryWord env′ y k ≡ entryWord env y k
-  pub roots : (y : ℕ) → has (rootsAt env′ x) y ≡ pick (has (rootsAt env x) y) true (has s y)
-  pub notes : (y : ℕ) → n ≤ y → noteAt env′ y ≡ noteAt env y
-  pub held : (r y : ℕ) → r < n → has (holdersAt env r) y ≡ true → has (holdersAt env′ r) y ≡ true
-  pub new : 2 ≤ entryWord env x 0 → (r : ℕ) → r < n → has s r ≡ true → has (holdersAt env′ r) x ≡ true
+-- The number x with what is kept of it and what the table has (LANGUAGE 3.31): the earlier link, and the places of both.
+abbrev pub joinedWith : List ℕ → List ℕ → ℕ → Slot → Slot
+joinedWith env kept x free = free
+joinedWith env kept x used = used
+joinedWith env kept x (live v) =
+    live (record {
+      chain = v .chain;
+      movedFrom = earlier (keptMovedFrom kept x) (v .movedFrom);
+      borrow = borrowEnd (v .chain) (unite (places (endIn env (v .chain) (keptRoots kept x))) (places (v .borrow)));
+      level = v .level;
+    })
+
+-- What is kept of y is its state in the table, if it is in scope.
+abbrev pub KeptAs : List ℕ → List ℕ → ℕ → Type 0
+KeptAs kept env y = (v : Variable) → environmentOf env y ≡ live v → (keptMovedFrom kept y ≡ v .movedFrom) × (endIn env (v .chain) (keptRoots kept y) ≡ v .borrow)
+
+-- Only the state of x has become what f says.
+pub record Given (n : ℕ) (env : List ℕ) (x : ℕ) (f : Slot → Slot) (env′ : List ℕ) : Type 0 where
+  pub state : environmentOf env′ ≡ update (environmentOf env) x (f (environmentOf env x))
+  pub table : TableFor env′ n
+  pub links : SameLinks env env′
+
+-- After what is kept of x and what the table has of it were exchanged.
+pub record Exchanged (n : ℕ) (env kept : List ℕ) (x : ℕ) (env′ kept′ : List ℕ) : Type 0 where
+  pub given : Given n env x (restored env kept x) env′
+  pub here : KeptAs kept′ env x
+  pub there : (y : ℕ) → (y ≡ x → ⊥) → (keptMovedFrom kept′ y ≡ keptMovedFrom kept y) × (keptRoots kept′ y ≡ keptRoots kept y)

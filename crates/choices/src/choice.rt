@@ -6,19 +6,21 @@ ghost use lib.ListN.{length};
 ghost use Rattle.statics.specs.Environment.{Environment};
 ghost use Rattle.statics.specs.Choice.{carried, earlier, joined};
 ghost use Rattle.statics.specs.Neat.{Neat};
-ghost use Rattle.variables.specs.Table.{TableFor, environmentOf, entryWord, noteAt, SameLinks, putAt};
+ghost use Rattle.variables.specs.Table.{TableFor, environmentOf, noteAt, SameLinks};
 ghost use Rattle.variables.specs.Verdicts.{NeatTable, Joins};
-ghost use Rattle.choices.specs.Kept.{keptRoots, KeepsAll, Stays, PutKept, Exchanged, RootsAdded};
-use notes::notes::note_holder;
+ghost use Rattle.choices.specs.Kept.{keptRoots, joinedWith, KeepsAll, Stays, PutKept, Given, Exchanged};
+use notes::notes::store;
 use variables::refusals;
 use variables::roots::Roots;
 use variables::roots::is_empty;
 use variables::roots::less;
 use variables::roots::unite;
+use variables::table::Entry;
 use variables::table::MOVED_FROM;
 use variables::table::NOTE;
-use variables::table::put_roots;
-use variables::table::put_word;
+use variables::table::changed_state;
+use variables::table::end_roots;
+use variables::table::load;
 use variables::table::roots_at;
 use variables::table::word_at;
 use variables::verdicts::Told;
@@ -69,7 +71,7 @@ pub fn keep(env: &[u64], variables: usize, kept: &mut [u64], count: usize)
     }
 }
 
-// What is kept of x becomes the table's, and what the table has is kept. Most variables are as they were: nothing is
+// What is kept of x becomes its state, and the state that it had is kept. Most variables are as they were: nothing is
 // written then.
 fn exchange_one(env: &mut [u64], variables: usize, kept: &mut [u64], x: usize)
     requires { ⌜ TableFor (now env) variables × (x < variables) × (x * 3 + 3 ≤ length (now kept)) ⌝ }
@@ -82,10 +84,13 @@ fn exchange_one(env: &mut [u64], variables: usize, kept: &mut [u64], x: usize)
     if moved_from == moved_now && roots.low == roots_now.low && roots.high == roots_now.high {
         return;
     }
-    keep_one(kept, x, moved_now, roots_now);
-    put_word(env, x, MOVED_FROM, moved_from);
-    put_roots(env, x, roots);
-    note_holder(env, variables, x, roots);
+    let entry = load(env, variables, x);
+    let Entry::Live(state) = entry else {
+        return;
+    };
+    let end = state.borrow_end;
+    keep_one(kept, x, state.moved_from, end_roots(end));
+    store(env, variables, x, changed_state(state, moved_from, roots));
 }
 
 // After the first block: the state that was kept is the table's again, but for numbers taken since (LANGUAGE 3.31); the
@@ -101,27 +106,34 @@ pub fn exchange(env: &mut [u64], variables: usize, kept: &mut [u64], count: usiz
     }
 }
 
-// The links of x from link k on are moved away, if they are not already (LANGUAGE 3.31).
-fn move_earlier(env: &mut [u64], x: usize, k: u64)
-    requires { ⌜ x * 8 + 8 ≤ length (now env) ⌝ }
-    ensures { λ _. ⌜ ((y j : ℕ) → j < 8 → entryWord (now (env .exit)) y j ≡ putAt (entryWord (now (env .entry))) x 4 (earlier k (entryWord (now (env .entry)) x 4)) y j) ⌝ }
+// The earlier of two links (LANGUAGE 3.31).
+fn earlier_link(a: u64, b: u64) -> u64
+    ensures { λ r. ⌜ r ≡ earlier a b ⌝ }
 {
-    if k < word_at(env, x, MOVED_FROM) {
-        put_word(env, x, MOVED_FROM, k);
-    }
+    if a <= b { a } else { b }
 }
 
-// The variable x records these roots too. Most often it does already: nothing is written then.
-fn add_roots(env: &mut [u64], variables: usize, x: usize, roots: Roots)
-    requires { ⌜ TableFor (now env) variables × (x < variables) ⌝ }
-    ensures { λ _. ⌜ RootsAdded variables (now (env .entry)) x roots (now (env .exit)) ⌝ }
+// The variable x is moved away from the earlier of the two links, the one kept and its own, and records the roots of
+// both (LANGUAGE 3.31). Most often that is its state already: nothing is written then.
+fn join_one(env: &mut [u64], variables: usize, kept: &[u64], x: usize)
+    requires { ⌜ TableFor (now env) variables × (x < variables) × (x * 3 + 3 ≤ length (now kept)) ⌝ }
+    ensures { λ _. ⌜ Given variables (now (env .entry)) x (joinedWith (now (env .entry)) (now (kept .entry)) x) (now (env .exit)) ⌝ }
 {
-    let recorded = roots_at(env, x);
-    if is_empty(less(roots, recorded)) {
-        return;
+    let moved_from = kept[x * KEPT];
+    let roots = kept_roots(kept, x);
+    if word_at(env, x, MOVED_FROM) <= moved_from {
+        if is_empty(less(roots, roots_at(env, x))) {
+            return;
+        }
     }
-    put_roots(env, x, unite(recorded, roots));
-    note_holder(env, variables, x, roots);
+    let entry = load(env, variables, x);
+    let Entry::Live(state) = entry else {
+        return;
+    };
+    let end = state.borrow_end;
+    let both = unite(roots, end_roots(end));
+    let first = earlier_link(moved_from, state.moved_from);
+    store(env, variables, x, changed_state(state, first, both));
 }
 
 // After the second block: each variable is moved away from the earlier of the two links, and records the roots of both
@@ -132,8 +144,7 @@ pub fn join(env: &mut [u64], variables: usize, kept: &[u64], count: usize)
 {
     let mut x: usize = 0;
     while x < count {
-        move_earlier(env, x, kept[x * KEPT]);
-        add_roots(env, variables, x, kept_roots(kept, x));
+        join_one(env, variables, kept, x);
         x += 1;
     }
 }

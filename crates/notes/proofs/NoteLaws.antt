@@ -3,7 +3,7 @@ use Prim.Native.Nat.{ℕ, suc, _<_, _≤_}
 use native.Mathlib.Omega.{arith}
 use native.Mathlib.Decide.{ℕ-discrete}
 use mathlib.Core.Path.{_≡_, refl, sym, ap, ap₂, _∙_, subst}
-use mathlib.Core.Logic.{⊎-elim, _⊎_, inl, inr}
+use mathlib.Core.Logic.{⊎-elim, _⊎_}
 use mathlib.Core.Bool.{Bool, true, false, true≢false}
 use mathlib.Core.List.{List, [], _∷_}
 use lib.Dec.{leb, eqb}
@@ -16,18 +16,14 @@ use Rattle.variables.specs.declared.roots.Roots.{Roots}
 use Rattle.variables.specs.declared.table.BorrowEnd.{BorrowEnd}
 use Rattle.variables.specs.declared.table.BorrowEnd.the-variants as end
 use Rattle.variables.proofs.table.BorrowEnd.{the-type}
-use Rattle.statics.specs.Links.{Link, boxed, shared, exclusive, leadingBoxes}
-use Rattle.statics.specs.Environment.{Borrow, Slot, free, used, live, isFree, update, movedAwayAt, refilled, widened}
+use Rattle.statics.specs.Environment.{used, isFree, update}
 use Rattle.variables.specs.Chains.{chainOf, isExclusive}
-use Rattle.statics.specs.Roots.{left}
 use Rattle.variables.specs.Masks.{has}
-use Rattle.variables.specs.Table.{entryWord, linksAt, longAt, rootsAt, holdersAt, endIn, variableOf, variableAt, slotAs, environmentOf, noteAt, borrowEndOf, Noted, TableFor, HolderNoted, MemberAdded, ExclusiveNoted, SameLinks}
-use Rattle.variables.proofs.MaskLaws.{in-none}
-use Rattle.statics.proofs.RootLaws.{or, or-true, or-left, or-right}
-use Rattle.variables.proofs.WordLaws.{Put, put-at, put-off, PutSet, set-off, roots-put, holders-put, Raised, raised-off, raised-there, roots-same, holders-same, links-same, entry-links, entry-roots, end-same, slot-same, updated, slot-changed}
+use Rattle.variables.specs.Table.{entryWord, linksAt, rootsAt, holdersAt, variableAt, slotAs, environmentOf, noteAt, Noted, TableFor, HolderNoted, MemberAdded, ExclusiveNoted, SameLinks}
+use Rattle.statics.proofs.RootLaws.{or, or-left, or-right}
+use Rattle.variables.proofs.WordLaws.{Put, put-at, put-off, PutSet, set-off, holders-put, Raised, raised-off, raised-there, holders-same, links-same, entry-links, entry-roots, end-same, slot-same, updated}
 use Rattle.variables.proofs.EntryLaws.{status-inside}
 use Rattle.variables.proofs.TableLaws.{SameEntry, free-test}
-use Rattle.variables.proofs.EndRoots.{end-united}
 
 -- ---- while holders are noted
 
@@ -94,28 +90,21 @@ module _ (n : ℕ) (env : List ℕ) (x : ℕ) (s : Roots) where
 
 -- ---- that a borrow link is exclusive
 
-end-exclusive : (ks : List Link) (s : Roots) → isExclusive ks ≡ true → borrowEndOf ks s ≡ end.Exclusive s
-unfolding isExclusive borrowEndOf
-end-exclusive [] s h = absurd (true≢false (sym h))
-end-exclusive (boxed ∷ ks) s h = end-exclusive ks s h
-end-exclusive (shared ∷ ks) s h = absurd (true≢false (sym h))
-end-exclusive (exclusive ∷ ks) s h = refl
-
-module _ (n : ℕ) (env : List ℕ) (x links : ℕ) where
-  pub exclusive-noted : (env′ : List ℕ) → MemberAdded env n x env′ → ExclusiveNoted n env x links env′
+module _ (n : ℕ) (env : List ℕ) (x : ℕ) (e : BorrowEnd) where
+  pub exclusive-noted : (env′ : List ℕ) → MemberAdded env n x env′ → ExclusiveNoted n env x e env′
   exclusive-noted env′ M =
       record {
         others = M .others;
         kept = λ y h. M .members y ∙ or-left (has (rootsAt env n) y) (eqb x y) h;
-        new = λ h. M .members x ∙ or-right (has (rootsAt env n) x) (eqb x x) (eq-eqb x x refl);
+        new = λ s h. M .members x ∙ or-right (has (rootsAt env n) x) (eqb x x) (eq-eqb x x refl);
       }
 
   -- What an `else` knows: the end is one of the first two, so there is nothing to note.
-  pub exclusive-not : (s : Roots) (e : BorrowEnd) → e ≡ borrowEndOf (chainOf links) s → OneOf (0 ∷ 1 ∷ []) (tagOf the-type e) → ExclusiveNoted n env x links env
-  exclusive-not s e told other = record { others = λ y k l h. refl; kept = λ y h. h; new = λ h. absurd (never h) }
+  pub exclusive-not : OneOf (0 ∷ 1 ∷ []) (tagOf the-type e) → ExclusiveNoted n env x e env
+  exclusive-not other = record { others = λ y k l h. refl; kept = λ y h. h; new = λ s h. absurd (never s h) }
     where
-      never : isExclusive (chainOf links) ≡ true → ⊥
-      never h = let z : tagOf the-type e ≡ 2 = ap (tagOf the-type) (told ∙ end-exclusive (chainOf links) s h) in ⊎-elim (λ k. omega arith) (λ k. omega arith) other
+      never : (s : Roots) → e ≡ end.Exclusive s → ⊥
+      never s h = let z : tagOf the-type e ≡ 2 = ap (tagOf the-type) h in ⊎-elim (λ k. omega arith) (λ k. omega arith) other
 
 -- ---- one entry changed
 
@@ -233,108 +222,3 @@ module _ (env : List ℕ) (n x : ℕ) (T : TableFor env n) (inside : x < n) wher
 
     pub number-taken : (environmentOf env₂ ≡ update (environmentOf env) x used) × TableFor env₂ n × SameLinks env env₂
     number-taken = (taken-environment, taken-table, take-links)
-
-  -- ---- its value changes: from where it is moved away, its roots, or both; and who may hold a borrow of these is noted
-
-  module _ (env₁ env₂ : List ℕ) (d : ℕ) (s t : Roots)
-      (off : (y j : ℕ) → j < 8 → (x ≡ y → 2 ≡ j → ⊥) → (x ≡ y → 4 ≡ j → ⊥) → (x ≡ y → 6 ≡ j → ⊥) → entryWord env₁ y j ≡ entryWord env y j)
-      (moved : entryWord env₁ x 4 ≡ d) (roots : rootsAt env₁ x ≡ s) (H : HolderNoted n env₁ x t env₂) (same : length env₂ ≡ length env)
-      (covered : (r : ℕ) → has s r ≡ true → (has (rootsAt env x) r ≡ true) ⊎ (has t r ≡ true)) where
-    value-off : (y j : ℕ) → j < 8 → (j ≡ 3 → ⊥) → (j ≡ 7 → ⊥) → (x ≡ y → 2 ≡ j → ⊥) → (x ≡ y → 4 ≡ j → ⊥) → (x ≡ y → 6 ≡ j → ⊥) → entryWord env₂ y j ≡ entryWord env y j
-    value-off y j l a b p q r = H .entries y j l a b ∙ off y j l p q r
-
-    value-others : (y : ℕ) → (x ≡ y → ⊥) → SameEntry env env₂ y
-    value-others y q k l a b = value-off y k l a b (λ p e. q p) (λ p e. q p) (λ p e. q p)
-
-    value-links : SameLinks env env₂
-    value-links y = links-same env env₂ y (value-off y 1 (omega arith) (λ q. omega arith) (λ q. omega arith) (λ p q. omega arith) (λ p q. omega arith) (λ p q. omega arith))
-
-    value-status : entryWord env₂ x 0 ≡ entryWord env x 0
-    value-status = value-off x 0 (omega arith) (λ q. omega arith) (λ q. omega arith) (λ p q. omega arith) (λ p q. omega arith) (λ p q. omega arith)
-
-    value-roots : rootsAt env₂ x ≡ s
-    value-roots = roots-same env₁ env₂ x (H .entries x 2 (omega arith) (λ q. omega arith) (λ q. omega arith)) (H .entries x 6 (omega arith) (λ q. omega arith) (λ q. omega arith)) ∙ roots
-
-    value-variable : variableAt env₂ x ≡ variableOf env (linksAt env x) d s (entryWord env x 5)
-    value-variable =
-        rw (
-          value-links x,
-          H .entries x 4 (omega arith) (λ q. omega arith) (λ q. omega arith) ∙ moved,
-          value-off x 5 (omega arith) (λ q. omega arith) (λ q. omega arith) (λ p q. omega arith) (λ p q. omega arith) (λ p q. omega arith),
-          value-roots,
-          end-same env env₂ (chainOf (linksAt env x)) s s (λ y. refl) (λ y h. value-links y),
-        )
-
-    value-kept : (r y : ℕ) → r < n → has (holdersAt env r) y ≡ true → has (holdersAt env₂ r) y ≡ true
-    value-kept r y l h =
-        let as-before : holdersAt env₁ r ≡ holdersAt env r =
-        holders-same env env₁ r (off r 3 (omega arith) (λ p q. omega arith) (λ p q. omega arith) (λ p q. omega arith)) (off r 7 (omega arith) (λ p q. omega arith) (λ p q. omega arith) (λ p q. omega arith)) in
-        H .kept r y l (ap (λ (k : Roots). has k y) as-before ∙ h)
-
-    value-own : (r : ℕ) → r < n → 2 ≤ entryWord env₂ x 0 → has (rootsAt env₂ x) r ≡ true → has (holdersAt env₂ r) x ≡ true
-    value-own r l a h = elim (covered r (ap (λ (k : Roots). has k r) (sym value-roots) ∙ h)) [
-      | inl o ↦ value-kept r x l (T .2 .held x r inside l (subst (λ (k : ℕ). 2 ≤ k) value-status a) o)
-      | inr o ↦ H .new r l o
-    ]
-
-    value-notes : (y : ℕ) → n ≤ y → noteAt env₂ y ≡ noteAt env y
-    value-notes y l = H .notes y l ∙ off y 7 (omega arith) (λ p q. omega arith) (λ p q. omega arith) (λ p q. omega arith)
-
-    module _ (f : Slot → Slot) (none : f free ≡ free) (taken : f used ≡ used)
-        (there : f (live (variableAt env x)) ≡ live (variableOf env (linksAt env x) d s (entryWord env x 5))) where
-      value-slot : environmentOf env₂ x ≡ f (environmentOf env x)
-      unfolding environmentOf
-      value-slot =
-          ap (λ (k : ℕ). slotAs k (variableAt env₂ x)) value-status
-          ∙ slot-changed f (variableAt env x) (variableAt env₂ x) none taken (there ∙ ap live (sym value-variable)) (entryWord env x 0)
-
-      value-environment : environmentOf env₂ ≡ update (environmentOf env) x (f (environmentOf env x))
-      value-environment =
-          updated env env₂ x (f (environmentOf env x))
-          (λ y q. slot-same env env₂ y (value-others y q) (λ l. end-same env env₂ (chainOf (linksAt env y)) (rootsAt env y) (rootsAt env y) (λ z. refl) (λ z h. value-links z)))
-          value-slot
-
-      value-changed : (environmentOf env₂ ≡ update (environmentOf env) x (f (environmentOf env x))) × TableFor env₂ n × SameLinks env env₂
-      value-changed =
-          let at-next = value-notes (suc n) (omega arith) in (
-            value-environment,
-            (same ∙ T .0, T .1, noted-as-before env n x (T .2) inside env₂ value-others (value-links x) (ap (leb 2) value-status) value-kept value-own (omega arith) (omega (arith, T .2 .most)) (λ h. value-status ∙ T .2 .untaken x (omega arith))),
-            value-links,
-          )
-
-  pub moved-away : (k : ℕ) (env₁ : List ℕ) → length env₁ ≡ length env → Put env x 4 k env₁
-      → (environmentOf env₁ ≡ update (environmentOf env) x (movedAwayAt (environmentOf env x) k)) × TableFor env₁ n × SameLinks env env₁
-  moved-away k env₁ same put =
-      value-changed env₁ env₁ k (rootsAt env x) (record { low = 0; high = 0 })
-      (λ y j l p q r. put-off env env₁ x 4 k put y j l q)
-      (put-at env env₁ x 4 k put (omega arith))
-      (roots-same env env₁ x (put-off env env₁ x 4 k put x 2 (omega arith) (λ p q. omega arith)) (put-off env env₁ x 4 k put x 6 (omega arith) (λ p q. omega arith)))
-      (record { entries = λ y j l a b. refl; notes = λ y l. refl; kept = λ r y l h. h; new = λ r l h. absurd (true≢false (sym h ∙ in-none r)) })
-      same
-      (λ r h. inl h)
-      (λ (z : Slot). movedAwayAt z k) refl refl refl
-
-  pub refilled-by : (d : ℕ) (s : Roots) (env₁ env₂ env₃ : List ℕ) → length env₃ ≡ length env → d ≡ suc (leadingBoxes (chainOf (linksAt env x)))
-      → Put env x 4 d env₁ → PutSet env₁ x 2 s env₂ → HolderNoted n env₂ x s env₃
-      → (environmentOf env₃ ≡ update (environmentOf env) x (refilled (environmentOf env x) (endIn env (chainOf (linksAt env x)) s))) × TableFor env₃ n × SameLinks env env₃
-  refilled-by d s env₁ env₂ env₃ same whole put set H =
-      value-changed env₂ env₃ (suc (leadingBoxes (chainOf (linksAt env x)))) s s
-      (λ y j l p q r. set-off env₁ env₂ x 2 s set y j l p r ∙ put-off env env₁ x 4 d put y j l q)
-      (set-off env₁ env₂ x 2 s set x 4 (omega arith) (λ p q. omega arith) (λ p q. omega arith) ∙ put-at env env₁ x 4 d put (omega arith) ∙ whole)
-      (roots-put env₁ env₂ x s set) H same
-      (λ r h. inr h)
-      (λ (z : Slot). refilled z (endIn env (chainOf (linksAt env x)) s)) refl refl refl
-
-  pub widened-by : (old s all : Roots) (env₁ env₂ : List ℕ) → length env₂ ≡ length env → old ≡ rootsAt env x → ((y : ℕ) → has all y ≡ pick (has old y) true (has s y))
-      → PutSet env x 2 all env₁ → HolderNoted n env₁ x s env₂
-      → (environmentOf env₂ ≡ update (environmentOf env) x (widened (environmentOf env x) (endIn env (chainOf (linksAt env x)) s))) × TableFor env₂ n × SameLinks env env₂
-  widened-by old s all env₁ env₂ same read more set H =
-      let either : (y : ℕ) → has all y ≡ or (has (rootsAt env x) y) (has s y) = λ y. more y ∙ ap (λ (k : Roots). or (has k y) (has s y)) read in
-      value-changed env₁ env₂ (entryWord env x 4) all s
-      (λ y j l p q r. set-off env env₁ x 2 all set y j l p r)
-      (set-off env env₁ x 2 all set x 4 (omega arith) (λ p q. omega arith) (λ p q. omega arith))
-      (roots-put env env₁ x all set) H same
-      (λ r h. or-true (has (rootsAt env x) r) (has s r) (sym (either r) ∙ h))
-      (λ (z : Slot). widened z (endIn env (chainOf (linksAt env x)) s)) refl refl
-      (ap (λ (b : Borrow). live (record { chain = chainOf (linksAt env x); movedFrom = entryWord env x 4; borrow = b; level = entryWord env x 5 }))
-      (sym (end-united (chainOf (linksAt env x)) (longAt env) (left (chainOf (linksAt env x))) (rootsAt env x) s all either)))

@@ -5,10 +5,9 @@ ghost use mathlib.Core.Path.{_≡_};
 ghost use mathlib.Core.Bool.{true};
 ghost use Prim.Native.Nat.{ℕ, _<_, _≤_, _+_, _*_};
 ghost use lib.ListN.{length};
-ghost use Rattle.statics.specs.Environment.{used, live, isFree, fresh, update, movedAwayAt, refilled, widened};
+ghost use Rattle.statics.specs.Environment.{used, live, isFree, update, movedAwayAt, refilled, widened};
 ghost use Rattle.variables.specs.Chains.{chainOf};
-ghost use Rattle.variables.specs.Table.{TableFor, entryWord, environmentOf, linksAt, endIn, HolderNoted, MemberAdded, ExclusiveNoted, Unrecorded, SameLinks, raised};
-use variables::chains::leading_boxes;
+ghost use Rattle.variables.specs.Table.{TableFor, entryWord, environmentOf, linksAt, endIn, asVariable, Fits, Stored, HolderNoted, MemberAdded, ExclusiveNoted, Unrecorded, SameLinks, raised};
 use variables::roots::Roots;
 use variables::roots::is_empty;
 use variables::roots::lowest;
@@ -16,6 +15,7 @@ use variables::roots::only;
 use variables::roots::unite;
 use variables::roots::without;
 use variables::table::BorrowEnd;
+use variables::table::Entry;
 use variables::table::LEVEL;
 use variables::table::LINKS;
 use variables::table::LIVE;
@@ -23,9 +23,12 @@ use variables::table::MOVED_FROM;
 use variables::table::NOTE;
 use variables::table::STATUS;
 use variables::table::USED;
-use variables::table::borrow_end_of;
+use variables::table::VariableState;
+use variables::table::changed_state;
+use variables::table::end_roots;
 use variables::table::holders_at;
-use variables::table::links_at;
+use variables::table::load;
+use variables::table::nothing_moved;
 use variables::table::put_holders;
 use variables::table::put_roots;
 use variables::table::put_word;
@@ -68,29 +71,38 @@ fn add_member(env: &mut [u64], row: usize, x: usize)
 }
 
 // Notes that the first borrow link of x is exclusive, if it is (LANGUAGE 3.11).
-fn note_exclusive(env: &mut [u64], variables: usize, x: usize, links: u32)
+fn note_exclusive(env: &mut [u64], variables: usize, x: usize, end: BorrowEnd)
     requires { ⌜ (variables * 8 + 16 ≤ length (now env)) × (x < 128) ⌝ }
-    ensures { λ _. ⌜ ExclusiveNoted variables (now (env .entry)) x links (now (env .exit)) ⌝ }
+    ensures { λ _. ⌜ ExclusiveNoted variables (now (env .entry)) x end (now (env .exit)) ⌝ }
 {
-    let end = borrow_end_of(links, only(x));
     if let BorrowEnd::Exclusive(_) = end {
         add_member(env, variables, x);
     }
 }
 
-// The end of a let (LANGUAGE 3.24): the number x is in scope from here on, with a value of these links. Nothing records
-// x before.
-pub fn store(env: &mut [u64], variables: usize, x: usize, links: u32, roots: Roots, level: u64)
-    requires { ⌜ TableFor (now env) variables × (x < variables) × (environmentOf (now env) x ≡ used) × Unrecorded (now env) x (endIn (now env) (chainOf links) roots) ⌝ }
-    ensures { λ _. ⌜ (environmentOf (now (env .exit)) ≡ update (environmentOf (now (env .entry))) x (live (fresh (chainOf links) (endIn (now (env .entry)) (chainOf links) roots) level))) × TableFor (now (env .exit)) variables ⌝ }
+// The state that a let, an assign or a choice gives x (LANGUAGE 3.24, 3.25, 3.31).
+pub fn store(env: &mut [u64], variables: usize, x: usize, state: VariableState)
+    requires { ⌜ (variables * 8 + 16 ≤ length (now env)) × (x < variables) × (variables ≤ 128) × Fits state ⌝ }
+    ensures { λ _. ⌜ Stored variables (now (env .entry)) x state (now (env .exit)) ⌝ }
 {
-    put_word(env, x, STATUS, LIVE);
-    put_word(env, x, LINKS, links as u64);
-    put_word(env, x, MOVED_FROM, (leading_boxes(links) + 1) as u64);
-    put_word(env, x, LEVEL, level);
+    let end = state.borrow_end;
+    let roots = end_roots(end);
+    put_word(env, x, LINKS, state.links as u64);
+    put_word(env, x, MOVED_FROM, state.moved_from);
+    put_word(env, x, LEVEL, state.level);
     put_roots(env, x, roots);
     note_holder(env, variables, x, roots);
-    note_exclusive(env, variables, x, links);
+}
+
+// The end of a let (LANGUAGE 3.24): the number x is in scope from here on, in this state. Nothing records x before.
+pub fn declare(env: &mut [u64], variables: usize, x: usize, state: VariableState)
+    requires { ⌜ TableFor (now env) variables × (x < variables) × (environmentOf (now env) x ≡ used) × Fits state × Unrecorded (now env) x (asVariable (now env) state .borrow) ⌝ }
+    ensures { λ _. ⌜ (environmentOf (now (env .exit)) ≡ update (environmentOf (now (env .entry))) x (live (asVariable (now (env .entry)) state))) × TableFor (now (env .exit)) variables ⌝ }
+{
+    put_word(env, x, STATUS, LIVE);
+    store(env, variables, x, state);
+    let end = state.borrow_end;
+    note_exclusive(env, variables, x, end);
     add_member(env, variables + 1, x);
 }
 
@@ -116,10 +128,12 @@ pub fn refill(env: &mut [u64], variables: usize, x: usize, roots: Roots)
     requires { ⌜ TableFor (now env) variables × (x < variables) ⌝ }
     ensures { λ _. ⌜ (environmentOf (now (env .exit)) ≡ update (environmentOf (now (env .entry))) x (refilled (environmentOf (now (env .entry)) x) (endIn (now (env .entry)) (chainOf (linksAt (now (env .entry)) x)) roots))) × TableFor (now (env .exit)) variables × SameLinks (now (env .entry)) (now (env .exit)) ⌝ }
 {
-    let boxes = leading_boxes(links_at(env, x));
-    put_word(env, x, MOVED_FROM, (boxes + 1) as u64);
-    put_roots(env, x, roots);
-    note_holder(env, variables, x, roots);
+    let entry = load(env, variables, x);
+    let Entry::Live(state) = entry else {
+        return;
+    };
+    let whole = changed_state(state, nothing_moved(state.links), roots);
+    store(env, variables, x, whole);
 }
 
 // A value may be written to x (LANGUAGE 3.25): its places are added, and what is moved away stays so.
@@ -127,7 +141,12 @@ pub fn widen(env: &mut [u64], variables: usize, x: usize, roots: Roots)
     requires { ⌜ TableFor (now env) variables × (x < variables) ⌝ }
     ensures { λ _. ⌜ (environmentOf (now (env .exit)) ≡ update (environmentOf (now (env .entry))) x (widened (environmentOf (now (env .entry)) x) (endIn (now (env .entry)) (chainOf (linksAt (now (env .entry)) x)) roots))) × TableFor (now (env .exit)) variables × SameLinks (now (env .entry)) (now (env .exit)) ⌝ }
 {
-    let all = unite(roots_at(env, x), roots);
-    put_roots(env, x, all);
-    note_holder(env, variables, x, roots);
+    let entry = load(env, variables, x);
+    let Entry::Live(state) = entry else {
+        return;
+    };
+    let end = state.borrow_end;
+    let all = unite(end_roots(end), roots);
+    let wider = changed_state(state, state.moved_from, all);
+    store(env, variables, x, wider);
 }

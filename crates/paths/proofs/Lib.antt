@@ -3,4 +3,5 @@ pub mod EveryRoot
 pub mod LeavingLaws
 pub mod StepLaws
 pub mod SearchLaws
+pub mod WholeLaws
 pub mod GatherLaws

@@ -7,7 +7,7 @@ use mathlib.Core.Bool.{Bool, true, false, false≢true, true≢false}
 use mathlib.Core.List.{List}
 use lib.ListN.{length, length-drop}
 use lib.Dec.{eqb}
-use borrow.Author.Tests.{lt-ltb, eqb-true, eq-eqb}
+use borrow.Author.Tests.{eqb-true, eq-eqb}
 use denote.Enum.Declared.{tagOf}
 use Rattle.syntax.specs.Result.{pick}
 use Rattle.syntax.specs.Script.{Place}
@@ -19,22 +19,22 @@ use Rattle.paths.specs.declared.follow.Step.{Step}
 use Rattle.paths.specs.declared.follow.Step.the-variants as step
 use Rattle.statics.specs.Links.{Link, leadingBoxes}
 use Rattle.statics.specs.Places.{every, rooted}
-use Rattle.statics.specs.Environment.{Variable, live, holding}
-use Rattle.statics.specs.Follow.{ownLink, wholeSlot, valueWhole}
+use Rattle.statics.specs.Environment.{Variable, live}
+use Rattle.statics.specs.Follow.{ownLink}
 use Rattle.statics.specs.Neat.{place}
 use Rattle.statics.specs.Roots.{linksOf, lengths, placesOf, leads, MetFrom}
 use Rattle.variables.specs.Chains.{chainOf}
 use Rattle.variables.specs.Masks.{has}
-use Rattle.variables.specs.Table.{entryWord, longAt, linksAt, rootsAt, variableAt, environmentOf}
+use Rattle.variables.specs.Table.{longAt, linksAt, rootsAt, variableAt, environmentOf}
 use Rattle.variables.specs.Verdicts.{NeatTable}
 use Rattle.paths.specs.Steps.{passesSlot, passes, Passed, Searched}
 use Rattle.statics.proofs.SetLaws.{rooted-out}
 use Rattle.statics.proofs.FollowBound.{all-met}
-use Rattle.statics.proofs.FollowRoots.{roots-met, whole-by-roots, every-root}
+use Rattle.statics.proofs.FollowRoots.{roots-met, every-root}
 use Rattle.statics.proofs.ClosureLoop.{metAfter, todoAfter, over, count, waiting}
 use Rattle.statics.proofs.SetSearch.{Search, so-far, no-more, search-begins, search-round, search-less, here-met, here-todo, search-next}
 use Rattle.variables.proofs.EntryLaws.{live-status}
-use Rattle.paths.proofs.StepLaws.{stops-deep, passes-at, ends-at, passed-at, leads-nowhere, leads-to-roots}
+use Rattle.paths.proofs.StepLaws.{passes-at, ends-at, passed-at, leads-nowhere, leads-to-roots}
 
 -- ---- in a table
 
@@ -99,11 +99,11 @@ module _ (env : List ℕ) (n : ℕ) (T : NeatTable env n) (root m : ℕ) (is : e
       not-all false k = refl
 
   -- The root is always met.
-  root-stops : (deep : Bool) → passesSlot deep (live (variableAt env root)) (longAt env root - m) ≡ false → Searched n (environmentOf env) root m deep ends.MovedAway
+  pub root-stops : (deep : Bool) → passesSlot deep (live (variableAt env root)) (longAt env root - m) ≡ false → Searched n (environmentOf env) root m deep ends.MovedAway
   root-stops deep h = stops-at deep root root-met h
 
   -- Where following ends in the root, nothing else is met.
-  root-alone : longAt env root - m ≤ leadingBoxes (chainOf (linksAt env root)) → MetFrom (environmentOf env) m root (eqb root)
+  pub root-alone : longAt env root - m ≤ leadingBoxes (chainOf (linksAt env root)) → MetFrom (environmentOf env) m root (eqb root)
   root-alone h = record {
     start = λ y k. k;
     closed = λ y z k l. absurd (false≢true (sym (leads-nowhere env root m is h z) ∙ ap (λ (w : ℕ). leads (environmentOf env) m w z) (eqb-true root y k) ∙ l));
@@ -224,33 +224,3 @@ module _ (env : List ℕ) (n : ℕ) (T : NeatTable env n) (root f : ℕ) (is : e
 
     pub beyond-found : (found : Ends) → Searched n (environmentOf env) root (many - f) false found → Searched n (environmentOf env) root (longAt env root - f) false found
     beyond-found found S = subst (λ (k : ℕ). Searched n (environmentOf env) root (k - f) false found) counted S
-
--- ---- whole values
-
-module _ (env : List ℕ) (n : ℕ) (T : NeatTable env n) (x : ℕ) (is : environmentOf env x ≡ live (variableAt env x)) where
-  abbrev whole : Bool
-  whole = valueWhole n (environmentOf env) x (variableAt env x)
-
-  -- Whole is every variable met on the way to the end of the links.
-  whole-met : (f : ℕ → Bool) → MetFrom (environmentOf env) 0 x f → whole ≡ every (passes true (environmentOf env)) (placesOf n f (lengths (environmentOf env)) 0)
-  unfolding passesSlot
-  whole-met f F =
-      let z : longAt env x - longAt env x ≡ 0 = omega arith in
-      let l : longAt env x ≤ longAt env x = omega arith in
-      let W = whole-by-roots (T .1 .1) (place x (longAt env x)) (variableAt env x) is l f (subst (λ (k : ℕ). MetFrom (environmentOf env) k x f) (sym z) F) refl in
-      W ∙ ap (λ (k : ℕ). every (λ q. wholeSlot (environmentOf env (q .root))) (placesOf n f (lengths (environmentOf env)) k)) z
-
-  -- So it is what the search says that asks each variable for all of it.
-  pub whole-found : (r : Ends) → Searched n (environmentOf env) x 0 true r → (r ≡ ends.Own → true ≡ whole) × ((s : Roots) → r ≡ ends.At s → true ≡ whole) × (r ≡ ends.MovedAway → false ≡ whole)
-  whole-found r S = (λ e. sym (whole-met (S .met) (S .is) ∙ S .own e .0), λ s e. sym (whole-met (S .met) (S .is) ∙ S .passed s e), λ e. sym (whole-met (S .met) (S .is) ∙ S .moved e))
-
-  -- Without a search: something of the variable itself is moved away, or nothing is and it has no borrow link.
-  pub moved-there : entryWord env x 4 ≤ leadingBoxes (chainOf (linksAt env x)) → false ≡ whole
-  moved-there h = whole-found ends.MovedAway (root-stops env n T x 0 is (omega arith) true (stops-deep (variableAt env x) (longAt env x - 0) true refl h)) .2 refl
-
-  pub whole-there : leadingBoxes (chainOf (linksAt env x)) < entryWord env x 4 → longAt env x ≡ leadingBoxes (chainOf (linksAt env x)) → true ≡ whole
-  unfolding passesSlot wholeSlot holding
-  whole-there h e =
-      let k : wholeSlot (environmentOf env x) ≡ true = ap wholeSlot is ∙ lt-ltb (leadingBoxes (chainOf (linksAt env x))) (entryWord env x 4) h in
-      sym (whole-met (eqb x) (root-alone env n T x 0 is (omega arith) (omega (arith, e)))
-      ∙ every-root n (eqb x) (environmentOf env) 0 (passes true (environmentOf env)) .1 (λ y l i. ap (λ (w : ℕ). wholeSlot (environmentOf env w)) (sym (eqb-true x y i)) ∙ k))

@@ -9,7 +9,6 @@ use mathlib.Core.List.{List, [], _∷_}
 use lib.ListN.{length}
 use borrow.Author.Tests.{le-leb, lt-leb, lt-ltb, le-ltb}
 use denote.Enum.Declared.{tagOf}
-use Rattle.syntax.specs.Script.{Place}
 use Rattle.paths.specs.declared.follow.Step.the-variants as step
 use Rattle.paths.proofs.follow.Step.{the-type}
 use Rattle.statics.specs.Links.{Link, boxed, shared, exclusive, leadingBoxes}

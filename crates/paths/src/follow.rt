@@ -22,8 +22,11 @@ use variables::roots::no_roots;
 use variables::roots::only;
 use variables::roots::unite;
 use variables::roots::without;
+use variables::table::BorrowEnd;
+use variables::table::Entry;
 use variables::table::MOVED_FROM;
 use variables::table::links_at;
+use variables::table::load;
 use variables::table::roots_at;
 use variables::table::word_at;
 
@@ -127,12 +130,15 @@ pub fn value_whole(env: &[u64], variables: usize, x: usize) -> bool
     requires { ⌜ NeatTable (now env) variables × (environmentOf (now env) x ≡ live (variableAt (now env) x)) ⌝ }
     ensures { λ r. ⌜ r ≡ valueWhole variables (environmentOf (now (env .entry))) x (variableAt (now (env .entry)) x) ⌝ }
 {
-    let links = links_at(env, x);
-    let boxes = leading_boxes(links);
-    if word_at(env, x, MOVED_FROM) <= boxes as u64 {
+    let entry = load(env, variables, x);
+    let Entry::Live(state) = entry else {
+        return false;
+    };
+    if state.moved_from <= leading_boxes(state.links) as u64 {
         return false;
     }
-    if chain_length(links) == boxes {
+    let end = state.borrow_end;
+    if let BorrowEnd::None = end {
         return true;
     }
     let ends = search_beyond(env, variables, x, 0, true);

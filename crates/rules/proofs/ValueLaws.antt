@@ -1,5 +1,5 @@
 -- A value by the table in which its roots are: with a box in front, some boxes fewer, and when only links stay.
-use Prim.Native.Nat.{ℕ, _≤_, _<_}
+use Prim.Native.Nat.{ℕ, suc, _≤_, _<_}
 use native.Mathlib.Omega.{arith}
 use mathlib.Core.Path.{_≡_, refl, sym, ap, ap₂, _∙_, subst}
 use mathlib.Core.Bool.{Bool, true, false, false≢true}
@@ -10,6 +10,8 @@ use lib.Dec.{leb}
 use Rattle.syntax.specs.Result.{ok, need, _>>=_}
 use Rattle.syntax.specs.Script.{Place}
 use Rattle.variables.specs.declared.roots.Roots.{Roots}
+use Rattle.variables.specs.declared.table.BorrowEnd.{BorrowEnd}
+use Rattle.variables.specs.declared.table.VariableState.{VariableState}
 use Rattle.variables.specs.declared.verdicts.ValueType.{ValueType}
 use Rattle.variables.specs.declared.verdicts.Value.{Value}
 use Rattle.variables.specs.declared.verdicts.Value.the-variants as value
@@ -24,7 +26,7 @@ use Rattle.statics.specs.Roots.{lengths, placeAt, placesFrom, placesOf, left}
 use Rattle.variables.specs.Masks.{has}
 use Rattle.variables.specs.Chains.{chainOf}
 use Rattle.paths.specs.Steps.{BorrowedAt}
-use Rattle.variables.specs.Table.{linksAt, longAt, rootsAt, placesIn, endIn, variableAt, environmentOf, Unrecorded, SameLinks}
+use Rattle.variables.specs.Table.{linksAt, longAt, rootsAt, placesIn, endIn, variableAt, environmentOf, borrowEndOf, asBorrow, asVariable, Fits, Unrecorded, SameLinks}
 use Rattle.variables.specs.Verdicts.{typeOf, asValue, answeredAs, RootsIn}
 use Rattle.statics.proofs.Slots.{used≢live}
 use Rattle.statics.proofs.LinkChains.{boxes-drop, same-behind, same-end}
@@ -36,7 +38,7 @@ use Rattle.statics.proofs.RootLaws.{from-out, from-in}
 use Rattle.statics.proofs.RootSets.{from-ordered}
 use Rattle.variables.proofs.EntryLaws.{live-status}
 use Rattle.variables.proofs.TableLaws.{kept-end}
-use Rattle.variables.proofs.EndLaws.{no-places, linked-places}
+use Rattle.variables.proofs.EndLaws.{told-as, end-fits, no-places, linked-places}
 
 -- ---- ends
 
@@ -108,28 +110,39 @@ unrecorded-in Γ ks l b x H u = go (rooted (places b) x) refl
     go true e = let k = rooted-out (places b) x e in absurd (used≢live (sym u ∙ ap Γ (sym (k .2)) ∙ H .recorded (k .0) (k .1) .is))
     go false e = refl
 
--- So it is recorded nowhere, nor by the value, which records the roots r.
-pub unrecorded : (env : List ℕ) (nv at level x : ℕ) (v : Value) (t : ValueType) (r : Roots) → Neat nv (environmentOf env) at → environmentOf env x ≡ used → v ≡ value.Of t
-    → NeatValue (environmentOf env) level (asValue env v) → places (endIn env (chainOf (t .links)) (t .roots)) ≡ placesIn env (chainOf (t .links)) r → Unrecorded env x (endIn env (chainOf (t .links)) r)
-unfolding asValue borrowOf rooted someOf
-unrecorded env nv at level x v t r N u o W e = (
-  λ y. go y (environmentOf env y) refl,
-  ap (λ (b : Borrow). rooted (places b) x) (end-recorded env (chainOf (t .links)) (t .roots) r e)
-      ∙ unrecorded-in (environmentOf env) (chainOf (t .links)) level (endIn env (chainOf (t .links)) (t .roots)) x (W (typeOf (chainOf (t .links)) (endIn env (chainOf (t .links)) (t .roots))) (ap (asValue env) o)) u,
-)
-  where
-    go : (y : ℕ) (sl : Slot) → environmentOf env y ≡ sl → rooted (places (borrowOf sl)) x ≡ false
-    go y free q = refl
-    go y used q = refl
-    go y (live v) q = unrecorded-in (environmentOf env) (v .chain) (v .level) (v .borrow) x (N .holds y v q) u
+-- The state that a let gives a variable (LANGUAGE 3.24): nothing is moved away, and it has the value's borrow end.
+module _ (env : List ℕ) (t : ValueType) (d level : ℕ) (e : BorrowEnd) (whole : d ≡ suc (leadingBoxes (chainOf (t .links)))) (told : e ≡ borrowEndOf (chainOf (t .links)) (t .roots)) where
+  abbrev given : VariableState
+  given = record { links = t .links; «moved_from» = d; «borrow_end» = e; level = level }
 
--- Let (LANGUAGE 3.24): the variable has the value's borrow end.
-pub let-there : (env env′ : List ℕ) (nv level i x : ℕ) (v : Value) (t : ValueType) (r : Roots) → v ≡ value.Of t → places (endIn env (chainOf (t .links)) (t .roots)) ≡ placesIn env (chainOf (t .links)) r
-    → environmentOf env′ ≡ update (environmentOf env) x (live (fresh (chainOf (t .links)) (endIn env (chainOf (t .links)) r) level))
-    → answeredAs env′ i (verdict.Fine value.None) ≡ judgeLet nv level (environmentOf env) i x (asValue env v)
-unfolding judgeLet answeredAs asValue valued _>>=_
-let-there env env′ nv level i x v t r o h e =
-    rw o (ap (λ (Δ : Environment). ok (Δ, none)) (e ∙ ap (λ (b : Borrow). update (environmentOf env) x (live (fresh (chainOf (t .links)) b level))) (end-recorded env (chainOf (t .links)) (t .roots) r h)))
+  pub let-fits : Fits given
+  let-fits = rw told (end-fits (chainOf (t .links)) (t .roots))
+
+  let-borrow : asBorrow (placesIn env (chainOf (t .links))) e ≡ endIn env (chainOf (t .links)) (t .roots)
+  let-borrow = ap (asBorrow (placesIn env (chainOf (t .links)))) told ∙ told-as (placesIn env (chainOf (t .links))) (chainOf (t .links)) (t .roots)
+
+  let-variable : asVariable env given ≡ fresh (chainOf (t .links)) (endIn env (chainOf (t .links)) (t .roots)) level
+  let-variable = ap₂ (λ (k : ℕ) (b : Borrow). record { chain = chainOf (t .links); movedFrom = k; borrow = b; level = level }) whole let-borrow
+
+  -- A number that is taken is recorded nowhere, nor by the value.
+  pub unrecorded : (nv at x : ℕ) (v : Value) → Neat nv (environmentOf env) at → environmentOf env x ≡ used → v ≡ value.Of t → NeatValue (environmentOf env) level (asValue env v) → Unrecorded env x (asVariable env given .borrow)
+  unfolding asValue borrowOf rooted someOf
+  unrecorded nv at x v N u o W = (
+    λ y. go y (environmentOf env y) refl,
+    ap (λ (b : Borrow). rooted (places b) x) let-borrow
+        ∙ unrecorded-in (environmentOf env) (chainOf (t .links)) level (endIn env (chainOf (t .links)) (t .roots)) x (W (typeOf (chainOf (t .links)) (endIn env (chainOf (t .links)) (t .roots))) (ap (asValue env) o)) u,
+  )
+    where
+      go : (y : ℕ) (sl : Slot) → environmentOf env y ≡ sl → rooted (places (borrowOf sl)) x ≡ false
+      go y free q = refl
+      go y used q = refl
+      go y (live v) q = unrecorded-in (environmentOf env) (v .chain) (v .level) (v .borrow) x (N .holds y v q) u
+
+  -- Let (LANGUAGE 3.24): the variable is in scope.
+  pub let-there : (env′ : List ℕ) (nv i x : ℕ) (v : Value) → v ≡ value.Of t → environmentOf env′ ≡ update (environmentOf env) x (live (asVariable env given))
+      → answeredAs env′ i (verdict.Fine value.None) ≡ judgeLet nv level (environmentOf env) i x (asValue env v)
+  unfolding judgeLet answeredAs asValue valued _>>=_
+  let-there env′ nv i x v o h = rw o (ap (λ (Δ : Environment). ok (Δ, none)) (h ∙ ap (λ (w : Variable). update (environmentOf env) x (live w)) let-variable))
 
 -- ---- what is borrowed at the ends of a place
 

@@ -13,8 +13,8 @@ ghost use Rattle.statics.specs.Neat.{NeatValue};
 ghost use Rattle.variables.specs.Table.{TableFor, environmentOf, Around, asPlace};
 ghost use Rattle.variables.specs.Verdicts.{NeatTable, RootsIn, asValue, answered, Boxes};
 ghost use Rattle.rules.specs.RuleAnswers.{WholeBorrow, LentAt, LocatedIs, NamedIs, ReadableIs, WholeIs, NumberIs, asRequirement, begun, beginLet, judgeAnswer};
+use notes::notes::declare;
 use notes::notes::move_away;
-use notes::notes::store;
 use notes::notes::take_number;
 use paths::environment::is_free;
 use paths::environment::leave_blocks;
@@ -43,7 +43,10 @@ use variables::roots::only;
 use variables::table::LIVE;
 use variables::table::Place;
 use variables::table::STATUS;
+use variables::table::VariableState;
+use variables::table::borrow_end_of;
 use variables::table::links_at;
+use variables::table::nothing_moved;
 use variables::table::roots_at;
 use variables::table::word_at;
 use variables::verdicts::Told;
@@ -282,14 +285,13 @@ pub fn judge_let(env: &mut [u64], variables: usize, level: u64, x: usize, inner:
         return refused(refusals::NO_VALUE);
     };
     let roots = of.roots;
-    store(
-        env,
-        variables,
-        x,
-        of.links,
-        recorded_roots(of.links, roots),
-        level,
-    );
+    let state = VariableState {
+        links: of.links,
+        moved_from: nothing_moved(of.links),
+        borrow_end: borrow_end_of(of.links, roots),
+        level: level,
+    };
+    declare(env, variables, x, state);
     fine(Value::None)
 }
 

@@ -17,7 +17,7 @@ use Rattle.statics.specs.Neat.{Among}
 use Rattle.statics.specs.Roots.{placesFrom, placesOf, left}
 use Rattle.variables.specs.Chains.{linkOf, chainOf}
 use Rattle.variables.specs.Masks.{has}
-use Rattle.variables.specs.Table.{longAt, placesIn, endIn, borrowEndOf}
+use Rattle.variables.specs.Table.{longAt, placesIn, endIn, borrowEndOf, endRoots, asBorrow}
 use Rattle.variables.proofs.ChainLaws.{chain-none, chain-more}
 use Rattle.variables.proofs.MaskLaws.{has-below}
 use Rattle.statics.proofs.SetLaws.{rooted-in, rooted-out, end-out}
@@ -77,6 +77,45 @@ module _ (ps : List Place) where
   told-exclusive (boxed ∷ ks) s t e = told-exclusive ks s t e
   told-exclusive (shared ∷ ks) s t e = absurd (shared≢exclusive e)
   told-exclusive (exclusive ∷ ks) s t e = (cc, refl)
+
+-- The same in the rules' terms, with the places that a set of roots stands for.
+pub told-as : (f : Roots → List Place) (ks : List Link) (s : Roots) → asBorrow f (borrowEndOf ks s) ≡ borrowEnd ks (f s)
+unfolding borrowEndOf borrowEnd asBorrow
+told-as f [] s = refl
+told-as f (boxed ∷ ks) s = told-as f ks s
+told-as f (shared ∷ ks) s = refl
+told-as f (exclusive ∷ ks) s = refl
+
+-- Without a borrow link all links are boxes.
+pub none-boxed : (ks : List Link) (s : Roots) → borrowEndOf ks s ≡ end.None → length ks ≡ leadingBoxes ks
+unfolding borrowEndOf leadingBoxes
+none-boxed [] s e = refl
+none-boxed (boxed ∷ ks) s e = let z = none-boxed ks s e in omega arith
+none-boxed (shared ∷ ks) s e = absurd (none≢shared (sym e))
+none-boxed (exclusive ∷ ks) s e = absurd (none≢exclusive (sym e))
+
+pub boxed-none : (ks : List Link) (s : Roots) → length ks ≡ leadingBoxes ks → borrowEndOf ks s ≡ end.None
+unfolding borrowEndOf leadingBoxes
+boxed-none [] s e = refl
+boxed-none (boxed ∷ ks) s e = boxed-none ks s (omega arith)
+boxed-none (shared ∷ ks) s e = absurd (omega arith)
+boxed-none (exclusive ∷ ks) s e = absurd (omega arith)
+
+-- Its own roots give it again.
+pub end-fits : (ks : List Link) (s : Roots) → borrowEndOf ks s ≡ borrowEndOf ks (endRoots (borrowEndOf ks s))
+unfolding borrowEndOf endRoots
+end-fits [] s = refl
+end-fits (boxed ∷ ks) s = end-fits ks s
+end-fits (shared ∷ ks) s = refl
+end-fits (exclusive ∷ ks) s = refl
+
+-- Roots of which none are looked at may as well be none.
+pub end-own : (f : Roots → List Place) (ks : List Link) (s : Roots) → borrowEnd ks (f (endRoots (borrowEndOf ks s))) ≡ borrowEnd ks (f s)
+unfolding borrowEndOf borrowEnd endRoots
+end-own f [] s = refl
+end-own f (boxed ∷ ks) s = end-own f ks s
+end-own f (shared ∷ ks) s = refl
+end-own f (exclusive ∷ ks) s = refl
 
 -- ---- the places
 

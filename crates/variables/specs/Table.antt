@@ -16,7 +16,7 @@ use Rattle.variables.specs.declared.table.VariableState.{VariableState}
 use Rattle.variables.specs.declared.table.Entry.{Entry}
 use Rattle.variables.specs.declared.table.Entry.the-variants as entry
 use Rattle.statics.specs.Links.{Link, boxed, shared, exclusive}
-use Rattle.statics.specs.Environment.{Borrow, places, borrowEnd, Variable, Slot, free, used, live, Environment, borrowOf, widened, write}
+use Rattle.statics.specs.Environment.{Borrow, noBorrow, sharedOf, exclusiveOf, places, borrowEnd, Variable, Slot, free, used, live, Environment, borrowOf, widened, write}
 use Rattle.statics.specs.Places.{rooted}
 use Rattle.statics.specs.Bars.{borrowsAny, borrowsExclusive, heldBy}
 use Rattle.statics.specs.Roots.{lengths, placesOf, left}
@@ -65,7 +65,7 @@ slotAs status v = pick (eqb status 0) free (pick (eqb status 1) used (live v))
 unfoldable pub environmentOf : List ℕ → Environment
 environmentOf env = λ x. slotAs (entryWord env x 0) (variableAt env x)
 
--- ---- an entry as the code loads it
+-- ---- an entry as the code loads and stores it
 
 -- The kind of the borrow end is that of the first borrow link (LANGUAGE 3.3).
 unfoldable pub borrowEndOf : List Link → Roots → BorrowEnd
@@ -82,6 +82,36 @@ stateAt env x =
       «borrow_end» = borrowEndOf (chainOf (linksAt env x)) (rootsAt env x);
       level = entryWord env x 5;
     }
+
+-- The roots of a borrow end.
+unfoldable pub endRoots : BorrowEnd → Roots
+endRoots end.None = record { low = 0; high = 0 }
+endRoots (end.Shared s) = s
+endRoots (end.Exclusive s) = s
+
+-- The borrow end in the rules' terms, with the places of its roots.
+unfoldable pub asBorrow : (Roots → List script.Place) → BorrowEnd → Borrow
+asBorrow places end.None = noBorrow
+asBorrow places (end.Shared s) = sharedOf (places s)
+asBorrow places (end.Exclusive s) = exclusiveOf (places s)
+
+-- The state in the rules' terms.
+abbrev pub asVariable : List ℕ → VariableState → Variable
+asVariable env v =
+    record {
+      chain = chainOf (v .links);
+      movedFrom = v .«moved_from»;
+      borrow = asBorrow (placesIn env (chainOf (v .links))) (v .«borrow_end»);
+      level = v .level;
+    }
+
+-- The borrow end is of the kind that the links say.
+abbrev pub Fits : VariableState → Type 0
+Fits v = v .«borrow_end» ≡ borrowEndOf (chainOf (v .links)) (endRoots (v .«borrow_end»))
+
+-- Moved away from another link on, and with other roots.
+unfoldable pub changedState : VariableState → ℕ → Roots → VariableState
+changedState v d s = record { links = v .links; «moved_from» = d; «borrow_end» = borrowEndOf (chainOf (v .links)) s; level = v .level }
 
 unfoldable pub entryAt : List ℕ → ℕ → Entry
 entryAt env x = pick (eqb (entryWord env x 0) 0) entry.Free (pick (eqb (entryWord env x 0) 1) entry.Used (entry.Live (stateAt env x)))
@@ -111,16 +141,25 @@ pub record HolderNoted (n : ℕ) (env : List ℕ) (x : ℕ) (s : Roots) (env′ 
   pub kept : (r y : ℕ) → r < n → has (holdersAt env r) y ≡ true → has (holdersAt env′ r) y ≡ true
   pub new : (r : ℕ) → r < n → has s r ≡ true → has (holdersAt env′ r) x ≡ true
 
+-- After a state of x was stored: it is what the table has of x, all other words but notes are as before, no holder is lost, and x is noted as one
+-- wherever it records a root.
+pub record Stored (n : ℕ) (env : List ℕ) (x : ℕ) (v : VariableState) (env′ : List ℕ) : Type 0 where
+  pub state : stateAt env′ x ≡ v
+  pub entries : (y k : ℕ) → k < 8 → (k ≡ 3 → ⊥) → (k ≡ 7 → ⊥) → (x ≡ y → k ≡ 0) → entryWord env′ y k ≡ entryWord env y k
+  pub notes : (y : ℕ) → n ≤ y → noteAt env′ y ≡ noteAt env y
+  pub kept : (r y : ℕ) → r < n → has (holdersAt env r) y ≡ true → has (holdersAt env′ r) y ≡ true
+  pub new : (r : ℕ) → r < n → has (rootsAt env′ x) r ≡ true → has (holdersAt env′ r) x ≡ true
+
 -- After adding x to the set of a row: only the two words of that set have changed.
 pub record MemberAdded (env : List ℕ) (row x : ℕ) (env′ : List ℕ) : Type 0 where
   pub others : (y k : ℕ) → k < 8 → (y ≡ row → (k ≡ 2 → ⊥) × (k ≡ 6 → ⊥)) → entryWord env′ y k ≡ entryWord env y k
   pub members : (y : ℕ) → has (rootsAt env′ row) y ≡ pick (has (rootsAt env row) y) true (eqb x y)
 
--- After noting, where the first of these links that borrows is exclusive, that x has such a link.
-pub record ExclusiveNoted (n : ℕ) (env : List ℕ) (x links : ℕ) (env′ : List ℕ) : Type 0 where
+-- After noting, where the borrow end is exclusive, that x has such a link.
+pub record ExclusiveNoted (n : ℕ) (env : List ℕ) (x : ℕ) (e : BorrowEnd) (env′ : List ℕ) : Type 0 where
   pub others : (y k : ℕ) → k < 8 → (y ≡ n → (k ≡ 2 → ⊥) × (k ≡ 6 → ⊥)) → entryWord env′ y k ≡ entryWord env y k
   pub kept : (y : ℕ) → has (rootsAt env n) y ≡ true → has (rootsAt env′ n) y ≡ true
-  pub new : isExclusive (chainOf links) ≡ true → has (rootsAt env′ n) x ≡ true
+  pub new : (s : Roots) → e ≡ end.Exclusive s → has (rootsAt env′ n) x ≡ true
 
 -- Variables that are in scope.
 abbrev pub InScope : List ℕ → Roots → Type 0

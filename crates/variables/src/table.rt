@@ -1,12 +1,14 @@
 // The table of the variables, 8 words to each: six hold the state (LANGUAGE 3.8), two are a note (crate `notes`). The two words
 // of a set stand apart, so that loading one does not wait for a store to the other.
 ghost use mathlib.Core.Path.{_≡_};
-ghost use Prim.Native.Nat.{ℕ, _<_, _≤_, _+_, _*_};
+ghost use Prim.Native.Nat.{ℕ, suc, _<_, _≤_, _+_, _*_};
 ghost use lib.ListN.{length};
+ghost use Rattle.statics.specs.Links.{leadingBoxes};
 ghost use Rattle.variables.specs.Chains.{chainOf};
-ghost use Rattle.variables.specs.Table.{TableFor, entryWord, linksAt, rootsAt, holdersAt, borrowEndOf, entryAt, putAt, putSet};
+ghost use Rattle.variables.specs.Table.{TableFor, entryWord, linksAt, rootsAt, holdersAt, borrowEndOf, endRoots, changedState, entryAt, putAt, putSet};
 use crate::chains::BOX;
 use crate::chains::SHARED;
+use crate::chains::leading_boxes;
 use crate::roots::Roots;
 
 // A place (LANGUAGE 2.5).
@@ -146,6 +148,37 @@ pub fn borrow_end_of(links: u32, roots: Roots) -> BorrowEnd
         return BorrowEnd::Shared(roots);
     }
     BorrowEnd::Exclusive(roots)
+}
+
+// The roots of the places that the borrow end stands for (LANGUAGE 3.3).
+pub fn end_roots(end: BorrowEnd) -> Roots
+    ensures { λ r. ⌜ r ≡ endRoots end ⌝ }
+{
+    match end {
+        BorrowEnd::None => Roots { low: 0, high: 0 },
+        BorrowEnd::Shared(roots) => roots,
+        BorrowEnd::Exclusive(roots) => roots,
+    }
+}
+
+// From where a variable with these links is moved away if nothing of it is: one past its own positions (LANGUAGE 3.8, 3.9).
+pub fn nothing_moved(links: u32) -> u64
+    ensures { λ r. ⌜ r ≡ suc (leadingBoxes (chainOf links)) ⌝ }
+{
+    (leading_boxes(links) + 1) as u64
+}
+
+// The state with what an assign or a choice changes (LANGUAGE 3.25, 3.31): from where the variable is moved away, and
+// the roots that it records. Links and level stay.
+pub fn changed_state(state: VariableState, moved_from: u64, roots: Roots) -> VariableState
+    ensures { λ r. ⌜ r ≡ changedState state «moved_from» roots ⌝ }
+{
+    VariableState {
+        links: state.links,
+        moved_from: moved_from,
+        borrow_end: borrow_end_of(state.links, roots),
+        level: state.level,
+    }
 }
 
 // What is known of number x (LANGUAGE 3.6, 3.8). A number that the table does not have is free.

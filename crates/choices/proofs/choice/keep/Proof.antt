@@ -3,7 +3,8 @@ use Prim.Native.Nat.{ℕ, _-_, _≤_, _<_}
 use native.Mathlib.Omega.{arith}
 use mathlib.Core.Path.{_≡_, refl, _∙_}
 use lib.ListN.{length}
-use Rattle.choices.proofs.KeptLaws.{KeptAs, keep-next, keeps-all, taken-below}
+use Rattle.choices.specs.Kept.{KeptAs}
+use Rattle.choices.proofs.KeptLaws.{keep-next, keeps-all, taken-below}
 use Rattle.choices.proofs.choice.keep.Statement.{statement}
 use Rattle.choices.proofs.choice.keep.Tie as tie
 

@@ -1,6 +1,6 @@
 -- `notes::notes::move_away` meets its contract. Assumes nothing.
 use borrow.Author.Needs.{needs}
-use Rattle.notes.proofs.NoteLaws.{moved-away}
+use Rattle.notes.proofs.StateLaws.{moved-away}
 use Rattle.notes.proofs.notes.move_away.Statement.{statement}
 use Rattle.notes.proofs.notes.move_away.Tie as tie
 

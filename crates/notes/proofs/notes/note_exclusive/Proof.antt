@@ -4,12 +4,6 @@ use Rattle.notes.proofs.NoteLaws.{exclusive-noted, exclusive-not}
 use Rattle.notes.proofs.notes.note_exclusive.Statement.{statement}
 use Rattle.notes.proofs.notes.note_exclusive.Tie as tie
 
-only-requires : tie.Need-only-requires
-only-requires c κs = search needs
-
-borrow-end-of-requires : tie.Need-borrow-end-of-requires
-borrow-end-of-requires c κs = search needs
-
 enum-told : tie.Need-enum-told
 enum-told c = search needs
 
@@ -22,15 +16,14 @@ same-length c = search needs
 returns : tie.Need-returns
 returns c =
     let at-add = c .before .before in
-    let start = at-add .before .before .before .before .before .before .before in
-    exclusive-noted (start .args .variables) (start .args .env .now) (start .args .x) (start .args .links) (at-add .add-member .last .0) (at-add .add-member .ensures)
+    let start = at-add .before .before .before .before .before in
+    exclusive-noted (start .args .variables) (start .args .env .now) (start .args .x) (start .args .end) (at-add .add-member .last .0) (at-add .add-member .ensures)
 
 returns-2 : tie.Need-returns-2
 returns-2 c =
-    let at-end = c .before in
-    let at-only = at-end .before in
-    let start = at-only .before .before in
-    exclusive-not (start .args .variables) (start .args .env .now) (start .args .x) (start .args .links) (at-only .only .result) (at-end .borrow-end-of .result) (at-end .borrow-end-of .ensures) (c .match .keys2)
+    let start = c .before .before in
+    exclusive-not (start .args .variables) (start .args .env .now) (start .args .x) (start .args .end) (c .match .keys2)
 
 pub note-exclusive-spec : {M : Type 1} → statement M
-note-exclusive-spec = tie.close (tie.spec only-requires borrow-end-of-requires enum-told add-member-requires same-length returns returns-2)
+note-exclusive-spec =
+    tie.close (tie.spec enum-told add-member-requires same-length returns returns-2)

@@ -1,59 +1,68 @@
 -- `notes::notes::refill` meets its contract. Assumes nothing.
-use Prim.Native.Nat.{ℕ, suc}
 use native.Mathlib.Omega.{arith}
-use native.Mathlib.Numerals.{add-one}
-use mathlib.Core.Path.{ap, _∙_}
+use mathlib.Core.Path.{refl}
 use borrow.Author.Needs.{needs}
-use Rattle.statics.specs.Links.{leadingBoxes}
+use Rattle.statics.specs.Environment.{Slot, refilled}
 use Rattle.variables.specs.Chains.{chainOf}
-use Rattle.notes.proofs.NoteLaws.{refilled-by}
+use Rattle.variables.specs.Table.{linksAt, endIn}
+use Rattle.variables.proofs.EntryLaws.{slot-live}
+use Rattle.notes.proofs.StateLaws.{changed-fits, not-changed, refilled-by}
 use Rattle.notes.proofs.notes.refill.Statement.{statement}
 use Rattle.notes.proofs.notes.refill.Tie as tie
 
-links-at-requires : tie.Need-links-at-requires
-links-at-requires c κs = search needs
+load-requires : tie.Need-load-requires
+load-requires c κs = search needs
 
-leading-boxes-requires : tie.Need-leading-boxes-requires
-leading-boxes-requires c κs = search needs
-
-add-put-word : tie.Need-add-put-word
-add-put-word c = omega (arith, c .before .leading-boxes .ensures .1)
-
-put-word-requires : tie.Need-put-word-requires
-put-word-requires c κs = search needs
-
-put-roots-requires : tie.Need-put-roots-requires
-put-roots-requires c κs = search needs
-
-note-holder-requires : tie.Need-note-holder-requires
-note-holder-requires c κs =
-    let at-roots = c .before .before .before in
-    let at-put = at-roots .before .before .before .before in
-    let start = at-put .before .before .before .before .before .before in
-    (omega (arith, at-roots .put-roots .kept .0, at-put .put-word .kept .0, start .pre .0 .0), omega (arith, start .pre .0 .1, start .pre .1))
+enum-known-entry : tie.Need-enum-known-entry
+enum-known-entry c = search needs
 
 same-length : tie.Need-same-length
 same-length c = search needs
 
 returns : tie.Need-returns
 returns c =
-    let at-note = c .before .before in
-    let at-roots = at-note .before .before .before .before in
-    let at-put = at-roots .before .before .before .before in
-    let at-boxes = at-put .before .before in
-    let at-links = at-boxes .before in
-    let start = at-links .before .before .before in
-    refilled-by (start .args .env .now) (start .args .variables) (start .args .x) (start .pre .0) (start .pre .1) _ (start .args .roots) (at-put .put-word .last .0) (at-roots .put-roots .last .0) (at-note .note-holder .last .0) (at-note .note-holder .kept .0 ∙ at-roots .put-roots .kept .0 ∙ at-put .put-word .kept .0) (add-one _ ∙ ap suc (at-boxes .leading-boxes .ensures .0 ∙ ap (λ (l : ℕ). leadingBoxes (chainOf l)) (at-links .links-at .ensures))) (at-put .put-word .ensures) (at-roots .put-roots .ensures) (at-note .note-holder .ensures)
+    let at-load = c .before in
+    let start = at-load .before .before .before in
+    let env = start .args .env .now in
+    not-changed env (start .args .variables) (start .args .x) (start .pre .0) (at-load .load .result) (at-load .load .ensures) (c .match .keys2)
+    (λ (z : Slot). refilled z (endIn env (chainOf (linksAt env (start .args .x))) (start .args .roots))) refl refl
+
+nothing-moved-requires : tie.Need-nothing-moved-requires
+nothing-moved-requires c κs = search needs
+
+changed-state-requires : tie.Need-changed-state-requires
+changed-state-requires c κs = search needs
+
+store-requires : tie.Need-store-requires
+store-requires c κs =
+    let at-changed = c .before in
+    let start = at-changed .before .before .before .before .before .before .before .before in
+    (omega (arith, start .pre .0 .0), start .pre .1, start .pre .0 .1, changed-fits _ _ _ _ (at-changed .changed-state .ensures))
+
+same-length-2 : tie.Need-same-length-2
+same-length-2 c = search needs
+
+returns-2 : tie.Need-returns-2
+returns-2 c =
+    let at-store = c .before .before in
+    let at-changed = at-store .before .before in
+    let at-whole = at-changed .before in
+    let at-entry = at-whole .before .before in
+    let at-load = at-entry .before .before in
+    let start = at-load .before .before .before in
+    let state = slot-live _ _ _ (at-load .load .ensures) _ (at-entry .entry .given .1) .1 in
+    refilled-by (start .args .env .now) (start .args .variables) (start .args .x) (start .pre .0) (start .pre .1) _ _ state _ (start .args .roots) (at-changed .changed-state .ensures) (at-store .store .last .0) (at-store .store .kept .0) (at-store .store .ensures) (at-whole .nothing-moved .ensures)
 
 pub refill-spec : {M : Type 1} → statement M
 refill-spec =
     tie.close
     (tie.spec
-    links-at-requires
-    leading-boxes-requires
-    add-put-word
-    put-word-requires
-    put-roots-requires
-    note-holder-requires
+    load-requires
+    enum-known-entry
     same-length
-    returns)
+    returns
+    nothing-moved-requires
+    changed-state-requires
+    store-requires
+    same-length-2
+    returns-2)

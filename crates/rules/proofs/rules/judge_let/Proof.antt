@@ -5,7 +5,7 @@ use Rattle.syntax.specs.Result.{_>>=_}
 use Rattle.statics.specs.Rules.{valued, judgeLet}
 use Rattle.variables.specs.Verdicts.{asValue, answeredAs}
 use Rattle.variables.proofs.ToldLaws.{told-refused}
-use Rattle.rules.proofs.ValueLaws.{unrecorded, let-there}
+use Rattle.rules.proofs.ValueLaws.{let-fits, unrecorded, let-there}
 use Rattle.rules.proofs.rules.judge_let.Statement.{statement}
 use Rattle.rules.proofs.rules.judge_let.Tie as tie
 
@@ -25,15 +25,25 @@ returns c =
     let start = at-enum-told .before .before .before in
     (λ i. rw (at-enum-told .enum-told .given .1) (told-refused _ _ (c .refused .ensures .0) _ i), start .pre .0 .0)
 
-recorded-roots-requires : tie.Need-recorded-roots-requires
-recorded-roots-requires c κs = search needs
+nothing-moved-requires : tie.Need-nothing-moved-requires
+nothing-moved-requires c κs = search needs
 
-store-requires : tie.Need-store-requires
-store-requires c κs =
-    let at-inner = c .before .before .before .before in
+borrow-end-of-requires : tie.Need-borrow-end-of-requires
+borrow-end-of-requires c κs = search needs
+
+declare-requires : tie.Need-declare-requires
+declare-requires c κs =
+    let at-end = c .before in
+    let at-whole = at-end .before in
+    let at-inner = at-whole .before .before .before in
     let start = at-inner .before .before .before in
-    let env = start .args .env .now in
-    (start .pre .0 .0, start .pre .1, start .pre .2, unrecorded env _ _ _ _ _ _ (c .recorded-roots .result) (start .pre .0 .1 .1) (start .pre .2) (at-inner .inner .given .1) (start .pre .3) (c .recorded-roots .ensures env))
+    let env = start .args .env .now in (
+      start .pre .0 .0,
+      start .pre .1,
+      start .pre .2,
+      let-fits env _ _ (start .args .level) _ (at-whole .nothing-moved .ensures) (at-end .borrow-end-of .ensures),
+      unrecorded env _ _ _ _ (at-whole .nothing-moved .ensures) (at-end .borrow-end-of .ensures) _ _ _ _ (start .pre .0 .1 .1) (start .pre .2) (at-inner .inner .given .1) (start .pre .3),
+    )
 
 fine-requires : tie.Need-fine-requires
 fine-requires c κs = search needs
@@ -43,15 +53,28 @@ same-length c = search needs
 
 returns-2 : tie.Need-returns-2
 returns-2 c =
-    let at-store = c .before .before .before in
-    let at-recorded-roots = at-store .before in
-    let at-inner = at-recorded-roots .before .before .before .before in
+    let at-declare = c .before .before .before in
+    let at-end = at-declare .before .before in
+    let at-whole = at-end .before in
+    let at-inner = at-whole .before .before .before in
     let start = at-inner .before .before .before in (
       λ i.
           ap (answeredAs _ i) (c .fine .ensures .0)
-          ∙ let-there _ _ _ _ i _ _ _ (at-recorded-roots .recorded-roots .result) (at-inner .inner .given .1) (at-recorded-roots .recorded-roots .ensures (start .args .env .now)) (at-store .store .ensures .0),
-      at-store .store .ensures .1,
+          ∙ let-there (start .args .env .now) _ _ _ _ (at-whole .nothing-moved .ensures) (at-end .borrow-end-of .ensures) _ _ i _ _ (at-inner .inner .given .1) (at-declare .declare .ensures .0),
+      at-declare .declare .ensures .1,
     )
 
 pub judge-let-spec : {M : Type 1} → statement M
-judge-let-spec = tie.close (tie.spec enum-known-inner enum-told refused-requires returns recorded-roots-requires store-requires fine-requires same-length returns-2)
+judge-let-spec =
+    tie.close
+    (tie.spec
+    enum-known-inner
+    enum-told
+    refused-requires
+    returns
+    nothing-moved-requires
+    borrow-end-of-requires
+    declare-requires
+    fine-requires
+    same-length
+    returns-2)
