@@ -7,7 +7,7 @@ use mathlib.Core.Option.{Option, none, some}
 use mathlib.Core.List.{List, _++_, append-assoc}
 use Rattle.syntax.specs.Result.{ok, err, _>>=_}
 use Rattle.syntax.specs.Script.{Term, Terms, last, more}
-use Rattle.syntax.specs.RowTrees.{RowTree, IsTree, around, before, severalAt, IsRest}
+use Rattle.syntax.specs.RowTrees.{RowTree, IsTree, around, before, severalAt, IsRest, treeAt}
 use Rattle.variables.specs.declared.verdicts.Value.{Value}
 use Rattle.variables.specs.declared.verdicts.Verdict.the-variants as verdict
 use Rattle.statics.specs.Environment.{Environment, Ty}
@@ -19,6 +19,7 @@ use Rattle.term_judge.specs.declared.terms.JudgedTerm.{JudgedTerm}
 use Rattle.term_judge.specs.JudgeRows.{ended, judgedAt, judgeAt, judgesAt, restAt}
 use Rattle.statics.proofs.Finishing.{left-after}
 use Rattle.statics.proofs.SameLater.{judged-alike}
+use Rattle.term_judge.proofs.TreeNames.{tree-names}
 use Rattle.term_judge.proofs.LaterLaws.{FollowsAll}
 use Rattle.term_judge.proofs.JudgeLaws.{refused-ended, fine-ended, refused-is, fine-is}
 
@@ -79,6 +80,18 @@ module _ (nv : ℕ) (f : ℕ → RowTree Term) (level : ℕ) (later : ℕ → Un
       go zero b h = absurd (omega arith)
       go (suc zero) b h = (tt, sym (fine-ended env r v′ q) ∙ e ∙ sym (last-judged nv level later Γ (f i)))
       go (suc (suc n)) b h = rw sub-one (more-fine nv level later Γ env r (severalAt f n) (F n) (f i) h e v′ q)
+
+-- After a term that is fine comes a later row.
+pub next-after : (nv l : ℕ) (rows : List ℕ) (i : ℕ) → IsTree (treeAt nv l rows i) → (level : ℕ) (later : ℕ → Unfinished) (Γ : Environment) (env : List ℕ) (r : JudgedTerm)
+    → ended env r ≡ judgeAt nv (treeAt nv l rows i) level later Γ → (v : Value) → verdictOf (r .told) ≡ verdict.Fine v → i < r .next
+unfolding judgedAt
+next-after nv l rows i good level later Γ env r e v q = go (treeAt nv l rows i) refl good e
+  where
+    go : (d : RowTree Term) → treeAt nv l rows i ≡ d → IsTree d → ended env r ≡ judgeAt nv d level later Γ → i < r .next
+    go none w h e = absurd h
+    go (some t) w h e =
+        let z = fine-is (judge nv (t .0) level (finishing (t .0) ++ later (t .1)) Γ) (t .1) env r e v q .1 in
+        omega (arith, tree-names nv l rows i (t .0) (t .1) w .0)
 
 pub rest-none : (nv : ℕ) (f : ℕ → RowTree Term) (level : ℕ) (later : ℕ → Unfinished) (n : ℕ) (r : JudgedTerm) (v : Value) (env : List ℕ) → n ≤ 0 → verdictOf (r .told) ≡ verdict.Fine v → ended env r ≡ restAt nv f level later n (r .next) (asValue env v) (environmentOf env)
 unfolding restAt

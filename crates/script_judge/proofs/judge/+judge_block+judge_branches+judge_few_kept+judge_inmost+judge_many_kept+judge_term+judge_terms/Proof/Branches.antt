@@ -1,5 +1,5 @@
 -- What `judge_branches` owes: the state is kept, and both branches begin in it; what is known joins.
-use Prim.Native.Nat.{ℕ, _+_, _-_}
+use Prim.Native.Nat.{ℕ, _+_, _-_, _<_}
 use native.Mathlib.Omega.{arith}
 use mathlib.Core.Path.{_≡_, sym, _∙_}
 use mathlib.Core.List.{List}
@@ -20,7 +20,7 @@ use Rattle.term_judge.specs.declared.terms.JudgedTerm.{JudgedTerm}
 use Rattle.uses.specs.RowUses.{laterAt}
 use Rattle.term_judge.specs.JudgeRows.{ended, judgeAt}
 use Rattle.term_judge.proofs.LaterLaws.{Follows, tree-follows}
-use Rattle.script_judge.proofs.BlockLaws.{one-judged}
+use Rattle.script_judge.proofs.BlockLaws.{one-judged, next-after}
 use Rattle.script_judge.proofs.BranchLaws.{first-ready, first-refused, first-neat, first-stays, second-ready, second-start, second-refused, second-neat, second-stays, branches-fine}
 use Rattle.script_judge.proofs.judge.judge_branches.Reads as judge-branches
 use Rattle.script_judge.proofs.judge.+judge_block+judge_branches+judge_few_kept+judge_inmost+judge_many_kept+judge_term+judge_terms.Lts-judge_branches as judge-branches-lts
@@ -66,6 +66,10 @@ module _ (t : ℕ) (k : judge-branches-lts.After-known-told (judge-branches-clai
 
   stays₁ : Stays Γ (environmentOf env₁)
   stays₁ = first-stays _ _ _ _ (start .pre .1 .0) (start .pre .1 .1) _ _ follows _ _ _ judged₁ (start .pre .1 .2 .neat) _ fine₁
+
+  -- The second block comes after the first.
+  after-first : start .args .i + 1 < one .next
+  after-first = next-after _ _ _ _ (first-ready _ _ _ _ (start .pre .1 .0) (start .pre .1 .1) .0) _ _ _ _ _ judged₁ _ fine₁
 
 -- Where the second block begins.
 module _ (t : ℕ) (x : judge-branches-lts.After-exchange (judge-branches-claims t) (judge-branches-at t) judge-branches.Post) where
@@ -160,7 +164,7 @@ judge-branches-judge-terms-requires-2 t c κs =
     let k = fine-one t x in
     let p = start t k .pre .1 in
     let second = second-ready _ _ _ _ (p .0) (p .1) _ _ (follows t k) _ _ _ (judged₁ t k) (p .2 .neat) _ (fine₁ t k) in
-    (omega (arith, start t k .pre .0, has-level _ _ _ _ (p .0)), (rest-one _ _ (second .0), record { table = x .exchange .ensures .1; neat = second-start _ _ _ _ (p .0) (p .1) _ _ (follows t k) _ _ _ (judged₁ t k) (p .2 .neat) _ (fine₁ t k) _ (exchanged t x .0); deep = omega (arith, p .2 .deep); last-uses = p .2 .last-uses }))
+    (omega (arith, start t k .pre .0, has-level _ _ _ _ (p .0), after-first t k), (rest-one _ _ (second .0), record { table = x .exchange .ensures .1; neat = second-start _ _ _ _ (p .0) (p .1) _ _ (follows t k) _ _ _ (judged₁ t k) (p .2 .neat) _ (fine₁ t k) _ (exchanged t x .0); deep = omega (arith, p .2 .deep); last-uses = p .2 .last-uses }))
 
 pub judge-branches-verdict-of-requires-2 : (t : ℕ) → judge-branches-lts.Need-verdict-of-requires-2 (judge-branches-claims t) (judge-branches-at t) judge-branches.Post
 judge-branches-verdict-of-requires-2 t c κs = search needs

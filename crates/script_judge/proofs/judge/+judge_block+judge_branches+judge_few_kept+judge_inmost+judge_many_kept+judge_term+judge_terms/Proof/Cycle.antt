@@ -4,6 +4,7 @@
 use Prim.Native.Nat.{ℕ, _+_, _-_, _*_, _<_, _≤_}
 use mathlib.Core.Path.{_≡_}
 use mathlib.Core.Option.{none}
+use mathlib.Core.List.{List}
 use lib.ListN.{length}
 use Rattle.syntax.specs.RowTrees.{IsRest, treeAt}
 use Rattle.variables.specs.declared.verdicts.Value.{Value}
@@ -63,26 +64,31 @@ use Rattle.syntax.proofs.fields.index_at.Reads as index-at-reads
 use Rattle.syntax.proofs.fields.index_of.Reads as index-of-reads
 use Rattle.syntax.proofs.kinds.wraps.Reads as wraps-reads
 
+-- What is left from row i on, which falls from a block or a choice to the terms in it: levels, and numbers of rows.
+abbrev remaining : List ℕ → ℕ → ℕ → ℕ
+remaining rows i levels = levels + (length rows - 5 * i)
+
+-- Where both stay, the rank of the function falls.
 abbrev pub μ-judge-block : Measures 3 judge-block-kinds.ps ℕ
-μ-judge-block κs a = a .1 .1 .1 .0 * 6
+μ-judge-block κs a = remaining (a .0 .now) (a .1 .1 .0) (a .1 .1 .1 .0) * 6
 
 abbrev pub μ-judge-branches : Measures 4 judge-branches-kinds.ps ℕ
-μ-judge-branches κs a = a .1 .1 .0 * 6 + 1
+μ-judge-branches κs a = remaining (a .0 .now) (a .1 .0) (a .1 .1 .0) * 6 + 1
 
 abbrev pub μ-judge-few-kept : Measures 3 judge-few-kept-kinds.ps ℕ
-μ-judge-few-kept κs a = a .1 .1 .0 * 6 + 2
+μ-judge-few-kept κs a = remaining (a .0 .now) (a .1 .0) (a .1 .1 .0) * 6 + 2
 
 abbrev pub μ-judge-inmost : Measures 3 judge-inmost-kinds.ps ℕ
-μ-judge-inmost κs a = a .1 .1 .1 .0 * 6 + 3
+μ-judge-inmost κs a = remaining (a .0 .now) (a .1 .1 .0) (a .1 .1 .1 .0) * 6 + 3
 
 abbrev pub μ-judge-many-kept : Measures 3 judge-many-kept-kinds.ps ℕ
-μ-judge-many-kept κs a = a .1 .1 .0 * 6 + 2
+μ-judge-many-kept κs a = remaining (a .0 .now) (a .1 .0) (a .1 .1 .0) * 6 + 2
 
 abbrev pub μ-judge-term : Measures 3 judge-term-kinds.ps ℕ
-μ-judge-term κs a = a .1 .1 .0 * 6 + 4
+μ-judge-term κs a = remaining (a .0 .now) (a .1 .0) (a .1 .1 .0) * 6 + 4
 
 abbrev pub μ-judge-terms : Measures 3 judge-terms-kinds.ps ℕ
-μ-judge-terms κs a = a .1 .1 .1 .0 * 6 + 5
+μ-judge-terms κs a = remaining (a .0 .now) (a .1 .0) (a .1 .1 .1 .0) * 6 + 5
 
 abbrev pub judge-block-at : ℕ → In 3 judge-block-kinds.ps
 judge-block-at t = and 3 judge-block-kinds.ps (is 3 judge-block-kinds.ps μ-judge-block t) judge-block.Pre
@@ -141,12 +147,13 @@ judge-term-Inv-loop2 rows i levels env₁ variables level uses named around₁ j
 abbrev pub judge-term-μ-loop2 : judge-term-lts.MeasureT-loop2
 judge-term-μ-loop2 rows i levels env₁ variables level uses named around₁ judged₁ env around judged = around
 
--- The last verdict is fine, and what is left gives the answer of all.
+-- The last verdict is fine, what is left gives the answer of all, and no row comes again.
 abbrev pub judge-terms-Inv-loop : judge-terms-lts.InvT-loop
 judge-terms-Inv-loop rows i count levels env₀ variables level uses named judged₀ left₀ env judged left =
     IsRest (treeAt variables levels rows) left (judged .next) × (length env ≡ length env₀) × Ready variables level levels rows env uses
     × (v : Value) × (verdictOf (judged .told) ≡ verdict.Fine v)
     × (restAt variables (treeAt variables levels rows) level (laterAt variables uses (has named)) left (judged .next) (asValue env v) (environmentOf env) ≡ restAt variables (treeAt variables levels rows) level (laterAt variables uses (has named)) count i none (environmentOf env₀))
+    × (i ≤ judged .next)
 
 abbrev pub judge-terms-μ-loop : judge-terms-lts.MeasureT-loop
 judge-terms-μ-loop rows i count levels env₀ variables level uses named judged₀ left₀ env judged left = left
