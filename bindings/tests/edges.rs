@@ -50,6 +50,8 @@ mod larger;
 mod last_uses;
 #[path = "edges/lengths.rs"]
 mod lengths;
+#[path = "edges/likely_errors.rs"]
+mod likely_errors;
 #[path = "edges/limits.rs"]
 mod limits;
 #[path = "edges/listed.rs"]
