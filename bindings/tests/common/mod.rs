@@ -7,6 +7,7 @@ pub mod due;
 pub mod examples;
 pub mod guarded;
 pub mod inputs;
+pub mod notation;
 pub mod sets;
 pub mod settings;
 pub mod store;
