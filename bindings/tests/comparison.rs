@@ -2,9 +2,10 @@
 //! on all small scripts, under several sets of limits.
 //!
 //! `cargo test --release --offline` in `bindings/` gives both programs 200,000
-//! cases of each kind under the language's own set, and as many again under
+//! cases of most kinds under the language's own set, and as many again under
 //! other sets together: the least, a small and an uneven one, the largest, any
-//! in the ranges and any outside them. It compares answers, places and whole
+//! in the ranges and any outside them. Some kinds have more and some have
+//! fewer: `docs/GATE.md` has their numbers. It compares answers, places and whole
 //! buffers: scripts read, with every version known and with others; rows
 //! judged, and written in each version; rows checked, run and run unchecked
 //! that were steered to be accepted, near misses of those, wild ones and any
