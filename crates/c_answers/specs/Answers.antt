@@ -1,4 +1,5 @@
--- Answers in C's form, field by field: the numbers and values of the library's answers, and 0 in every field that a case does not use.
+-- Answers in C's form, field by field: number and place of the refusal or fault, both 0 where there is none, then the values of the answer, 0 where
+-- there is none.
 use Prim.Native.Nat.{ℕ}
 use mathlib.Core.Path.{_≡_}
 use mathlib.Core.List.{List}
@@ -9,32 +10,37 @@ use Rattle.syntax.specs.Answers.{Told}
 use Rattle.dynamics.specs.Answers as unchecked
 use Rattle.room.specs.Running as run
 use Rattle.room.specs.Calling as call
-use Rattle.c_answers.specs.declared.answers.Answer.{Answer}
 use Rattle.c_answers.specs.declared.answers.Script.{Script}
+use Rattle.c_answers.specs.declared.answers.Terms.{Terms}
+use Rattle.c_answers.specs.declared.answers.Bytes.{Bytes}
 use Rattle.c_answers.specs.declared.answers.Run.{Run}
 use Rattle.c_answers.specs.declared.answers.RunUnchecked.{RunUnchecked}
 use Rattle.c_answers.specs.declared.answers.Call.{Call}
 
-unfoldable pub answerIn : Result Refusal ℕ → Answer
-answerIn (ok n) = record { refused = 0; number = 0; value = n }
-answerIn (err e) = record { refused = 1; number = e .0; value = e .1 }
-
 unfoldable pub scriptIn : Result Refusal Told → Script
-scriptIn (ok t) = record { refused = 0; number = 0; version = t .0; place = 0; terms = t .1 }
-scriptIn (err e) = record { refused = 1; number = e .0; version = 0; place = e .1; terms = 0 }
+scriptIn (ok t) = record { number = 0; place = 0; version = t .0; terms = t .1 }
+scriptIn (err e) = record { number = e .0; place = e .1; version = 0; terms = 0 }
+
+unfoldable pub termsIn : Result Refusal ℕ → Terms
+termsIn (ok n) = record { number = 0; place = 0; terms = n }
+termsIn (err e) = record { number = e .0; place = e .1; terms = 0 }
+
+unfoldable pub bytesIn : Result Refusal ℕ → Bytes
+bytesIn (ok n) = record { number = 0; place = 0; bytes = n }
+bytesIn (err e) = record { number = e .0; place = e .1; bytes = 0 }
 
 unfoldable pub ranIn : run.RunAnswer → Run
-ranIn (run.answered a c) = record { refused = 0; number = 0; answer = a; place = 0; cells = c }
-ranIn (run.refused n p) = record { refused = 1; number = n; answer = pos 0; place = p; cells = 0 }
+ranIn (run.answered a c) = record { number = 0; place = 0; answer = a; cells = c }
+ranIn (run.refused n p) = record { number = n; place = p; answer = pos 0; cells = 0 }
 
 unfoldable pub uncheckedIn : unchecked.Answer → RunUnchecked
-uncheckedIn (unchecked.answered a c) = record { outcome = 0; number = 0; answer = a; value = c }
-uncheckedIn (unchecked.refused n p) = record { outcome = 1; number = n; answer = pos 0; value = p }
-uncheckedIn (unchecked.faulted n i) = record { outcome = 2; number = n; answer = pos 0; value = i }
+uncheckedIn (unchecked.answered a c) = record { number = 0; place = 0; fault = 0; answer = a; cells = c }
+uncheckedIn (unchecked.refused n p) = record { number = n; place = p; fault = 0; answer = pos 0; cells = 0 }
+uncheckedIn (unchecked.faulted n i) = record { number = n; place = i; fault = 1; answer = pos 0; cells = 0 }
 
 unfoldable pub calledIn : call.CallAnswer → Call
-calledIn (call.called t a c) = record { refused = 0; number = 0; answer = a; place = 0; terms = t; cells = c }
-calledIn (call.refused n p) = record { refused = 1; number = n; answer = pos 0; place = p; terms = 0; cells = 0 }
+calledIn (call.called t a c) = record { number = 0; place = 0; terms = t; answer = a; cells = c }
+calledIn (call.refused n p) = record { number = n; place = p; terms = 0; answer = pos 0; cells = 0 }
 
 -- The answer in C's form, beside the lent memory afterwards.
 abbrev pub inC : {A B M : Type 0} → (A → B) → A × M → B × M

@@ -6,17 +6,19 @@ ghost use Rattle.ownership.specs.Answers.{checkOf};
 ghost use Rattle.dynamics.specs.Answers.{uncheckedOf};
 ghost use Rattle.room.specs.Running.{runOf};
 ghost use Rattle.room.specs.Calling.{callOf};
-ghost use Rattle.c_answers.specs.Answers.{answerIn, scriptIn, ranIn, uncheckedIn, calledIn, inC, SafeRunInC, SafeCallInC};
-use c_answers::answers::Answer;
+ghost use Rattle.c_answers.specs.Answers.{scriptIn, termsIn, bytesIn, ranIn, uncheckedIn, calledIn, inC, SafeRunInC, SafeCallInC};
+use c_answers::answers::Bytes;
 use c_answers::answers::Call;
 use c_answers::answers::Run;
 use c_answers::answers::RunUnchecked;
 use c_answers::answers::Script;
-use c_answers::answers::c_answer;
+use c_answers::answers::Terms;
+use c_answers::answers::c_bytes;
 use c_answers::answers::c_called;
 use c_answers::answers::c_checked;
 use c_answers::answers::c_ran;
 use c_answers::answers::c_script;
+use c_answers::answers::c_terms;
 use c_answers::answers::c_unchecked;
 use syntax::limits::Limits;
 
@@ -33,10 +35,10 @@ pub extern "C" fn roomscript_read(
 }
 
 #[no_mangle]
-pub extern "C" fn roomscript_judge_rows(limits: Limits, rows: &[u32]) -> Answer
-    ensures { λ r. ⌜ r ≡ answerIn (judgedOf limits (now (rows .entry))) ⌝ }
+pub extern "C" fn roomscript_judge_rows(limits: Limits, rows: &[u32]) -> Terms
+    ensures { λ r. ⌜ r ≡ termsIn (judgedOf limits (now (rows .entry))) ⌝ }
 {
-    c_answer(reader::judge_rows(limits, rows))
+    c_terms(reader::judge_rows(limits, rows))
 }
 
 #[no_mangle]
@@ -45,15 +47,15 @@ pub extern "C" fn roomscript_write(
     version: u32,
     rows: &[u32],
     output: &mut [u8],
-) -> Answer
-    ensures { λ r. ⌜ (r, now (output .exit)) ≡ inC answerIn (writtenOf limits version (now (rows .entry)) (now (output .entry))) ⌝ }
+) -> Bytes
+    ensures { λ r. ⌜ (r, now (output .exit)) ≡ inC bytesIn (writtenOf limits version (now (rows .entry)) (now (output .entry))) ⌝ }
 {
-    c_answer(reader::write(limits, version, rows, output))
+    c_bytes(reader::write(limits, version, rows, output))
 }
 
 #[no_mangle]
-pub extern "C" fn roomscript_check(limits: Limits, rows: &[u32]) -> Answer
-    ensures { λ r. ⌜ r ≡ answerIn (checkOf limits (now (rows .entry))) ⌝ }
+pub extern "C" fn roomscript_check(limits: Limits, rows: &[u32]) -> Terms
+    ensures { λ r. ⌜ r ≡ termsIn (checkOf limits (now (rows .entry))) ⌝ }
 {
     c_checked(ownership::check(limits, rows))
 }

@@ -1,7 +1,7 @@
 -- `c_answers::answers::c_checked` meets its contract. Assumes nothing.
 use mathlib.Core.Path.{refl}
 use Rattle.ownership.specs.Answers.{toldChecked}
-use Rattle.c_answers.specs.Answers.{answerIn}
+use Rattle.c_answers.specs.Answers.{termsIn}
 use borrow.Author.Needs.{needs}
 use Rattle.c_answers.proofs.answers.c_checked.Statement.{statement}
 use Rattle.c_answers.proofs.answers.c_checked.Tie as tie
@@ -13,11 +13,11 @@ enum-known-checked-2 : tie.Need-enum-known-checked-2
 enum-known-checked-2 c = search needs
 
 returns : tie.Need-returns
-unfolding answerIn toldChecked
+unfolding termsIn toldChecked
 returns c = rw (c .before .checked .given .1) refl
 
 returns-2 : tie.Need-returns-2
-unfolding answerIn toldChecked
+unfolding termsIn toldChecked
 returns-2 c = rw (c .before .checked2 .given .1) refl
 
 pub c-checked-spec : {M : Type 1} → statement M
