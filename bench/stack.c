@@ -100,7 +100,7 @@ int main(int count, char **words) {
     /* Those who take rows find them here. */
     read = roomscript_read(limits, ROOMSCRIPT_NEWEST_VERSION, script, length, ROWS);
     version = read.version;
-    if (read.refused != 0 || posix_memalign(&memory, 4096, PAINTED) != 0) {
+    if (read.number != 0 || posix_memalign(&memory, 4096, PAINTED) != 0) {
         return 1;
     }
     memset(memory, PAINT, PAINTED);

@@ -14,7 +14,7 @@ int main(void) {
     roomscript_called called =
         roomscript_call(roomscript_base, script, sizeof script, readings, ROOMSCRIPT_READINGS_LEN,
                         rows, ROWS, store, STORE);
-    if (called.refused) {
+    if (called.number != 0) {
         printf("refused %lu at %lu\n", (unsigned long)called.number, (unsigned long)called.place);
     } else {
         printf("accepted %lu call %ld cells %lu\n", (unsigned long)called.terms,

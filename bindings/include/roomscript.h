@@ -34,7 +34,7 @@
  *     roomscript_read(roomscript_base, ROOMSCRIPT_NEWEST_VERSION, none, 0,
  *                     rows, ROOMSCRIPT_ROW_NUMBERS(ROOMSCRIPT_BASE_TERMS));
  *
- * answers refusal 12 at place 0.
+ * answers number 12 and place 0.
  */
 #ifndef ROOMSCRIPT_H
 #define ROOMSCRIPT_H
@@ -93,8 +93,12 @@ static const roomscript_limits roomscript_base = {
     (((size_t)(variables) + (boxes)) * ROOMSCRIPT_STORE_FIELDS)
 
 /*
- * Where refused is 0, value is the count and number 0. Where refused is 1,
- * number is the refusal's number and value its place.
+ * Every answer is a struct that begins with number and place. Where number is 0
+ * there is no refusal: place is 0, and the fields after it tell what came of
+ * the call, by the same names everywhere. Where number is not 0, it is the
+ * refusal's number and place its place, and the fields after it are 0. A fault,
+ * which only roomscript_run_unchecked can meet, is told in the same way; there
+ * the field fault is 1.
  *
  * Refusals 1 to 5 and 74 are the caller's, with place 0 and no lent memory
  * changed: 74 is given before every other number, of 1 to 4 the lowest, and 5
@@ -104,24 +108,28 @@ static const roomscript_limits roomscript_base = {
  * Refusals 30 to 43 are the author's; their place is the term (LANGUAGE 5.2 to
  * 5.5).
  */
-typedef struct roomscript_answer {
-    uint32_t refused;
-    uint32_t number;
-    uint64_t value;
-} roomscript_answer;
 
-/*
- * What came of reading. Where refused is 0, version and terms are the script's,
- * number and place 0. Where refused is 1, number and place are the refusal's,
- * and version and terms 0.
- */
+/* What came of reading: the version of the script, and its number of terms. */
 typedef struct roomscript_script {
-    uint32_t refused;
     uint32_t number;
-    uint32_t version;
     uint64_t place;
+    uint32_t version;
     uint64_t terms;
 } roomscript_script;
+
+/* What came of judging rows: the number of terms. */
+typedef struct roomscript_terms {
+    uint32_t number;
+    uint64_t place;
+    uint64_t terms;
+} roomscript_terms;
+
+/* What came of writing: the length of the script in bytes. */
+typedef struct roomscript_bytes {
+    uint32_t number;
+    uint64_t place;
+    uint64_t bytes;
+} roomscript_bytes;
 
 /*
  * Reads a script into term rows and answers its version and the number of
@@ -172,8 +180,8 @@ roomscript_script roomscript_read(roomscript_limits limits, uint32_t newest,
  *   19: a row after the end is not all 0, at the first such row.
  * The order is that of reading. 16 is never met: the rows are used up first.
  */
-roomscript_answer roomscript_judge_rows(roomscript_limits limits,
-                                        const uint32_t *rows, size_t rows_len);
+roomscript_terms roomscript_judge_rows(roomscript_limits limits,
+                                       const uint32_t *rows, size_t rows_len);
 
 /*
  * Writes the script of a version that term rows describe and answers its length
@@ -191,9 +199,9 @@ roomscript_answer roomscript_judge_rows(roomscript_limits limits,
  *   that a kind of a later version is 13;
  *   5: output is shorter than the script, at place 0.
  */
-roomscript_answer roomscript_write(roomscript_limits limits, uint32_t version,
-                                   const uint32_t *rows, size_t rows_len,
-                                   uint8_t *output, size_t output_len);
+roomscript_bytes roomscript_write(roomscript_limits limits, uint32_t version,
+                                  const uint32_t *rows, size_t rows_len,
+                                  uint8_t *output, size_t output_len);
 
 /*
  * Judges term rows by the ownership rules and answers the number of terms
@@ -227,19 +235,14 @@ roomscript_answer roomscript_write(roomscript_limits limits, uint32_t version,
  * (LANGUAGE 3.1). A term whose inner term is refused is refused with the inner
  * number and term.
  */
-roomscript_answer roomscript_check(roomscript_limits limits,
-                                   const uint32_t *rows, size_t rows_len);
+roomscript_terms roomscript_check(roomscript_limits limits,
+                                  const uint32_t *rows, size_t rows_len);
 
-/*
- * What came of a run. Where refused is 0, answer is the number that the script
- * gives, cells the cells taken, number and place 0. Where refused is 1, number
- * and place are the refusal's, and answer and cells 0.
- */
+/* What came of a run: the number that the script gives, and the cells taken. */
 typedef struct roomscript_ran {
-    uint32_t refused;
     uint32_t number;
-    int32_t answer;
     uint64_t place;
+    int32_t answer;
     uint64_t cells;
 } roomscript_ran;
 
@@ -274,17 +277,17 @@ roomscript_ran roomscript_run(roomscript_limits limits,
                               uint32_t *store, size_t store_len);
 
 /*
- * What came of an unchecked run. Where outcome is 0, answer is the number that
- * the script gives, value the cells taken, and number 0. Where outcome is 1,
- * the run was refused: number is the refusal's number, value its place, and
- * answer 0. Where outcome is 2, it met a fault: number is the fault's number,
- * value the term that was acting, and answer 0.
+ * What came of an unchecked run: as of a run, and whether it met a fault. Where
+ * fault is 1, number is the fault's number, 60 to 63, and place the term that
+ * was acting; the run began, and store is as the run left it. Where fault is 0,
+ * a number that is not 0 is a refusal's.
  */
 typedef struct roomscript_ran_unchecked {
-    uint32_t outcome;
     uint32_t number;
+    uint64_t place;
+    uint32_t fault;
     int32_t answer;
-    uint64_t value;
+    uint64_t cells;
 } roomscript_ran_unchecked;
 
 /*
@@ -318,16 +321,14 @@ roomscript_ran_unchecked roomscript_run_unchecked(
     uint32_t *store, size_t store_len);
 
 /*
- * What came of a whole call. Where refused is 0, answer is the number that the
- * script gives, terms its terms, cells the cells taken, number and place 0.
- * Where refused is 1, number and place are the refusal's, and the others 0.
+ * What came of a whole call: the number of terms, the number that the script
+ * gives, and the cells taken.
  */
 typedef struct roomscript_called {
-    uint32_t refused;
     uint32_t number;
-    int32_t answer;
     uint64_t place;
     uint64_t terms;
+    int32_t answer;
     uint64_t cells;
 } roomscript_called;
 

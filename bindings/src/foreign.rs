@@ -7,71 +7,71 @@
 
 use crate::{Called, Fault, Limits, Ran, Refusal, Script, Stop};
 
-/// Where `refused` is 0, `value` is the count and `number` 0; where it is 1,
-/// `number` is the refusal's number and `value` its place.
-#[repr(C)]
-#[derive(Debug, PartialEq, Eq)]
-pub(crate) struct Answer {
-    refused: u32,
-    number: u32,
-    value: u64,
-}
+// Each answer begins with `number` and `place`. Where `number` is 0, `place` is
+// 0, and the others are the answer; where it is not, the two are those of the
+// refusal or fault, and the others 0, but for `fault`.
 
-/// Where `refused` is 0, `number` and `place` are 0; where it is 1, these two
-/// are the refusal's and the others 0.
 #[repr(C)]
 #[derive(Debug, PartialEq, Eq)]
 pub(crate) struct ReadAnswer {
-    refused: u32,
     number: u32,
+    place: u64,
     version: u32,
+    terms: u64,
+}
+
+#[repr(C)]
+#[derive(Debug, PartialEq, Eq)]
+pub(crate) struct TermsAnswer {
+    number: u32,
     place: u64,
     terms: u64,
 }
 
-/// Where `refused` is 0, `number` and `place` are 0; where it is 1, these two
-/// are the refusal's and the others 0.
+#[repr(C)]
+#[derive(Debug, PartialEq, Eq)]
+pub(crate) struct BytesAnswer {
+    number: u32,
+    place: u64,
+    bytes: u64,
+}
+
 #[repr(C)]
 #[derive(Debug, PartialEq, Eq)]
 pub(crate) struct RunAnswer {
-    refused: u32,
     number: u32,
-    answer: i32,
     place: u64,
+    answer: i32,
     cells: u64,
 }
 
-/// Where `outcome` is 0, `value` is the cells taken and `number` 0; where it
-/// is 1, `number` is the refusal's number and `value` its place; where it is
-/// 2, `number` is the fault's number and `value` its term. Where `outcome` is
-/// not 0, `answer` is 0.
+/// `fault` is 1 where `number` and `place` are those of a fault, and else 0.
 #[repr(C)]
 #[derive(Debug, PartialEq, Eq)]
 pub(crate) struct UncheckedAnswer {
-    outcome: u32,
     number: u32,
+    place: u64,
+    fault: u32,
     answer: i32,
-    value: u64,
+    cells: u64,
 }
 
-/// Where `refused` is 0, `number` and `place` are 0; where it is 1, these two
-/// are the refusal's and the others 0.
 #[repr(C)]
 #[derive(Debug, PartialEq, Eq)]
 pub(crate) struct CallAnswer {
-    refused: u32,
     number: u32,
-    answer: i32,
     place: u64,
     terms: u64,
+    answer: i32,
     cells: u64,
 }
 
 const _: () = assert!(size_of::<Limits>() == 16 && align_of::<Limits>() == 4);
-const _: () = assert!(size_of::<Answer>() == 16 && align_of::<Answer>() == 8);
 const _: () = assert!(size_of::<ReadAnswer>() == 32 && align_of::<ReadAnswer>() == 8);
+const _: () = assert!(size_of::<TermsAnswer>() == 24 && align_of::<TermsAnswer>() == 8);
+const _: () = assert!(size_of::<BytesAnswer>() == 24 && align_of::<BytesAnswer>() == 8);
 const _: () = assert!(size_of::<RunAnswer>() == 32 && align_of::<RunAnswer>() == 8);
-const _: () = assert!(size_of::<UncheckedAnswer>() == 24 && align_of::<UncheckedAnswer>() == 8);
+const _: () = assert!(size_of::<UncheckedAnswer>() == 32 && align_of::<UncheckedAnswer>() == 8);
 const _: () = assert!(size_of::<CallAnswer>() == 40 && align_of::<CallAnswer>() == 8);
 
 // The lengths that follow from any set are computed in a usize: 64 bits, as in
@@ -88,7 +88,7 @@ extern "C" {
         rows: *mut u32,
         rows_len: usize,
     ) -> ReadAnswer;
-    fn roomscript_judge_rows(limits: Limits, rows: *const u32, rows_len: usize) -> Answer;
+    fn roomscript_judge_rows(limits: Limits, rows: *const u32, rows_len: usize) -> TermsAnswer;
     fn roomscript_write(
         limits: Limits,
         version: u32,
@@ -96,8 +96,8 @@ extern "C" {
         rows_len: usize,
         output: *mut u8,
         output_len: usize,
-    ) -> Answer;
-    fn roomscript_check(limits: Limits, rows: *const u32, rows_len: usize) -> Answer;
+    ) -> BytesAnswer;
+    fn roomscript_check(limits: Limits, rows: *const u32, rows_len: usize) -> TermsAnswer;
     fn roomscript_run(
         limits: Limits,
         rows: *const u32,
@@ -135,58 +135,60 @@ fn small(value: u64) -> u32 {
     u32::try_from(value).unwrap_or(u32::MAX)
 }
 
-fn refusal(number: u32, place: u64) -> Refusal {
-    Refusal {
-        number,
-        place: small(place),
-    }
-}
-
-impl Answer {
-    /// The count, or the refusal.
-    pub(crate) fn count(self) -> Result<u32, Refusal> {
-        match self.refused {
-            0 => Ok(small(self.value)),
-            _ => Err(refusal(self.number, self.value)),
-        }
+/// What an answer tells, or its refusal.
+fn told<T>(number: u32, place: u64, answer: T) -> Result<T, Refusal> {
+    match number {
+        0 => Ok(answer),
+        _ => Err(Refusal {
+            number,
+            place: small(place),
+        }),
     }
 }
 
 impl ReadAnswer {
     pub(crate) fn outcome(self) -> Result<Script, Refusal> {
-        match self.refused {
-            0 => Ok(Script {
-                version: self.version,
-                terms: small(self.terms),
-            }),
-            _ => Err(refusal(self.number, self.place)),
-        }
+        let script = Script {
+            version: self.version,
+            terms: small(self.terms),
+        };
+        told(self.number, self.place, script)
+    }
+}
+
+impl TermsAnswer {
+    pub(crate) fn outcome(self) -> Result<u32, Refusal> {
+        told(self.number, self.place, small(self.terms))
+    }
+}
+
+impl BytesAnswer {
+    pub(crate) fn outcome(self) -> Result<u32, Refusal> {
+        told(self.number, self.place, small(self.bytes))
     }
 }
 
 impl RunAnswer {
     pub(crate) fn outcome(self) -> Result<Ran, Refusal> {
-        match self.refused {
-            0 => Ok(Ran {
-                answer: self.answer,
-                cells: small(self.cells),
-            }),
-            _ => Err(refusal(self.number, self.place)),
-        }
+        let ran = Ran {
+            answer: self.answer,
+            cells: small(self.cells),
+        };
+        told(self.number, self.place, ran)
     }
 }
 
 impl UncheckedAnswer {
     pub(crate) fn outcome(self) -> Result<Ran, Stop> {
-        match self.outcome {
-            0 => Ok(Ran {
-                answer: self.answer,
-                cells: small(self.value),
-            }),
-            1 => Err(Stop::Refused(refusal(self.number, self.value))),
+        let ran = Ran {
+            answer: self.answer,
+            cells: small(self.cells),
+        };
+        match self.fault {
+            0 => told(self.number, self.place, ran).map_err(Stop::Refused),
             _ => Err(Stop::Fault(Fault {
                 number: self.number,
-                term: small(self.value),
+                term: small(self.place),
             })),
         }
     }
@@ -194,14 +196,12 @@ impl UncheckedAnswer {
 
 impl CallAnswer {
     pub(crate) fn outcome(self) -> Result<Called, Refusal> {
-        match self.refused {
-            0 => Ok(Called {
-                answer: self.answer,
-                terms: small(self.terms),
-                cells: small(self.cells),
-            }),
-            _ => Err(refusal(self.number, self.place)),
-        }
+        let called = Called {
+            terms: small(self.terms),
+            answer: self.answer,
+            cells: small(self.cells),
+        };
+        told(self.number, self.place, called)
     }
 }
 
@@ -224,11 +224,11 @@ pub(crate) fn read(limits: Limits, newest: u32, script: &[u8], rows: &mut [u32])
     }
 }
 
-pub(crate) fn judge_rows(limits: Limits, rows: &[u32]) -> Answer {
+pub(crate) fn judge_rows(limits: Limits, rows: &[u32]) -> TermsAnswer {
     unsafe { roomscript_judge_rows(limits, rows.as_ptr(), rows.len()) }
 }
 
-pub(crate) fn write(limits: Limits, version: u32, rows: &[u32], output: &mut [u8]) -> Answer {
+pub(crate) fn write(limits: Limits, version: u32, rows: &[u32], output: &mut [u8]) -> BytesAnswer {
     unsafe {
         roomscript_write(
             limits,
@@ -241,7 +241,7 @@ pub(crate) fn write(limits: Limits, version: u32, rows: &[u32], output: &mut [u8
     }
 }
 
-pub(crate) fn check(limits: Limits, rows: &[u32]) -> Answer {
+pub(crate) fn check(limits: Limits, rows: &[u32]) -> TermsAnswer {
     unsafe { roomscript_check(limits, rows.as_ptr(), rows.len()) }
 }
 

@@ -95,7 +95,7 @@ pub fn read(
 ///
 /// The order is that of reading. 16 is never met: the rows are used up first.
 pub fn judge_rows(limits: Limits, rows: &[u32]) -> Result<u32, Refusal> {
-    foreign::judge_rows(limits, rows).count()
+    foreign::judge_rows(limits, rows).outcome()
 }
 
 /// Writes the script of a version that term rows describe and answers its
@@ -120,5 +120,5 @@ pub fn write(
     rows: &[u32],
     output: &mut [u8],
 ) -> Result<u32, Refusal> {
-    foreign::write(limits, version, rows, output).count()
+    foreign::write(limits, version, rows, output).outcome()
 }

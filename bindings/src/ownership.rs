@@ -55,5 +55,5 @@ use crate::{Limits, Refusal};
 /// # Ok::<(), Refusal>(())
 /// ```
 pub fn check(limits: Limits, rows: &[u32]) -> Result<u32, Refusal> {
-    foreign::check(limits, rows).count()
+    foreign::check(limits, rows).outcome()
 }

@@ -46,72 +46,80 @@ static void note(const char *what, int holds) {
     }
 }
 
-static void expect(const char *what, roomscript_answer answer, uint32_t refused,
-                   uint32_t number, uint64_t value) {
-    if (answer.refused != refused || answer.number != number || answer.value != value) {
-        printf("%s: refused %u, number %u, value %llu\n", what, (unsigned)answer.refused,
-               (unsigned)answer.number, (unsigned long long)answer.value);
+/* The first two fields of every answer, beside what they must be. */
+static void first(const char *what, uint32_t number, uint64_t place, uint32_t due, uint64_t at) {
+    if (number != due || place != at) {
+        printf("%s: number %u, place %llu\n", what, (unsigned)number, (unsigned long long)place);
         failed = 1;
     }
 }
 
 static void expect_script(const char *what, roomscript_script script, uint32_t version,
                           uint64_t terms) {
-    if (script.refused != 0 || script.version != version || script.terms != terms) {
-        printf("%s: refused %u, version %u, terms %llu\n", what, (unsigned)script.refused,
-               (unsigned)script.version, (unsigned long long)script.terms);
-        failed = 1;
-    }
-    note(what, script.number == 0 && script.place == 0);
+    first(what, script.number, script.place, 0, 0);
+    note(what, script.version == version && script.terms == terms);
 }
 
 static void expect_not_read(const char *what, roomscript_script script, uint32_t number,
                             uint64_t place) {
-    if (script.refused != 1 || script.number != number || script.place != place) {
-        printf("%s: refused %u, number %u, place %llu\n", what, (unsigned)script.refused,
-               (unsigned)script.number, (unsigned long long)script.place);
-        failed = 1;
-    }
+    first(what, script.number, script.place, number, place);
     note(what, script.version == 0 && script.terms == 0);
 }
 
+static void expect_terms(const char *what, roomscript_terms judged, uint64_t terms) {
+    first(what, judged.number, judged.place, 0, 0);
+    note(what, judged.terms == terms);
+}
+
+static void expect_refused(const char *what, roomscript_terms judged, uint32_t number,
+                           uint64_t place) {
+    first(what, judged.number, judged.place, number, place);
+    note(what, judged.terms == 0);
+}
+
+static void expect_bytes(const char *what, roomscript_bytes written, uint64_t bytes) {
+    first(what, written.number, written.place, 0, 0);
+    note(what, written.bytes == bytes);
+}
+
+static void expect_not_written(const char *what, roomscript_bytes written, uint32_t number,
+                               uint64_t place) {
+    first(what, written.number, written.place, number, place);
+    note(what, written.bytes == 0);
+}
+
 static void expect_ran(const char *what, roomscript_ran ran, int32_t answer, uint64_t cells) {
-    if (ran.refused != 0 || ran.answer != answer || ran.cells != cells) {
-        printf("%s: refused %u, answer %d, cells %llu\n", what, (unsigned)ran.refused,
-               (int)ran.answer, (unsigned long long)ran.cells);
-        failed = 1;
-    }
-    note(what, ran.number == 0 && ran.place == 0);
+    first(what, ran.number, ran.place, 0, 0);
+    note(what, ran.answer == answer && ran.cells == cells);
 }
 
 static void expect_not_run(const char *what, roomscript_ran ran, uint32_t number, uint64_t place) {
-    if (ran.refused != 1 || ran.number != number || ran.place != place) {
-        printf("%s: refused %u, number %u, place %llu\n", what, (unsigned)ran.refused,
-               (unsigned)ran.number, (unsigned long long)ran.place);
-        failed = 1;
-    }
+    first(what, ran.number, ran.place, number, place);
     note(what, ran.answer == 0 && ran.cells == 0);
 }
 
-static void expect_unchecked(const char *what, roomscript_ran_unchecked ran, uint32_t outcome,
-                             uint32_t number, int32_t answer, uint64_t value) {
-    if (ran.outcome != outcome || ran.number != number || ran.answer != answer ||
-        ran.value != value) {
-        printf("%s: outcome %u, number %u, answer %d, value %llu\n", what,
-               (unsigned)ran.outcome, (unsigned)ran.number, (int)ran.answer,
-               (unsigned long long)ran.value);
-        failed = 1;
-    }
+static void expect_unchecked(const char *what, roomscript_ran_unchecked ran, int32_t answer,
+                             uint64_t cells) {
+    first(what, ran.number, ran.place, 0, 0);
+    note(what, ran.fault == 0 && ran.answer == answer && ran.cells == cells);
+}
+
+static void expect_stopped(const char *what, roomscript_ran_unchecked ran, uint32_t fault,
+                           uint32_t number, uint64_t place) {
+    first(what, ran.number, ran.place, number, place);
+    note(what, ran.fault == fault && ran.answer == 0 && ran.cells == 0);
+}
+
+static void expect_called(const char *what, roomscript_called called, uint64_t terms,
+                          int32_t answer, uint64_t cells) {
+    first(what, called.number, called.place, 0, 0);
+    note(what, called.terms == terms && called.answer == answer && called.cells == cells);
 }
 
 static void expect_not_called(const char *what, roomscript_called called, uint32_t number,
                               uint64_t place) {
-    if (called.refused != 1 || called.number != number || called.place != place) {
-        printf("%s: refused %u, number %u, place %llu\n", what, (unsigned)called.refused,
-               (unsigned)called.number, (unsigned long long)called.place);
-        failed = 1;
-    }
-    note(what, called.answer == 0 && called.terms == 0 && called.cells == 0);
+    first(what, called.number, called.place, number, place);
+    note(what, called.terms == 0 && called.answer == 0 && called.cells == 0);
 }
 
 /* Whether each number from one place to another is this one. */
@@ -135,13 +143,13 @@ static void junk(void) {
 static void form(void) {
     static uint8_t output[ROOMSCRIPT_MAX_BYTES];
     expect_script("read", roomscript_read(BASE, NEWEST, E1, sizeof E1, rows, ROWS), 1, 8);
-    expect("judge_rows", roomscript_judge_rows(BASE, rows, ROWS), 0, 0, 8);
-    expect("write", roomscript_write(BASE, 1, rows, ROWS, output, sizeof output), 0, 0, 25);
+    expect_terms("judge_rows", roomscript_judge_rows(BASE, rows, ROWS), 8);
+    expect_bytes("write", roomscript_write(BASE, 1, rows, ROWS, output, sizeof output), 25);
     note("bytes written", memcmp(output, E1, sizeof E1) == 0);
-    expect("short output", roomscript_write(BASE, 1, rows, ROWS, output, 24), 1, 5, 0);
+    expect_not_written("short output", roomscript_write(BASE, 1, rows, ROWS, output, 24), 5, 0);
     expect_not_read("short script", roomscript_read(BASE, NEWEST, E1, 24, rows, ROWS), 12, 24);
-    expect("no rows", roomscript_judge_rows(BASE, rows, 0), 1, 2, 0);
-    expect("rows of 0", roomscript_judge_rows(BASE, rows, ROWS), 1, 12, 0);
+    expect_refused("no rows", roomscript_judge_rows(BASE, rows, 0), 2, 0);
+    expect_refused("rows of 0", roomscript_judge_rows(BASE, rows, ROWS), 12, 0);
 }
 
 /* Each version is read by those who know it, and written where it is asked for. */
@@ -161,23 +169,22 @@ static void versions(void) {
                   6);
     note("the row of a sum", rows[25] == 13 && rows[26] == 0 && rows[27] == 0 && rows[28] == 1 &&
                                  rows[29] == 0);
-    expect("judge SUM", roomscript_judge_rows(BASE, rows, ROWS), 0, 0, 6);
-    expect("write version 3", roomscript_write(BASE, 3, rows, ROWS, output, sizeof output), 1, 11,
-           0);
-    expect("write version 1", roomscript_write(BASE, 1, rows, ROWS, output, sizeof output), 1, 13,
-           5);
+    expect_terms("judge SUM", roomscript_judge_rows(BASE, rows, ROWS), 6);
+    expect_not_written("write version 3",
+                       roomscript_write(BASE, 3, rows, ROWS, output, sizeof output), 11, 0);
+    expect_not_written("write version 1",
+                       roomscript_write(BASE, 1, rows, ROWS, output, sizeof output), 13, 5);
     note("bytes not written", output[0] == 0 && output[4] == 0);
-    expect("write version 2", roomscript_write(BASE, 2, rows, ROWS, output, sizeof output), 0, 0,
-           20);
+    expect_bytes("write version 2", roomscript_write(BASE, 2, rows, ROWS, output, sizeof output),
+                 20);
     note("bytes of SUM", memcmp(output, SUM, sizeof SUM) == 0);
-    expect("check SUM", roomscript_check(BASE, rows, ROWS), 0, 0, 6);
+    expect_terms("check SUM", roomscript_check(BASE, rows, ROWS), 6);
     expect_ran("run SUM", roomscript_run(BASE, rows, ROWS, GIVEN, READINGS, store, STORE), 385, 0);
     expect_unchecked("SUM unchecked",
-                     roomscript_run_unchecked(BASE, rows, ROWS, GIVEN, READINGS, store, STORE), 0,
-                     0, 385, 0);
+                     roomscript_run_unchecked(BASE, rows, ROWS, GIVEN, READINGS, store, STORE), 385,
+                     0);
     called = roomscript_call(BASE, SUM, sizeof SUM, GIVEN, READINGS, rows, ROWS, store, STORE);
-    note("call of SUM", called.refused == 0 && called.number == 0 && called.answer == 385 &&
-                            called.place == 0 && called.terms == 6 && called.cells == 0);
+    expect_called("call of SUM", called, 6, 385, 0);
 }
 
 /* let v0=reading 0; choice v0 {box 7; 7} {8}, with each branch. */
@@ -191,34 +198,38 @@ static void choices(void) {
     expect_ran("second", roomscript_run(BASE, rows, ROWS, zeros, READINGS, store, STORE), 8, 0);
 }
 
-/* The structs that reading and the two runs answer. */
+/* Where a field of an answer stands. */
+#define AT(answer, field, offset) (offsetof(roomscript_##answer, field) == (offset))
+
+/* The struct that each function answers: number and place first. */
 static void layout(void) {
-    note("roomscript_script",
-         sizeof(roomscript_script) == 32 && offsetof(roomscript_script, refused) == 0 &&
-             offsetof(roomscript_script, number) == 4 &&
-             offsetof(roomscript_script, version) == 8 &&
-             offsetof(roomscript_script, place) == 16 && offsetof(roomscript_script, terms) == 24);
-    note("roomscript_ran",
-         sizeof(roomscript_ran) == 32 && offsetof(roomscript_ran, refused) == 0 &&
-             offsetof(roomscript_ran, number) == 4 && offsetof(roomscript_ran, answer) == 8 &&
-             offsetof(roomscript_ran, place) == 16 && offsetof(roomscript_ran, cells) == 24);
+    note("roomscript_script", sizeof(roomscript_script) == 32 && AT(script, number, 0) &&
+                                  AT(script, place, 8) && AT(script, version, 16) &&
+                                  AT(script, terms, 24));
+    note("roomscript_terms", sizeof(roomscript_terms) == 24 && AT(terms, number, 0) &&
+                                 AT(terms, place, 8) && AT(terms, terms, 16));
+    note("roomscript_bytes", sizeof(roomscript_bytes) == 24 && AT(bytes, number, 0) &&
+                                 AT(bytes, place, 8) && AT(bytes, bytes, 16));
+    note("roomscript_ran", sizeof(roomscript_ran) == 32 && AT(ran, number, 0) &&
+                               AT(ran, place, 8) && AT(ran, answer, 16) && AT(ran, cells, 24));
     note("roomscript_ran_unchecked",
-         sizeof(roomscript_ran_unchecked) == 24 &&
-             offsetof(roomscript_ran_unchecked, outcome) == 0 &&
-             offsetof(roomscript_ran_unchecked, number) == 4 &&
-             offsetof(roomscript_ran_unchecked, answer) == 8 &&
-             offsetof(roomscript_ran_unchecked, value) == 16);
+         sizeof(roomscript_ran_unchecked) == 32 && AT(ran_unchecked, number, 0) &&
+             AT(ran_unchecked, place, 8) && AT(ran_unchecked, fault, 16) &&
+             AT(ran_unchecked, answer, 20) && AT(ran_unchecked, cells, 24));
+    note("roomscript_called", sizeof(roomscript_called) == 40 && AT(called, number, 0) &&
+                                  AT(called, place, 8) && AT(called, terms, 16) &&
+                                  AT(called, answer, 24) && AT(called, cells, 32));
 }
 
 static void check_and_run(void) {
     junk();
     expect_script("read E1", roomscript_read(BASE, NEWEST, E1, sizeof E1, rows, ROWS), 1, 8);
-    expect("check E1", roomscript_check(BASE, rows, ROWS), 0, 0, 8);
-    expect("check no rows", roomscript_check(BASE, rows, 0), 1, 2, 0);
+    expect_terms("check E1", roomscript_check(BASE, rows, ROWS), 8);
+    expect_refused("check no rows", roomscript_check(BASE, rows, 0), 2, 0);
     expect_not_run("no store", roomscript_run(BASE, rows, ROWS, GIVEN, READINGS, store, 0), 3, 0);
     expect_not_run("no readings", roomscript_run(BASE, rows, ROWS, GIVEN, 7, store, STORE), 4, 0);
     expect_script("read E3", roomscript_read(BASE, NEWEST, E3, sizeof E3, rows, ROWS), 1, 7);
-    expect("check E3", roomscript_check(BASE, rows, ROWS), 1, 33, 6);
+    expect_refused("check E3", roomscript_check(BASE, rows, ROWS), 33, 6);
     expect_not_run("run E3", roomscript_run(BASE, rows, ROWS, GIVEN, READINGS, store, STORE), 33,
                    6);
     note("store after refusals", all(store, 0, STORE, 9));
@@ -231,21 +242,19 @@ static void run_unchecked(void) {
     static const uint32_t fault[6] = {1, 0, 0, 1, 2, 0};
     junk();
     expect_script("read E1", roomscript_read(BASE, NEWEST, E1, sizeof E1, rows, ROWS), 1, 8);
-    expect_unchecked("no store, unchecked",
-                     roomscript_run_unchecked(BASE, rows, ROWS, GIVEN, READINGS, store, 0), 1, 3,
-                     0, 0);
-    expect_unchecked("no readings, unchecked",
-                     roomscript_run_unchecked(BASE, rows, ROWS, GIVEN, 7, store, STORE), 1, 4, 0,
-                     0);
+    expect_stopped("no store, unchecked",
+                   roomscript_run_unchecked(BASE, rows, ROWS, GIVEN, READINGS, store, 0), 0, 3, 0);
+    expect_stopped("no readings, unchecked",
+                   roomscript_run_unchecked(BASE, rows, ROWS, GIVEN, 7, store, STORE), 0, 4, 0);
     note("store before an unchecked run", all(store, 0, STORE, 9));
     expect_unchecked("E1 unchecked",
-                     roomscript_run_unchecked(BASE, rows, ROWS, GIVEN, READINGS, store, STORE), 0,
-                     0, 1, 0);
+                     roomscript_run_unchecked(BASE, rows, ROWS, GIVEN, READINGS, store, STORE), 1,
+                     0);
     note("store after E1", all(store, 0, STORE, 0));
     expect_script("read E3", roomscript_read(BASE, NEWEST, E3, sizeof E3, rows, ROWS), 1, 7);
-    expect_unchecked("E3 unchecked",
-                     roomscript_run_unchecked(BASE, rows, ROWS, GIVEN, READINGS, store, STORE), 2,
-                     60, 0, 6);
+    expect_stopped("E3 unchecked",
+                   roomscript_run_unchecked(BASE, rows, ROWS, GIVEN, READINGS, store, STORE), 1, 60,
+                   6);
     note("variables after E3", memcmp(store, fault, sizeof fault) == 0);
     note("cell after E3", store[192] == 1 && store[193] == 1 && store[194] == 7);
     note("the rest after E3", all(store, 6, 192, 0) && all(store, 195, STORE, 0));
@@ -266,8 +275,7 @@ static void call(void) {
                       33, 6);
     note("after E3", rows[0] == 11 && rows[1] == 3 && all(store, 0, STORE, 9));
     called = roomscript_call(BASE, E1, 25, GIVEN, READINGS, rows, ROWS, store, STORE);
-    note("call of E1", called.refused == 0 && called.number == 0 && called.answer == 1 &&
-                           called.place == 0 && called.terms == 8 && called.cells == 0);
+    expect_called("call of E1", called, 8, 1, 0);
     note("after E1", rows[0] == 11 && rows[1] == 4 && all(store, 0, STORE, 0));
 }
 
@@ -280,22 +288,21 @@ static void empty(void) {
     expect_not_read("read no bytes", roomscript_read(BASE, NEWEST, bytes, 0, rows, ROWS), 12, 0);
     note("rows after no bytes", all(rows, 0, ROWS, 0));
     expect_not_read("read into no rows", roomscript_read(BASE, NEWEST, E1, 25, numbers, 0), 2, 0);
-    expect("judge no rows", roomscript_judge_rows(BASE, numbers, 0), 1, 2, 0);
-    expect("write no rows", roomscript_write(BASE, 1, numbers, 0, bytes, 0), 1, 2, 0);
-    expect("check no rows", roomscript_check(BASE, numbers, 0), 1, 2, 0);
+    expect_refused("judge no rows", roomscript_judge_rows(BASE, numbers, 0), 2, 0);
+    expect_not_written("write no rows", roomscript_write(BASE, 1, numbers, 0, bytes, 0), 2, 0);
+    expect_refused("check no rows", roomscript_check(BASE, numbers, 0), 2, 0);
     expect_script("read E1", roomscript_read(BASE, NEWEST, E1, 25, rows, ROWS), 1, 8);
-    expect("write to no output", roomscript_write(BASE, 1, rows, ROWS, bytes, 0), 1, 5, 0);
+    expect_not_written("write to no output", roomscript_write(BASE, 1, rows, ROWS, bytes, 0), 5, 0);
     expect_not_run("run no rows", roomscript_run(BASE, numbers, 0, none, 0, numbers, 0), 2, 0);
     expect_not_run("run on no store",
                    roomscript_run(BASE, rows, ROWS, GIVEN, READINGS, numbers, 0), 3, 0);
     expect_not_run("run with no readings",
                    roomscript_run(BASE, rows, ROWS, none, 0, store, STORE), 4, 0);
-    expect_unchecked("unchecked on no store",
-                     roomscript_run_unchecked(BASE, rows, ROWS, GIVEN, READINGS, numbers, 0), 1, 3,
-                     0, 0);
-    expect_unchecked("unchecked with no readings",
-                     roomscript_run_unchecked(BASE, rows, ROWS, none, 0, store, STORE), 1, 4, 0,
-                     0);
+    expect_stopped("unchecked on no store",
+                   roomscript_run_unchecked(BASE, rows, ROWS, GIVEN, READINGS, numbers, 0), 0, 3,
+                   0);
+    expect_stopped("unchecked with no readings",
+                   roomscript_run_unchecked(BASE, rows, ROWS, none, 0, store, STORE), 0, 4, 0);
     expect_not_called("call of no bytes",
                       roomscript_call(BASE, bytes, 0, GIVEN, READINGS, rows, ROWS, store, STORE),
                       12, 0);
@@ -324,16 +331,16 @@ static void sets(void) {
     expect_script("read E3 as it fits", roomscript_read(fits, NEWEST, E3, 23, rows, fitting), 1, 7);
     note("rows after that", rows[30] == 3 && rows[31] == 0 && rows[32] == 1 &&
                                 all(rows, fitting, ROWS, 9));
-    expect("judge E3", roomscript_judge_rows(fits, rows, fitting), 0, 0, 7);
-    expect("check E3", roomscript_check(fits, rows, fitting), 1, 33, 6);
+    expect_terms("judge E3", roomscript_judge_rows(fits, rows, fitting), 7);
+    expect_refused("check E3", roomscript_check(fits, rows, fitting), 33, 6);
     expect_not_run("run E3 as it fits",
                    roomscript_run(fits, rows, fitting, GIVEN, READINGS, store, small), 33, 6);
     note("store after that", all(store, 0, STORE, 9));
-    expect_unchecked("E3 as it fits, unchecked",
-                     roomscript_run_unchecked(fits, rows, fitting, GIVEN, READINGS, store, small),
-                     2, 60, 0, 6);
+    expect_stopped("E3 as it fits, unchecked",
+                   roomscript_run_unchecked(fits, rows, fitting, GIVEN, READINGS, store, small), 1,
+                   60, 6);
     note("the cell after E3", store[6] == 1 && store[7] == 1 && store[8] == 7 && store[9] == 9);
-    expect("the base's rows", roomscript_check(fits, rows, ROWS), 1, 2, 0);
+    expect_refused("the base's rows", roomscript_check(fits, rows, ROWS), 2, 0);
     expect_not_run("the base's store",
                    roomscript_run(fits, rows, fitting, GIVEN, READINGS, store, STORE), 3, 0);
 }
@@ -345,13 +352,12 @@ static void largest(void) {
     roomscript_called called;
     note("the largest lengths", length == 20480 && size == 768);
     called = roomscript_call(most, E1, 25, GIVEN, READINGS, many, length, big, size);
-    note("call of E1 under the largest set",
-         called.refused == 0 && called.answer == 1 && called.terms == 8 && called.cells == 0);
-    expect("check E1 under the largest set", roomscript_check(most, many, length), 0, 0, 8);
+    expect_called("call of E1 under the largest set", called, 8, 1, 0);
+    expect_terms("check E1 under the largest set", roomscript_check(most, many, length), 8);
     expect_ran("run E1 under the largest set",
                roomscript_run(most, many, length, GIVEN, READINGS, big, size), 1, 0);
     note("store of the largest set", all(big, 0, size, 0));
-    expect("rows of the largest set", roomscript_check(BASE, many, length), 1, 2, 0);
+    expect_refused("rows of the largest set", roomscript_check(BASE, many, length), 2, 0);
 }
 
 /* 74 comes before every other number, and nothing lent is changed. */
@@ -364,13 +370,12 @@ static void outside(void) {
     junk();
     for (at = 0; at < sizeof sets / sizeof sets[0]; at++) {
         expect_not_read("read", roomscript_read(sets[at], NEWEST, E1, 25, rows, ROWS), 74, 0);
-        expect("judge_rows", roomscript_judge_rows(sets[at], rows, 0), 1, 74, 0);
-        expect("write", roomscript_write(sets[at], 1, rows, ROWS, output, 1), 1, 74, 0);
-        expect("check", roomscript_check(sets[at], rows, ROWS), 1, 74, 0);
+        expect_refused("judge_rows", roomscript_judge_rows(sets[at], rows, 0), 74, 0);
+        expect_not_written("write", roomscript_write(sets[at], 1, rows, ROWS, output, 1), 74, 0);
+        expect_refused("check", roomscript_check(sets[at], rows, ROWS), 74, 0);
         expect_not_run("run", roomscript_run(sets[at], rows, 0, GIVEN, 7, store, 0), 74, 0);
-        expect_unchecked("run_unchecked",
-                         roomscript_run_unchecked(sets[at], rows, 0, GIVEN, 7, store, 0), 1, 74, 0,
-                         0);
+        expect_stopped("run_unchecked",
+                       roomscript_run_unchecked(sets[at], rows, 0, GIVEN, 7, store, 0), 0, 74, 0);
         expect_not_called("call", roomscript_call(sets[at], E1, 25, GIVEN, 7, rows, 0, store, 0),
                           74, 0);
     }
