@@ -1,2 +1,3 @@
--- Answers in C's form, field by field.
+-- Answers in C's form, field by field, and what their number tells.
 pub mod Answers
+pub mod Numbers

@@ -16,7 +16,8 @@ use Rattle.syntax.specs.Answers.{rowsFit, lengthsFit}
 use Rattle.syntax.proofs.Answers.{err-ok}
 use Rattle.statics.specs.Judge.{judgeScript}
 use Rattle.dynamics.specs.Answers.{runFits, runnable}
-use Rattle.safety.proofs.RefusalNumbers.{Only, onward, tested, form-numbers, read-numbers, author-numbers}
+use Rattle.safety.proofs.NumberRanges.{onward, tested}
+use Rattle.safety.proofs.RefusalNumbers.{Only, form-numbers, read-numbers, author-numbers}
 use Rattle.room.specs.Running.{checkedFirst, RunNumber}
 use Rattle.room.specs.Calling.{callFits, readFirst, CallNumber}
 
@@ -34,8 +35,8 @@ module _ (l : Limits) (readings : List ℤ) (rows store : List ℕ) (e : Refusal
   of-lengths : {a : ℕ} → T (leb a 2) → T (leb a 3) → T (leb a 4)
       → Only a 4 (rowsFit l rows >>= λ _. need (eqb (length store) (storeNumbers l)) (3, 0) >>= λ _. need (eqb (length readings) 8) (4, 0))
   of-lengths x y z =
-      onward (tested (eqb (length rows) (rowNumbers l)) 2 0 x tt)
-      (λ _. onward (tested (eqb (length store) (storeNumbers l)) 3 0 y tt) (λ _. tested (eqb (length readings) 8) 4 0 z tt))
+      onward (tested (eqb (length rows) (rowNumbers l)) (2, 0) x tt)
+      (λ _. onward (tested (eqb (length store) (storeNumbers l)) (3, 0) y tt) (λ _. tested (eqb (length readings) 8) (4, 0) z tt))
 
   run-fits : runFits l rows readings store ≡ err e → RunNumber (e .0)
   unfolding runFits need _>>=_
@@ -56,7 +57,7 @@ module _ (l : Limits) (readings : List ℤ) (rows store : List ℕ) (e : Refusal
   module _ (script : List ℕ) where
     -- The rows' length is judged by reading and by running.
     of-call : Only 1 4 ((need (leb (length script) maxBytes) (1, 0) >>= λ _. rowsFit l rows) >>= λ _. rowsFit l rows >>= λ _. need (eqb (length store) (storeNumbers l)) (3, 0) >>= λ _. need (eqb (length readings) 8) (4, 0))
-    of-call = onward (onward (tested (leb (length script) maxBytes) 1 0 tt tt) (λ _. tested (eqb (length rows) (rowNumbers l)) 2 0 tt tt)) (λ _. of-lengths tt tt tt)
+    of-call = onward (onward (tested (leb (length script) maxBytes) (1, 0) tt tt) (λ _. tested (eqb (length rows) (rowNumbers l)) (2, 0) tt tt)) (λ _. of-lengths tt tt tt)
 
     call-fits : callFits l script readings rows store ≡ err e → CallNumber (e .0)
     unfolding callFits lengthsFit runFits need _>>=_

@@ -1,15 +1,14 @@
 -- The numbers of refusals: reading refuses with 10 to 19 only, judging rows with 12 to 19 (LANGUAGE 5.4), the ownership rules with 30 to 43 (5.5).
 use Prim.Native.Nat.{ℕ, zero, suc, _≤_}
-use native.Mathlib.Omega.{arith}
 use mathlib.Core.Path.{_≡_}
-use mathlib.Core.Bool.{Bool, true, false}
+use mathlib.Core.Bool.{Bool}
 use mathlib.Core.Option.{Option, none, some}
 use mathlib.Core.List.{List, [], _∷_}
-use lib.Dec.{T, leb, leb→le}
-use Rattle.syntax.specs.Result.{Result, ok, err, Refusal, need, _>>=_}
+use lib.Dec.{T, leb}
+use Rattle.syntax.specs.Result.{Result, err, Refusal}
 use Rattle.syntax.specs.Limits.{Limits}
 use Rattle.syntax.specs.Script.{Place, Term, number, reading, copy, move, borrowShared, borrowExclusive, box, declare, assign, below, block, choice, sum, Terms, last, more}
-use Rattle.syntax.specs.Kinds.{Kind, kNumber, kReading, kCopy, kMove, kShared, kExclusive, kBox, kLet, kAssign, kBelow, kBlock, kChoice, kSum, Field, word, until}
+use Rattle.syntax.specs.Kinds.{newest, Kind, kNumber, kReading, kCopy, kMove, kShared, kExclusive, kBox, kLet, kAssign, kBelow, kBlock, kChoice, kSum, Field, word, until}
 use Rattle.syntax.specs.Layout.{Form, inBytes, inRows}
 use Rattle.syntax.specs.Reader.{Cursor, Reads, _>>=_ as _&_, done, expect, first, peek, skip, next, ranged, field, operands, zeroFields, restOfRow, known, kind, opening, counted, several, built, term, nothingLeft, over, script, mark, version, leading, wholeScript, answer, parse, decodeIn, decode}
 use Rattle.statics.specs.Environment.{Slot, free, used, live, Environment, Ty}
@@ -17,49 +16,26 @@ use Rattle.statics.specs.Follow.{Met}
 use Rattle.statics.specs.Uses.{Unfinished}
 use Rattle.statics.specs.Rules.{inScope, reached, valued, judgePlace, judgeReadable, judgeCopy, judgeMove, recordedPlaces, judgeShared, judgeExclusive, judgeBox, judgeLet, judgeWrite, judgeAssign, judgeNumber, judgeBelow, judgeBlockEnd, judgeChoice}
 use Rattle.statics.specs.Judge.{judge, judges, judgeScript}
+use Rattle.safety.proofs.NumberRanges.{Numbered, fine, stopped, wider, onward, tested}
 
 -- If the result is a refusal, its number is from a to b.
-pub record Only {A : Type 0} (a b : ℕ) (m : Result Refusal A) : Type 0 where
-  pub number-in : (e : Refusal) → m ≡ err e → (a ≤ e .0) × (e .0 ≤ b)
+abbrev pub Only : {A : Type 0} → ℕ → ℕ → Result Refusal A → Type 0
+Only a b m = Numbered (λ e. e .0) a b m
 
 module _ {a b : ℕ} where
-  -- An answer is no refusal.
-  fine : {A : Type 0} (x : A) → Only a b (ok x)
-  fine x = record { number-in = λ e q. let z : _≡_ {A = ℕ} 0 1 = cc in absurd (omega arith) }
-
-  -- The two tests compute where the numbers are written out, so that `search` closes them.
-  refused : {A : Type 0} (n i : ℕ) → T (leb a n) → T (leb n b) → Only {A = A} a b (err (n, i))
-  refused n i h k = record { number-in = λ e q. let z : _≡_ {A = ℕ} n (e .0) = cc in (omega (arith, leb→le a n h), omega (arith, leb→le n b k)) }
-
-  -- What is in a range is in a wider one.
-  wider : {A : Type 0} {m : Result Refusal A} {c d : ℕ} → Only c d m → T (leb a c) → T (leb d b) → Only a b m
-  wider {c = c} {d = d} o h k = record { number-in = λ e q. let z = o .number-in e q in (omega (arith, leb→le a c h), omega (arith, leb→le d b k)) }
-
-  -- A chain refuses where its first step does or where the rest does.
-  pub onward : {A B : Type 0} {m : Result Refusal A} {f : A → Result Refusal B} → Only a b m → ((x : A) → Only a b (f x)) → Only a b (m >>= f)
-  unfolding _>>=_
-  onward {m = ok x} h k = k x
-  onward {m = err x} h k = record { number-in = λ e q. h .number-in e cc }
-
-  -- A test has one number.
-  pub tested : (t : Bool) (n i : ℕ) → T (leb a n) → T (leb n b) → Only a b (need t (n, i))
-  unfolding need
-  tested true n i h k = fine tt
-  tested false n i h k = refused n i h k
-
   -- A chain of the reader: the same wherever each step begins.
   reads : {A B : Type 0} {m : Reads A} {f : A → Reads B} → ((s : Cursor) → Only a b (m s)) → ((x : A) (s : Cursor) → Only a b (f x s)) → (s : Cursor) → Only a b ((m & f) s)
   unfolding _&_
   reads h k s = onward (h s) (λ r. k (r .0) (r .1))
 
 -- With these `search` goes through a definition step by step and looks at each number.
-ruleset steps = (onward, reads, tested, fine, refused)
+ruleset steps = (onward, reads, tested, fine, stopped)
 
 -- ---- reading: from bytes, and from rows
 
 first-only : {a b : ℕ} (xs : List ℕ) (n i : ℕ) → T (leb a n) → T (leb n b) → Only a b (first xs (n, i))
 unfolding first
-first-only [] n i h k = refused n i h k
+first-only [] n i h k = stopped (n, i) h k
 first-only (x ∷ xs) n i h k = fine x
 
 known-only : (o : Option Kind) (i : ℕ) → Only 12 19 (known o (13, i))
@@ -136,16 +112,16 @@ tree-only : (l : Limits) (v : ℕ) (w : Form) (s : Cursor) → Only 12 19 (scrip
 unfolding script over done
 tree-only l v w = search (steps, nothing-left, term-only)
 
-decode-only : (l : Limits) (rows : List ℕ) → Only 12 19 (decode l rows)
-unfolding decode decodeIn answer
-decode-only l rows = search (steps, tree-only)
+pub decode-only : (l : Limits) (v : ℕ) (rows : List ℕ) → Only 12 19 (decodeIn l v rows)
+unfolding decodeIn answer
+decode-only l v rows = search (steps, tree-only)
 
 -- Bytes have the mark (10) and the version (11) before the term.
 whole-only : (l : Limits) (n : ℕ) (s : Cursor) → Only 10 19 (wholeScript l n s)
 unfolding wholeScript leading mark version next peek expect skip done
 whole-only l n = reads (search (steps, first-only) depth 8) (λ v. reads (λ s. wider (tree-only l v inBytes s) tt tt) (λ t. search steps))
 
-parse-only : (l : Limits) (n : ℕ) (bs : List ℕ) → Only 10 19 (parse l n bs)
+pub parse-only : (l : Limits) (n : ℕ) (bs : List ℕ) → Only 10 19 (parse l n bs)
 unfolding parse answer
 parse-only l n bs = search (steps, whole-only)
 
@@ -155,7 +131,8 @@ read-numbers l n bs = parse-only l n bs .number-in
 
 -- The numbers that judging rows can answer (LANGUAGE 5.4): 12 to 19.
 pub form-numbers : (l : Limits) (rows : List ℕ) (e : Refusal) → decode l rows ≡ err e → (12 ≤ e .0) × (e .0 ≤ 19)
-form-numbers l rows = decode-only l rows .number-in
+unfolding decode
+form-numbers l rows = decode-only l newest rows .number-in
 
 -- ---- the ownership rules
 
@@ -213,7 +190,7 @@ module _ (nv : ℕ) where
     judges-only (last t) level ns Γ = judge-only t level ns Γ
     judges-only (more t ts) level ns Γ = onward (judge-only t level ns Γ) (λ o. judges-only ts level _ (o .0))
 
-  script-only : (t : Term) → Only 30 43 (judgeScript nv t)
+  pub script-only : (t : Term) → Only 30 43 (judgeScript nv t)
   unfolding judgeScript
   script-only t = search (steps, judge-only)
 
