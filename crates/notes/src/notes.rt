@@ -1,6 +1,7 @@
-// What the table notes beside its entries, so that no rule has to look at all variables: of each root, who may hold a
-// borrow of it; and in two rows after those of the variables, whose borrow link is exclusive, who is in scope, and how
-// far the numbers are taken. Nothing is taken out of the first two, so that they may have more than is so.
+// Storing the state of a variable, and what the table notes beside the states, so that no rule has to look at all
+// variables: of each root, who may hold a borrow of it; and in two rows after those of the variables, whose borrow link
+// is exclusive, who is in scope, and how far the numbers are taken. Nothing is taken out of the first two, so that they
+// may have more than is so.
 ghost use mathlib.Core.Path.{_≡_};
 ghost use mathlib.Core.Bool.{true};
 ghost use Prim.Native.Nat.{ℕ, _<_, _≤_, _+_, _*_};
