@@ -1,5 +1,5 @@
--- Answers in C's form, field by field: number and place of the refusal or fault, both 0 where there is none, then the values of the answer, 0 where
--- there is none.
+-- Answers in C's form, field by field: number and place of the refusal or fault, both 0 where there is none; of an unchecked run whether it is a
+-- fault; the values of the answer, all 0 where there is none.
 use Prim.Native.Nat.{ℕ}
 use mathlib.Core.Path.{_≡_}
 use mathlib.Core.List.{List}
@@ -46,7 +46,7 @@ calledIn (call.refused n p) = record { number = n; place = p; terms = 0; answer 
 abbrev pub inC : {A B M : Type 0} → (A → B) → A × M → B × M
 inC form r = (form (r .0), r .1)
 
--- What `SafeRun` and `SafeCall` say (LANGUAGE 7.4), of the answer that C's fields stand for.
+-- What `SafeRun` and `SafeCall` say (LANGUAGE 7.4), of the answer that C's fields stand for: their number tells which case it is (`Numbers`).
 abbrev pub SafeRunInC : Limits → List ℕ → List ℤ → Run → List ℕ → List ℕ → Type 0
 SafeRunInC l rows readings r before after = (m : run.RunAnswer) × (r ≡ ranIn m) × run.SafeRun l rows readings m before after
 
