@@ -17,7 +17,9 @@
  *
  * Every function takes a set of limits first, and the lengths of rows and store
  * follow from it. It answers on every input, without allocation, and changes no
- * memory but the buffers that it takes without const. It keeps no pointer.
+ * memory but the buffers that it takes without const. It keeps no pointer. It
+ * takes less than 72,000 bytes of stack with roomscript_base, and less than
+ * 131,000 with the largest set, most of it for choices and blocks in each other.
  *
  * A buffer is a pointer and then a length in elements. The pointer is never
  * NULL and is aligned for its elements, for length 0 too; all of the length
@@ -94,11 +96,12 @@ static const roomscript_limits roomscript_base = {
 
 /*
  * Every answer is a struct that begins with number and place. Where number is 0
- * there is no refusal: place is 0, and the fields after it tell what came of
- * the call, by the same names everywhere. Where number is not 0, it is the
- * refusal's number and place its place, and the fields after it are 0. A fault,
- * which only roomscript_run_unchecked can meet, is told in the same way; there
- * the field fault is 1.
+ * there is neither a refusal nor a fault: place is 0, and the fields after it
+ * tell what came of the call, by the same names everywhere. Where number is not
+ * 0, nothing is answered: number and place are those of the refusal, or of the
+ * fault, which only roomscript_run_unchecked can meet, and the fields after
+ * them are 0, but for fault, which is 1 where it is a fault. Compare answers
+ * field by field: some structs have unused bytes between fields.
  *
  * Refusals 1 to 5 and 74 are the caller's, with place 0 and no lent memory
  * changed: 74 is given before every other number, of 1 to 4 the lowest, and 5
@@ -117,7 +120,7 @@ typedef struct roomscript_script {
     uint64_t terms;
 } roomscript_script;
 
-/* What came of judging rows: the number of terms. */
+/* What came of judging rows, or of the check: the number of terms. */
 typedef struct roomscript_terms {
     uint32_t number;
     uint64_t place;
@@ -211,11 +214,11 @@ roomscript_bytes roomscript_write(roomscript_limits limits, uint32_t version,
  * refuse no term of it. It then runs without a fault, whatever the readings.
  * Nothing lent is changed. roomscript_run checks by itself.
  *
- * Refusals:
+ * Refusals, in this order:
  *   74: the set is outside the ranges, at place 0;
  *   2: rows is not 5 times the set's terms long, at place 0;
  *   12 to 15 and 17 to 19, with the row, as from roomscript_judge_rows.
- * Refusals by the author, with the term:
+ * Then by the author, with the term:
  *   30: the number of a let is taken;
  *   31: the root of a place is not in scope; 32: its chain is not long enough;
  *   33: something is moved away on the path or of the value;

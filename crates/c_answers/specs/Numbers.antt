@@ -15,7 +15,8 @@ use Rattle.c_answers.specs.declared.answers.Run.{Run}
 use Rattle.c_answers.specs.declared.answers.Call.{Call}
 use Rattle.c_answers.specs.Answers.{scriptIn, termsIn, bytesIn, ranIn, uncheckedIn, calledIn, SafeRunInC, SafeCallInC}
 
--- Under a set, on every input. Of a run and a call: what safety says of an answer then holds.
+-- Under a set, on every input; of a run and a call, of every answer that the clause `safe` of their contracts allows (SafeRunInC, SafeCallInC):
+-- what safety says of an answer then holds.
 pub record NumberTells (l : Limits) : Type 0 where
   pub reads : (n : ℕ) (script rows : List ℕ) → scriptIn (readOf l n script rows .0) .number ≡ 0 → (t : Told) × (readOf l n script rows .0 ≡ ok t)
   pub judges : (rows : List ℕ) → termsIn (judgedOf l rows) .number ≡ 0 → (t : ℕ) × (judgedOf l rows ≡ ok t)

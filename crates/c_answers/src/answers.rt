@@ -2,7 +2,8 @@
 //
 // Every struct begins with number and place. Where number is 0 there is an answer: place is 0, and the fields after it
 // tell it. Else number is that of a refusal (LANGUAGE 5.3 to 5.5) or of a fault (5.6), place is its place (5.2), and the
-// fields after it are 0, but for fault.
+// fields after it are 0, but for fault. In the header Script, Terms and Bytes are roomscript_script, _terms and _bytes;
+// Run, RunUnchecked and Call are _ran, _ran_unchecked and _called.
 ghost use mathlib.Core.Path.{_≡_};
 ghost use Rattle.reader.specs.Outcomes.{told, toldRead};
 ghost use Rattle.ownership.specs.Answers.{toldChecked};

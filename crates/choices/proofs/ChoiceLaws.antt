@@ -97,6 +97,7 @@ pub joining-first : (env kept : List ℕ) → Joining env kept 0 env
 joining-first env kept = giving-first env (joinedWith env kept)
 
 pub joining-next : (n : ℕ) (env₀ kept : List ℕ) (x : ℕ) (env env′ : List ℕ) → Given n env x (joinedWith env kept x) env′ → Joining env₀ kept x env → Joining env₀ kept (x + 1) env′
+unfolding borrowOf
 joining-next n env₀ kept x env env′ G E = giving-next n env₀ (joinedWith env₀ kept) x env (joinedWith env kept x) env′ same G E
   where
     same : (z : Slot) → joinedWith env kept x z ≡ joinedWith env₀ kept x z

@@ -13,7 +13,7 @@ use Rattle.variables.specs.declared.table.VariableState.{VariableState}
 use Rattle.variables.specs.declared.table.Entry.{Entry}
 use Rattle.variables.specs.declared.table.Entry.the-variants as entry
 use Rattle.statics.specs.Places.{unite}
-use Rattle.statics.specs.Environment.{Borrow, places, borrowEnd, Variable, live}
+use Rattle.statics.specs.Environment.{Borrow, places, borrowEnd, Variable, live, borrowOf}
 use Rattle.statics.specs.Choice.{earlier}
 use Rattle.statics.specs.Roots.{left}
 use Rattle.variables.specs.Chains.{chainOf}
@@ -66,6 +66,7 @@ module _ (n : ℕ) (env kept : List ℕ) (x : ℕ) (T : TableFor env n) (d : ℕ
   -- What the table has stays where it has no less.
   pub joined-same : (w : ℕ) (a more : Roots) → w ≡ entryWord env x 4 → a ≡ rootsAt env x → w ≤ d → ((y : ℕ) → has more y ≡ pick (has a y) false (has s y)) → isEmpty more ≡ true
       → Given n env x (joinedWith env kept x) env
+  unfolding borrowOf
   joined-same w a more g h l m none =
       let ks = chainOf (linksAt env x) in
       let all : (y : ℕ) → has (rootsAt env x) y ≡ pick (has (keptRoots kept x) y) true (has (rootsAt env x) y) =
@@ -112,6 +113,7 @@ module _ (n : ℕ) (env kept : List ℕ) (x : ℕ) (T : TableFor env n) (d : ℕ
           record { given = record { state = R .0; table = R .1; links = R .2 }; here = kept-now kept′ P; there = P .there }
 
       pub joined-put : (k : ℕ) (all : Roots) → ((y : ℕ) → has all y ≡ pick (has s y) true (has old y)) → k ≡ earlier d (v .«moved_from») → r ≡ changedState v k all → Given n env x (joinedWith env kept x) env′
+      unfolding borrowOf
       joined-put k all both first made =
           let ks = chainOf (linksAt env x) in
           let R = given env n x T inside k all env′ same (stored-as env n x T inside v r state-is k all made env′ same S k refl) (joinedWith env kept x) refl refl

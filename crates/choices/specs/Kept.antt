@@ -5,9 +5,8 @@ use mathlib.Core.Path.{_≡_}
 use mathlib.Core.List.{List}
 use lib.ListN.{getD}
 use Rattle.variables.specs.declared.roots.Roots.{Roots}
-use Rattle.statics.specs.Places.{unite}
-use Rattle.statics.specs.Environment.{places, borrowEnd, Variable, Slot, free, used, live, Environment, update}
-use Rattle.statics.specs.Choice.{earlier}
+use Rattle.statics.specs.Environment.{borrowEnd, Variable, Slot, free, used, live, Environment, update}
+use Rattle.statics.specs.Choice.{joinedSlot}
 use Rattle.statics.specs.Roots.{lengths, placesOf, left}
 use Rattle.variables.specs.Masks.{has}
 use Rattle.variables.specs.Table.{endIn, environmentOf, TableFor, SameLinks}
@@ -33,32 +32,35 @@ pub record Stays (Γ Γ′ : Environment) : Type 0 where
   pub lived : (x : ℕ) (w : Variable) → Γ′ x ≡ live w → (v : Variable) × (Γ x ≡ live v)
   pub taken : (x : ℕ) → Γ x ≡ used → Γ′ x ≡ used
 
+-- What is kept of all but x is as before.
+abbrev pub KeptElse : List ℕ → ℕ → List ℕ → Type 0
+KeptElse kept x kept′ = (y : ℕ) → (y ≡ x → ⊥) → (keptMovedFrom kept′ y ≡ keptMovedFrom kept y) × (keptRoots kept′ y ≡ keptRoots kept y)
+
 -- The words of x put.
 pub record PutKept (kept : List ℕ) (x d : ℕ) (s : Roots) (kept′ : List ℕ) : Type 0 where
   pub here : (keptMovedFrom kept′ x ≡ d) × (keptRoots kept′ x ≡ s)
-  pub there : (y : ℕ) → (y ≡ x → ⊥) → (keptMovedFrom kept′ y ≡ keptMovedFrom kept y) × (keptRoots kept′ y ≡ keptRoots kept y)
+  pub there : KeptElse kept x kept′
 
 -- The number x with what is kept of it: a variable in scope has its links and its level, and the rest is kept.
 abbrev pub restored : List ℕ → List ℕ → ℕ → Slot → Slot
 restored env kept x free = free
 restored env kept x used = used
-restored env kept x (live v) = live (record { chain = v .chain; movedFrom = keptMovedFrom kept x; borrow = endIn env (v .chain) (keptRoots kept x); level = v .level })
-
--- The number x with what is kept of it and what the table has (LANGUAGE 3.31): the earlier link, and the places of both.
-abbrev pub joinedWith : List ℕ → List ℕ → ℕ → Slot → Slot
-joinedWith env kept x free = free
-joinedWith env kept x used = used
-joinedWith env kept x (live v) =
+restored env kept x (live v) =
     live (record {
       chain = v .chain;
-      movedFrom = earlier (keptMovedFrom kept x) (v .movedFrom);
-      borrow = borrowEnd (v .chain) (unite (places (endIn env (v .chain) (keptRoots kept x))) (places (v .borrow)));
+      movedFrom = keptMovedFrom kept x;
+      borrow = endIn env (v .chain) (keptRoots kept x);
       level = v .level;
     })
 
+-- The number x with what is kept of it and what the table has, joined.
+abbrev pub joinedWith : List ℕ → List ℕ → ℕ → Slot → Slot
+joinedWith env kept x s = joinedSlot s (restored env kept x s) s
+
 -- What is kept of y is its state in the table, if it is in scope.
 abbrev pub KeptAs : List ℕ → List ℕ → ℕ → Type 0
-KeptAs kept env y = (v : Variable) → environmentOf env y ≡ live v → (keptMovedFrom kept y ≡ v .movedFrom) × (endIn env (v .chain) (keptRoots kept y) ≡ v .borrow)
+KeptAs kept env y = (v : Variable) → environmentOf env y ≡ live v
+    → (keptMovedFrom kept y ≡ v .movedFrom) × (endIn env (v .chain) (keptRoots kept y) ≡ v .borrow)
 
 -- Only the state of x has become what f says.
 pub record Given (n : ℕ) (env : List ℕ) (x : ℕ) (f : Slot → Slot) (env′ : List ℕ) : Type 0 where
@@ -70,4 +72,4 @@ pub record Given (n : ℕ) (env : List ℕ) (x : ℕ) (f : Slot → Slot) (env�
 pub record Exchanged (n : ℕ) (env kept : List ℕ) (x : ℕ) (env′ kept′ : List ℕ) : Type 0 where
   pub given : Given n env x (restored env kept x) env′
   pub here : KeptAs kept′ env x
-  pub there : (y : ℕ) → (y ≡ x → ⊥) → (keptMovedFrom kept′ y ≡ keptMovedFrom kept y) × (keptRoots kept′ y ≡ keptRoots kept y)
+  pub there : KeptElse kept x kept′

@@ -81,7 +81,8 @@ fn note_exclusive(env: &mut [u64], variables: usize, x: usize, end: BorrowEnd)
     }
 }
 
-// The state that a let, an assign or a choice gives x (LANGUAGE 3.24, 3.25, 3.31).
+// The state that a let, an assign or a choice gives x (LANGUAGE 3.24, 3.25, 3.31), and x noted as a holder of its roots.
+// The status of x, and the note of exclusive borrow links, are left to the caller.
 pub fn store(env: &mut [u64], variables: usize, x: usize, state: VariableState)
     requires { ⌜ (variables * 8 + 16 ≤ length (now env)) × (x < variables) × (variables ≤ 128) × Fits state ⌝ }
     ensures { λ _. ⌜ Stored variables (now (env .entry)) x state (now (env .exit)) ⌝ }

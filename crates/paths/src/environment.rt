@@ -13,15 +13,14 @@ use variables::roots::Roots;
 use variables::roots::is_empty;
 use variables::roots::less;
 use variables::roots::lowest;
-use variables::roots::no_roots;
 use variables::roots::without;
-use variables::table::BorrowEnd;
 use variables::table::FREE;
 use variables::table::LEVEL;
 use variables::table::LIVE;
 use variables::table::STATUS;
 use variables::table::USED;
 use variables::table::borrow_end_of;
+use variables::table::end_roots;
 use variables::table::put_roots;
 use variables::table::put_word;
 use variables::table::roots_at;
@@ -71,12 +70,7 @@ pub fn lives_at(env: &[u64], variables: usize, roots: Roots, level: u64) -> bool
 pub fn recorded_roots(links: u32, roots: Roots) -> Roots
     ensures { λ r. ⌜ ((env : List ℕ) → places (endIn env (chainOf links) roots) ≡ placesIn env (chainOf links) r) ⌝ }
 {
-    let end = borrow_end_of(links, roots);
-    match end {
-        BorrowEnd::None => no_roots(),
-        BorrowEnd::Shared(recorded) => recorded,
-        BorrowEnd::Exclusive(recorded) => recorded,
-    }
+    end_roots(borrow_end_of(links, roots))
 }
 
 // The variables in scope (LANGUAGE 3.8).

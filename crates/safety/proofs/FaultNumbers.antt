@@ -1,4 +1,4 @@
--- The numbers of faults: a run meets none but 60 to 63 (LANGUAGE 5.6).
+-- The numbers of faults: a run comes to none but 60 to 63 (LANGUAGE 5.6).
 use Prim.Native.Nat.{ℕ, zero, suc}
 use mathlib.Core.Bool.{Bool, true, false}
 use mathlib.Core.List.{List, [], _∷_}

@@ -9,6 +9,7 @@ use mathlib.Core.List.{List, [], _∷_}
 use lib.ListN.{length}
 use Rattle.syntax.specs.Script.{Place}
 use Rattle.variables.specs.declared.roots.Roots.{Roots}
+use Rattle.variables.specs.declared.table.BorrowEnd.{BorrowEnd}
 use Rattle.variables.specs.declared.table.BorrowEnd.the-variants as end
 use Rattle.statics.specs.Links.{Link, boxed, shared, exclusive, leadingBoxes}
 use Rattle.statics.specs.Places.{rooted}
@@ -19,7 +20,7 @@ use Rattle.variables.specs.Chains.{linkOf, chainOf}
 use Rattle.variables.specs.Masks.{has}
 use Rattle.variables.specs.Table.{longAt, placesIn, endIn, borrowEndOf, endRoots, asBorrow}
 use Rattle.variables.proofs.ChainLaws.{chain-none, chain-more}
-use Rattle.variables.proofs.MaskLaws.{has-below}
+use Rattle.variables.proofs.MaskLaws.{has-below, in-none}
 use Rattle.statics.proofs.SetLaws.{rooted-in, rooted-out, end-out}
 use Rattle.statics.proofs.RootLaws.{from-out, rooted-places}
 
@@ -153,12 +154,16 @@ module _ (env : List ℕ) (ks : List Link) (s : Roots) where
 
 -- ---- the roots that something records
 
-module _ (ks : List Link) (s : Roots) where
-  pub recorded-none : (r : Roots) → borrowEndOf ks s ≡ end.None → ((x : ℕ) → has r x ≡ false) → (env : List ℕ) → places (endIn env ks s) ≡ placesIn env ks r
-  recorded-none r e h env = ap places (told-none (placesIn env ks s) ks s e) ∙ sym (no-places 128 (has r) (longAt env) (left ks) h)
+-- f gives the places of a set of roots, none of none.
+pub recorded : (f : Roots → List Place) → f (record { low = 0; high = 0 }) ≡ [] → (ks : List Link) (s : Roots) → places (borrowEnd ks (f s)) ≡ f (endRoots (borrowEndOf ks s))
+unfolding borrowEnd borrowEndOf endRoots
+recorded f none [] s = sym none
+recorded f none (boxed ∷ ks) s = recorded f none ks s
+recorded f none (shared ∷ ks) s = refl
+recorded f none (exclusive ∷ ks) s = refl
 
-  pub recorded-shared : (r : Roots) → borrowEndOf ks s ≡ end.Shared r → (env : List ℕ) → places (endIn env ks s) ≡ placesIn env ks r
-  recorded-shared r e env = let k = told-shared (placesIn env ks s) ks s r e in ap places (k .1) ∙ ap (placesIn env ks) (sym (k .0))
-
-  pub recorded-exclusive : (r : Roots) → borrowEndOf ks s ≡ end.Exclusive r → (env : List ℕ) → places (endIn env ks s) ≡ placesIn env ks r
-  recorded-exclusive r e env = let k = told-exclusive (placesIn env ks s) ks s r e in ap places (k .1) ∙ ap (placesIn env ks) (sym (k .0))
+pub recorded-by : (ks : List Link) (s r : Roots) (e : BorrowEnd) → e ≡ borrowEndOf ks s → r ≡ endRoots e → (env : List ℕ) → places (endIn env ks s) ≡ placesIn env ks r
+recorded-by ks s r e told read env =
+    recorded (placesIn env ks) (no-places 128 (has (record { low = 0; high = 0 })) (longAt env) (left ks) in-none) ks s
+    ∙ ap (λ (k : BorrowEnd). placesIn env ks (endRoots k)) (sym told)
+    ∙ ap (placesIn env ks) (sym read)

@@ -141,8 +141,8 @@ pub record HolderNoted (n : ℕ) (env : List ℕ) (x : ℕ) (s : Roots) (env′ 
   pub kept : (r y : ℕ) → r < n → has (holdersAt env r) y ≡ true → has (holdersAt env′ r) y ≡ true
   pub new : (r : ℕ) → r < n → has s r ≡ true → has (holdersAt env′ r) x ≡ true
 
--- After a state of x was stored: it is what the table has of x, all other words but notes are as before, no holder is lost, and x is noted as one
--- wherever it records a root.
+-- After a state of x was stored: it is what the table has of x; the status of x, and all words of others but notes, are as before; no holder is
+-- lost, and x is noted as one wherever it records a root.
 pub record Stored (n : ℕ) (env : List ℕ) (x : ℕ) (v : VariableState) (env′ : List ℕ) : Type 0 where
   pub state : stateAt env′ x ≡ v
   pub entries : (y k : ℕ) → k < 8 → (k ≡ 3 → ⊥) → (k ≡ 7 → ⊥) → (x ≡ y → k ≡ 0) → entryWord env′ y k ≡ entryWord env y k

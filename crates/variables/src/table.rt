@@ -26,7 +26,7 @@ pub enum BorrowEnd {
 }
 
 // The state of a variable (LANGUAGE 3.8). The links from moved_from on are moved away; where nothing is, moved_from is
-// one past the boxes and the borrow link.
+// one past the own positions (3.9).
 pub struct VariableState {
     pub links: u32,
     pub moved_from: u64,
