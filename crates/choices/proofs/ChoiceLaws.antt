@@ -42,7 +42,8 @@ giving-first : (env : List ℕ) (f : ℕ → Slot → Slot) → Giving env f 0 e
 giving-first env f = record { links = λ y. refl; done = λ y l. absurd (omega arith); rest = λ y l. refl }
 
 -- In a round x is given what g says of the table then, which is what f says.
-giving-next : (n : ℕ) (env₀ : List ℕ) (f : ℕ → Slot → Slot) (x : ℕ) (env : List ℕ) (g : Slot → Slot) (env′ : List ℕ) → ((z : Slot) → g z ≡ f x z) → Given n env x g env′ → Giving env₀ f x env → Giving env₀ f (x + 1) env′
+giving-next : (n : ℕ) (env₀ : List ℕ) (f : ℕ → Slot → Slot) (x : ℕ) (env : List ℕ) (g : Slot → Slot) (env′ : List ℕ) → ((z : Slot) → g z ≡ f x z)
+    → Given n env x g env′ → Giving env₀ f x env → Giving env₀ f (x + 1) env′
 giving-next n env₀ f x env g env′ same G E = record {
   links = λ y. G .links y ∙ E .links y;
   done = λ y l. go y l (decLt y x);
@@ -65,7 +66,8 @@ pub record Exchanging (env₀ kept₀ : List ℕ) (x : ℕ) (env kept : List ℕ
 pub exchanging-first : (env kept : List ℕ) → Exchanging env kept 0 env kept
 exchanging-first env kept = record { giving = giving-first env (restored env kept); done = λ y l. absurd (omega arith); rest = λ y l. (refl, refl) }
 
-pub exchanging-next : (n : ℕ) (env₀ kept₀ : List ℕ) (x : ℕ) (env kept env′ kept′ : List ℕ) → Exchanged n env kept x env′ kept′ → Exchanging env₀ kept₀ x env kept → Exchanging env₀ kept₀ (x + 1) env′ kept′
+pub exchanging-next : (n : ℕ) (env₀ kept₀ : List ℕ) (x : ℕ) (env kept env′ kept′ : List ℕ) → Exchanged n env kept x env′ kept′
+    → Exchanging env₀ kept₀ x env kept → Exchanging env₀ kept₀ (x + 1) env′ kept′
 exchanging-next n env₀ kept₀ x env kept env′ kept′ S E = record {
   giving = giving-next n env₀ (restored env₀ kept₀) x env (restored env kept x) env′ same (S .given) (E .giving);
   done = λ y l. go y l (decLt y x);
@@ -96,7 +98,8 @@ Joining env₀ kept x env = Giving env₀ (joinedWith env₀ kept) x env
 pub joining-first : (env kept : List ℕ) → Joining env kept 0 env
 joining-first env kept = giving-first env (joinedWith env kept)
 
-pub joining-next : (n : ℕ) (env₀ kept : List ℕ) (x : ℕ) (env env′ : List ℕ) → Given n env x (joinedWith env kept x) env′ → Joining env₀ kept x env → Joining env₀ kept (x + 1) env′
+pub joining-next : (n : ℕ) (env₀ kept : List ℕ) (x : ℕ) (env env′ : List ℕ) → Given n env x (joinedWith env kept x) env′ → Joining env₀ kept x env
+    → Joining env₀ kept (x + 1) env′
 unfolding borrowOf
 joining-next n env₀ kept x env env′ G E = giving-next n env₀ (joinedWith env₀ kept) x env (joinedWith env kept x) env′ same G E
   where
@@ -125,7 +128,8 @@ dead-same env₀ f count env E stays x dead = go (decLt x count)
 
 -- The borrow end kept of a variable, in a table with the same lengths.
 kept-borrow : (n level : ℕ) (Γ : Environment) → Neat n Γ level → (kept : List ℕ) (count : ℕ) → KeepsAll kept count Γ → (env : List ℕ)
-    → ((y : ℕ) (u : Variable) → Γ y ≡ live u → longAt env y ≡ length (u .chain)) → (x : ℕ) (w : Variable) → Γ x ≡ live w → endIn env (w .chain) (keptRoots kept x) ≡ w .borrow
+    → ((y : ℕ) (u : Variable) → Γ y ≡ live u → longAt env y ≡ length (u .chain)) → (x : ℕ) (w : Variable) → Γ x ≡ live w
+    → endIn env (w .chain) (keptRoots kept x) ≡ w .borrow
 unfolding linksOf
 kept-borrow n level Γ N kept count K env long x w e =
     let b = K x w e .borrow in

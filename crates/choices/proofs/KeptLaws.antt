@@ -31,7 +31,8 @@ use Rattle.variables.proofs.EndRoots.{end-lengths, live-length, end-united}
 -- ---- the value of a choice
 
 pub joins : (first second : Value) (t u : ValueType) (s : Roots) (r : Told) → first ≡ value.Of t → second ≡ value.Of u → t .links ≡ u .links
-    → ((x : ℕ) → has s x ≡ pick (has (t .roots) x) true (has (u .roots) x)) → Answers r (valueOf (λ env. typeOf (chainOf (t .links)) (endIn env (chainOf (t .links)) s))) → Joins first second r
+    → ((x : ℕ) → has s x ≡ pick (has (t .roots) x) true (has (u .roots) x))
+    → Answers r (valueOf (λ env. typeOf (chainOf (t .links)) (endIn env (chainOf (t .links)) s))) → Joins first second r
 unfolding agreeing asValue need _>>=_
 joins first second t u s r e f l h A env i =
     let b : endIn env (chainOf (t .links)) s ≡ borrowEnd (chainOf (t .links)) (unite (places (endIn env (chainOf (t .links)) (t .roots))) (places (endIn env (chainOf (u .links)) (u .roots)))) =
@@ -78,10 +79,12 @@ kept-here kept env x e f v q =
     (e ∙ ap (λ (u : Variable). u .movedFrom) (sym z), ap (endIn env (v .chain)) f ∙ ap (λ (u : Variable). endIn env (u .chain) (rootsAt env x)) z ∙ ap (λ (u : Variable). u .borrow) (sym z))
 
 -- What is kept of y stays where its words do.
-pub kept-there : (kept kept′ env : List ℕ) (y : ℕ) → (keptMovedFrom kept′ y ≡ keptMovedFrom kept y) × (keptRoots kept′ y ≡ keptRoots kept y) → KeptAs kept env y → KeptAs kept′ env y
+pub kept-there : (kept kept′ env : List ℕ) (y : ℕ) → (keptMovedFrom kept′ y ≡ keptMovedFrom kept y) × (keptRoots kept′ y ≡ keptRoots kept y)
+    → KeptAs kept env y → KeptAs kept′ env y
 kept-there kept kept′ env y W K v q = (W .0 ∙ K v q .0, ap (endIn env (v .chain)) (W .1) ∙ K v q .1)
 
-pub keep-next : (kept kept′ env : List ℕ) (x d : ℕ) (s : Roots) → d ≡ entryWord env x 4 → s ≡ rootsAt env x → PutKept kept x d s kept′ → ((y : ℕ) → y < x → KeptAs kept env y)
+pub keep-next : (kept kept′ env : List ℕ) (x d : ℕ) (s : Roots) → d ≡ entryWord env x 4 → s ≡ rootsAt env x → PutKept kept x d s kept′
+    → ((y : ℕ) → y < x → KeptAs kept env y)
     → (y : ℕ) → y < x + 1 → KeptAs kept′ env y
 keep-next kept kept′ env x d s e f P done y l = go (decLt y x)
   where
@@ -90,7 +93,8 @@ keep-next kept kept′ env x d s e f P done y l = go (decLt y x)
     go (no k) = let q : x ≡ y = omega arith in subst (λ (z : ℕ). KeptAs kept′ env z) q (kept-here kept′ env x (P .here .0 ∙ e) (P .here .1 ∙ f))
 
 -- A state whose numbers in scope are kept, all below the count.
-pub keeps-all : (n level : ℕ) (env kept : List ℕ) (count : ℕ) → Neat n (environmentOf env) level → ((x : ℕ) (v : Variable) → environmentOf env x ≡ live v → x < count)
+pub keeps-all : (n level : ℕ) (env kept : List ℕ) (count : ℕ) → Neat n (environmentOf env) level
+    → ((x : ℕ) (v : Variable) → environmentOf env x ≡ live v → x < count)
     → ((y : ℕ) → y < count → KeptAs kept env y) → KeepsAll kept count (environmentOf env)
 keeps-all n level env kept count N low done x v e =
     let l = low x v e in

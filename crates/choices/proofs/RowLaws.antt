@@ -54,7 +54,8 @@ within false b h = go b h
 
 module _ (n : ℕ) (env kept : List ℕ) (x : ℕ) (T : TableFor env n) (d : ℕ) (s : Roots) (e : d ≡ keptMovedFrom kept x) (f : s ≡ keptRoots kept x) where
   -- Nothing is written where both are the same.
-  pub exchanged-same : (w : ℕ) (u : Roots) → w ≡ entryWord env x 4 → u ≡ rootsAt env x → d ≡ w → s .low ≡ u .low → s .high ≡ u .high → Exchanged n env kept x env kept
+  pub exchanged-same : (w : ℕ) (u : Roots) → w ≡ entryWord env x 4 → u ≡ rootsAt env x → d ≡ w → s .low ≡ u .low → s .high ≡ u .high
+      → Exchanged n env kept x env kept
   exchanged-same w u g h m lo hi =
       let moved : keptMovedFrom kept x ≡ entryWord env x 4 = sym e ∙ m ∙ g in
       let both : s ≡ u = ap₂ (λ (l k : ℕ). record { low = l; high = k }) lo hi in
@@ -64,7 +65,8 @@ module _ (n : ℕ) (env kept : List ℕ) (x : ℕ) (T : TableFor env n) (d : ℕ
       record { given = record { state = R .0; table = R .1; links = R .2 }; here = kept-here kept env x moved roots; there = λ y q. (refl, refl) }
 
   -- What the table has stays where it has no less.
-  pub joined-same : (w : ℕ) (a more : Roots) → w ≡ entryWord env x 4 → a ≡ rootsAt env x → w ≤ d → ((y : ℕ) → has more y ≡ pick (has a y) false (has s y)) → isEmpty more ≡ true
+  pub joined-same : (w : ℕ) (a more : Roots) → w ≡ entryWord env x 4 → a ≡ rootsAt env x → w ≤ d
+      → ((y : ℕ) → has more y ≡ pick (has a y) false (has s y)) → isEmpty more ≡ true
       → Given n env x (joinedWith env kept x) env
   unfolding borrowOf
   joined-same w a more g h l m none =
@@ -112,7 +114,8 @@ module _ (n : ℕ) (env kept : List ℕ) (x : ℕ) (T : TableFor env n) (d : ℕ
           (ap₂ (λ (k : ℕ) (t : Roots). live (record { chain = chainOf (linksAt env x); movedFrom = k; borrow = endIn env (chainOf (linksAt env x)) t; level = entryWord env x 5 })) (sym e) (sym f)) in
           record { given = record { state = R .0; table = R .1; links = R .2 }; here = kept-now kept′ P; there = P .there }
 
-      pub joined-put : (k : ℕ) (all : Roots) → ((y : ℕ) → has all y ≡ pick (has s y) true (has old y)) → k ≡ earlier d (v .«moved_from») → r ≡ changedState v k all → Given n env x (joinedWith env kept x) env′
+      pub joined-put : (k : ℕ) (all : Roots) → ((y : ℕ) → has all y ≡ pick (has s y) true (has old y)) → k ≡ earlier d (v .«moved_from»)
+          → r ≡ changedState v k all → Given n env x (joinedWith env kept x) env′
       unfolding borrowOf
       joined-put k all both first made =
           let ks = chainOf (linksAt env x) in

@@ -27,14 +27,16 @@ use Rattle.variables.proofs.WordLaws.{Put, put-at, put-off, roots-same, holders
 use Rattle.notes.proofs.NoteLaws.{noted-as-before}
 
 -- What the words of x say, with the links of the others as another table has them.
-pub state-variable : (env env′ : List ℕ) (x : ℕ) → asVariable env (stateAt env′ x) ≡ variableOf env (linksAt env′ x) (entryWord env′ x 4) (rootsAt env′ x) (entryWord env′ x 5)
+pub state-variable : (env env′ : List ℕ) (x : ℕ)
+    → asVariable env (stateAt env′ x) ≡ variableOf env (linksAt env′ x) (entryWord env′ x 4) (rootsAt env′ x) (entryWord env′ x 5)
 unfolding stateAt
 state-variable env env′ x =
     ap (λ (b : Borrow). record { chain = chainOf (linksAt env′ x); movedFrom = entryWord env′ x 4; borrow = b; level = entryWord env′ x 5 })
     (told-as (placesIn env (chainOf (linksAt env′ x))) (chainOf (linksAt env′ x)) (rootsAt env′ x))
 
 -- The same of a state that was changed.
-changed-variable : (env : List ℕ) (x d : ℕ) (s : Roots) → asVariable env (changedState (stateAt env x) d s) ≡ variableOf env (linksAt env x) d s (entryWord env x 5)
+changed-variable : (env : List ℕ) (x d : ℕ) (s : Roots)
+    → asVariable env (changedState (stateAt env x) d s) ≡ variableOf env (linksAt env x) d s (entryWord env x 5)
 unfolding stateAt changedState
 changed-variable env x d s =
     ap (λ (b : Borrow). record { chain = chainOf (linksAt env x); movedFrom = d; borrow = b; level = entryWord env x 5 })
@@ -123,7 +125,8 @@ module _ (env : List ℕ) (n x : ℕ) (T : TableFor env n) (inside : x < n) wher
     given f none taken there = changed env′ same (S .entries) given-links (S .notes) (S .kept) (λ r l a h. S .new r l h) f none taken (there ∙ ap live (sym given-variable))
 
   -- The roots of the end that was loaded stand for the places that the table's do.
-  pub loaded-end : (v : VariableState) → v ≡ stateAt env x → (old : Roots) → old ≡ endRoots (v .«borrow_end») → endIn env (chainOf (linksAt env x)) old ≡ endIn env (chainOf (linksAt env x)) (rootsAt env x)
+  pub loaded-end : (v : VariableState) → v ≡ stateAt env x → (old : Roots) → old ≡ endRoots (v .«borrow_end»)
+      → endIn env (chainOf (linksAt env x)) old ≡ endIn env (chainOf (linksAt env x)) (rootsAt env x)
   unfolding stateAt
   loaded-end v loaded old read =
       let ks = chainOf (linksAt env x) in
@@ -156,7 +159,8 @@ unfolding changedState
 changed-fits r v d s made = subst Fits (sym made) (end-fits (chainOf (v .links)) s)
 
 -- Nothing is stored where x has the state already.
-pub unchanged : (env : List ℕ) (n x : ℕ) → TableFor env n → (f : Slot → Slot) → f free ≡ free → f used ≡ used → f (live (variableAt env x)) ≡ live (variableAt env x)
+pub unchanged : (env : List ℕ) (n x : ℕ) → TableFor env n → (f : Slot → Slot) → f free ≡ free → f used ≡ used
+    → f (live (variableAt env x)) ≡ live (variableAt env x)
     → (environmentOf env ≡ update (environmentOf env) x (f (environmentOf env x))) × TableFor env n × SameLinks env env
 unfolding environmentOf
 unchanged env n x T f none taken there =

@@ -13,7 +13,8 @@ use Rattle.variables.proofs.WordLaws.{Put, put-at, put-off, PutSet, set-off, ro
 
 module _ (n : ℕ) (env env₁ env₂ env₃ env₄ env₅ : List ℕ) (x : ℕ) (v : VariableState) (s : Roots) (small : v .links < 4294967296) (fits : Fits v) (read : s ≡ endRoots (v .«borrow_end»))
     (a : Put env x 1 (v .links) env₁) (b : Put env₁ x 4 (v .«moved_from») env₂) (c : Put env₂ x 5 (v .level) env₃) (d : PutSet env₃ x 2 s env₄) (H : HolderNoted n env₄ x s env₅) where
-  off : (y j : ℕ) → j < 8 → (x ≡ y → 1 ≡ j → ⊥) → (x ≡ y → 4 ≡ j → ⊥) → (x ≡ y → 5 ≡ j → ⊥) → (x ≡ y → 2 ≡ j → ⊥) → (x ≡ y → 6 ≡ j → ⊥) → entryWord env₄ y j ≡ entryWord env y j
+  off : (y j : ℕ) → j < 8 → (x ≡ y → 1 ≡ j → ⊥) → (x ≡ y → 4 ≡ j → ⊥) → (x ≡ y → 5 ≡ j → ⊥) → (x ≡ y → 2 ≡ j → ⊥) → (x ≡ y → 6 ≡ j → ⊥)
+      → entryWord env₄ y j ≡ entryWord env y j
   off y j l n₁ n₄ n₅ n₂ n₆ =
       set-off env₃ env₄ x 2 s d y j l n₂ n₆
       ∙ put-off env₂ env₃ x 5 (v .level) c y j l n₅

@@ -39,7 +39,8 @@ module _ (env : List ℕ) (n : ℕ) (T : NeatTable env n) (x : ℕ) (is : enviro
   whole = valueWhole n (environmentOf env) x (variableAt env x)
 
   -- Whole is every variable met on the way to the end of the links.
-  whole-met : (f : ℕ → Bool) → MetFrom (environmentOf env) 0 x f → whole ≡ every (passes true (environmentOf env)) (placesOf n f (lengths (environmentOf env)) 0)
+  whole-met : (f : ℕ → Bool) → MetFrom (environmentOf env) 0 x f
+      → whole ≡ every (passes true (environmentOf env)) (placesOf n f (lengths (environmentOf env)) 0)
   unfolding passesSlot
   whole-met f F =
       let z : longAt env x - longAt env x ≡ 0 = omega arith in
@@ -48,7 +49,8 @@ module _ (env : List ℕ) (n : ℕ) (T : NeatTable env n) (x : ℕ) (is : enviro
       W ∙ ap (λ (k : ℕ). every (λ q. wholeSlot (environmentOf env (q .root))) (placesOf n f (lengths (environmentOf env)) k)) z
 
   -- So it is what the search says that asks each variable for all of it.
-  pub whole-found : (r : Ends) → Searched n (environmentOf env) x 0 true r → (r ≡ ends.Own → true ≡ whole) × ((s : Roots) → r ≡ ends.At s → true ≡ whole) × (r ≡ ends.MovedAway → false ≡ whole)
+  pub whole-found : (r : Ends) → Searched n (environmentOf env) x 0 true r
+      → (r ≡ ends.Own → true ≡ whole) × ((s : Roots) → r ≡ ends.At s → true ≡ whole) × (r ≡ ends.MovedAway → false ≡ whole)
   whole-found r S = (λ e. sym (whole-met (S .met) (S .is) ∙ S .own e .0), λ s e. sym (whole-met (S .met) (S .is) ∙ S .passed s e), λ e. sym (whole-met (S .met) (S .is) ∙ S .moved e))
 
   -- Without a search: something of the variable itself is moved away, or nothing is and it has no borrow link.
@@ -86,7 +88,8 @@ module _ (env : List ℕ) (n : ℕ) (T : NeatTable env n) (x : ℕ) (is : enviro
     whole-loaded h none = whole-there (omega (arith, boxes-are, moved-is)) (none-boxed (chainOf (linksAt env x)) (rootsAt env x) (sym end-is ∙ none))
 
     -- With a borrow link the search goes on from there.
-    pub linked-loaded : boxes < v .«moved_from» → OneOf (1 ∷ 2 ∷ []) (tagOf the-type (v .«borrow_end»)) → Passed true (variableAt env x) (longAt env x - 0) step.Through
+    pub linked-loaded : boxes < v .«moved_from» → OneOf (1 ∷ 2 ∷ []) (tagOf the-type (v .«borrow_end»))
+        → Passed true (variableAt env x) (longAt env x - 0) step.Through
     linked-loaded h some =
         whole-through env x (omega (arith, boxes-are, moved-is))
         (λ z. let t : tagOf the-type (v .«borrow_end») ≡ 0 = ap (tagOf the-type) (end-is ∙ boxed-none (chainOf (linksAt env x)) (rootsAt env x) z) in ⊎-elim (λ k. omega arith) (λ k. omega arith) some)
