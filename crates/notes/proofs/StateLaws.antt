@@ -19,7 +19,7 @@ use Rattle.variables.specs.Chains.{chainOf}
 use Rattle.variables.specs.Masks.{has}
 use Rattle.variables.specs.Table.{entryWord, linksAt, longAt, rootsAt, holdersAt, noteAt, placesIn, endIn, variableOf, variableAt, slotAs, environmentOf, stateAt, endRoots, entryAt, asVariable, Fits, changedState, TableFor, Stored, SameLinks}
 use Rattle.statics.proofs.RootLaws.{or}
-use Rattle.variables.proofs.EndLaws.{told-as, end-fits, end-own}
+use Rattle.variables.proofs.EndLaws.{told-variable, end-fits, end-own}
 use Rattle.variables.proofs.EndRoots.{end-united}
 use Rattle.variables.proofs.EntryLaws.{NotLive, not-live}
 use Rattle.variables.proofs.TableLaws.{SameEntry, kept-end}
@@ -30,17 +30,13 @@ use Rattle.notes.proofs.NoteLaws.{noted-as-before}
 pub state-variable : (env env′ : List ℕ) (x : ℕ)
     → asVariable env (stateAt env′ x) ≡ variableOf env (linksAt env′ x) (entryWord env′ x 4) (rootsAt env′ x) (entryWord env′ x 5)
 unfolding stateAt
-state-variable env env′ x =
-    ap (λ (b : Borrow). record { chain = chainOf (linksAt env′ x); movedFrom = entryWord env′ x 4; borrow = b; level = entryWord env′ x 5 })
-    (told-as (placesIn env (chainOf (linksAt env′ x))) (chainOf (linksAt env′ x)) (rootsAt env′ x))
+state-variable env env′ x = told-variable env (linksAt env′ x) (entryWord env′ x 4) (rootsAt env′ x) (entryWord env′ x 5)
 
 -- The same of a state that was changed.
 changed-variable : (env : List ℕ) (x d : ℕ) (s : Roots)
     → asVariable env (changedState (stateAt env x) d s) ≡ variableOf env (linksAt env x) d s (entryWord env x 5)
 unfolding stateAt changedState
-changed-variable env x d s =
-    ap (λ (b : Borrow). record { chain = chainOf (linksAt env x); movedFrom = d; borrow = b; level = entryWord env x 5 })
-    (told-as (placesIn env (chainOf (linksAt env x))) (chainOf (linksAt env x)) s)
+changed-variable env x d s = told-variable env (linksAt env x) d s (entryWord env x 5)
 
 module _ (env : List ℕ) (n x : ℕ) (T : TableFor env n) (inside : x < n) where
   -- The words of x may change but for its status, and who may hold a borrow of a root that it records is noted.
@@ -79,7 +75,12 @@ module _ (env : List ℕ) (n x : ℕ) (T : TableFor env n) (inside : x < n) wher
       changed =
           let at-next = notes (suc n) (omega arith) in (
             changed-environment,
-            (same ∙ T .0, T .1, noted-as-before env n x (T .2) inside env′ others links (ap (leb 2) status) kept (λ r l a h. own r l (subst (λ (k : ℕ). 2 ≤ k) status a) h) (omega arith) (omega (arith, T .2 .most)) (λ h. status ∙ T .2 .untaken x (omega arith))),
+            (
+              same ∙ T .0,
+              T .1,
+              noted-as-before env n x (T .2) inside env′ others links (ap (leb 2) status) kept (λ r l a h. own r l (subst (λ (k : ℕ). 2 ≤ k) status a) h)
+                  (omega arith) (omega (arith, T .2 .most)) (λ h. status ∙ T .2 .untaken x (omega arith)),
+            ),
             same-links,
           )
 
@@ -88,8 +89,8 @@ module _ (env : List ℕ) (n x : ℕ) (T : TableFor env n) (inside : x < n) wher
   moved-away k env₁ same put =
       changed env₁ same (λ y j l a b c. off y j l (λ p. omega (arith, c p))) (links x)
       (λ y l. word y 7 (omega arith) (λ q. omega arith))
-      (λ r y l h. ap (λ (s : Roots). has s y) (holders-same env env₁ r (word r 3 (omega arith) (λ q. omega arith)) (word r 7 (omega arith) (λ q. omega arith))) ∙ h)
-      (λ r l a h. ap (λ (s : Roots). has s x) (holders-same env env₁ r (word r 3 (omega arith) (λ q. omega arith)) (word r 7 (omega arith) (λ q. omega arith))) ∙ T .2 .held x r inside l a (ap (λ (s : Roots). has s r) (sym roots) ∙ h))
+      (λ r y l h. ap (λ (s : Roots). has s y) (holders r) ∙ h)
+      (λ r l a h. ap (λ (s : Roots). has s x) (holders r) ∙ T .2 .held x r inside l a (ap (λ (s : Roots). has s r) (sym roots) ∙ h))
       (λ (z : Slot). movedAwayAt z k) refl refl (ap live (sym variable))
     where
       off : (y j : ℕ) → j < 8 → (x ≡ y → 4 ≡ j → ⊥) → entryWord env₁ y j ≡ entryWord env y j
@@ -97,6 +98,9 @@ module _ (env : List ℕ) (n x : ℕ) (T : TableFor env n) (inside : x < n) wher
 
       word : (y j : ℕ) → j < 8 → (4 ≡ j → ⊥) → entryWord env₁ y j ≡ entryWord env y j
       word y j l q = off y j l (λ p. q)
+
+      holders : (r : ℕ) → holdersAt env₁ r ≡ holdersAt env r
+      holders r = holders-same env env₁ r (word r 3 (omega arith) (λ q. omega arith)) (word r 7 (omega arith) (λ q. omega arith))
 
       links : SameLinks env env₁
       links y = links-same env env₁ y (word y 1 (omega arith) (λ q. omega arith))
@@ -115,7 +119,9 @@ module _ (env : List ℕ) (n x : ℕ) (T : TableFor env n) (inside : x < n) wher
 
     given-variable : variableAt env′ x ≡ variableOf env (linksAt env x) d s (entryWord env x 5)
     given-variable =
-        ap (λ (b : Borrow). record { chain = chainOf (linksAt env′ x); movedFrom = entryWord env′ x 4; borrow = b; level = entryWord env′ x 5 }) (kept-end env env′ (same-links env′ same (S .entries) given-links (S .notes) (S .kept) (λ r l a h. S .new r l h)) (chainOf (linksAt env′ x)) (rootsAt env′ x))
+        let L = same-links env′ same (S .entries) given-links (S .notes) (S .kept) (λ r l a h. S .new r l h) in
+        ap (λ (b : Borrow). record { chain = chainOf (linksAt env′ x); movedFrom = entryWord env′ x 4; borrow = b; level = entryWord env′ x 5 })
+        (kept-end env env′ L (chainOf (linksAt env′ x)) (rootsAt env′ x))
         ∙ sym (state-variable env env′ x)
         ∙ ap (asVariable env) (S .state)
         ∙ changed-variable env x d s
@@ -132,7 +138,8 @@ module _ (env : List ℕ) (n x : ℕ) (T : TableFor env n) (inside : x < n) wher
       let ks = chainOf (linksAt env x) in
       ap (endIn env ks) (read ∙ ap (λ (w : VariableState). endRoots (w .«borrow_end»)) loaded) ∙ end-own (placesIn env ks) ks (rootsAt env x)
 
-  module _ (v r : VariableState) (loaded : v ≡ stateAt env x) (d : ℕ) (s : Roots) (made : r ≡ changedState v d s) (env′ : List ℕ) (same : length env′ ≡ length env) (S : Stored n env x r env′) where
+  module _ (v r : VariableState) (loaded : v ≡ stateAt env x) (d : ℕ) (s : Roots) (made : r ≡ changedState v d s)
+      (env′ : List ℕ) (same : length env′ ≡ length env) (S : Stored n env x r env′) where
     -- The state that is stored, from the words of the table.
     pub stored-as : (k : ℕ) → d ≡ k → Stored n env x (changedState (stateAt env x) k s) env′
     stored-as k e = subst (λ (w : VariableState). Stored n env x w env′) (made ∙ ap₂ (λ (w : VariableState) (j : ℕ). changedState w j s) loaded e) S
@@ -142,14 +149,16 @@ module _ (env : List ℕ) (n x : ℕ) (T : TableFor env n) (inside : x < n) wher
     unfolding stateAt
     refilled-by whole =
         let k = suc (leadingBoxes (chainOf (linksAt env x))) in
-        given k s env′ same (stored-as k (whole ∙ ap (λ (w : VariableState). suc (leadingBoxes (chainOf (w .links)))) loaded)) (λ (z : Slot). refilled z (endIn env (chainOf (linksAt env x)) s)) refl refl refl
+        given k s env′ same (stored-as k (whole ∙ ap (λ (w : VariableState). suc (leadingBoxes (chainOf (w .links)))) loaded))
+        (λ (z : Slot). refilled z (endIn env (chainOf (linksAt env x)) s)) refl refl refl
 
     pub widened-by : (old more : Roots) → old ≡ endRoots (v .«borrow_end») → ((y : ℕ) → has s y ≡ or (has old y) (has more y)) → d ≡ v .«moved_from»
         → (environmentOf env′ ≡ update (environmentOf env) x (widened (environmentOf env x) (endIn env (chainOf (linksAt env x)) more))) × TableFor env′ n × SameLinks env env′
     unfolding stateAt
     widened-by old more read either stays =
         let ks = chainOf (linksAt env x) in
-        given (entryWord env x 4) s env′ same (stored-as (entryWord env x 4) (stays ∙ ap (λ (w : VariableState). w .«moved_from») loaded)) (λ (z : Slot). widened z (endIn env ks more)) refl refl
+        given (entryWord env x 4) s env′ same (stored-as (entryWord env x 4) (stays ∙ ap (λ (w : VariableState). w .«moved_from») loaded))
+        (λ (z : Slot). widened z (endIn env ks more)) refl refl
         (ap (λ (b : Borrow). live (record { chain = ks; movedFrom = entryWord env x 4; borrow = b; level = entryWord env x 5 }))
         (sym (end-united ks (longAt env) (left ks) old more s either ∙ ap (λ (b : Borrow). borrowEnd ks (unite (places b) (places (endIn env ks more)))) (loaded-end v loaded old read))))
 

@@ -26,7 +26,7 @@ use Rattle.statics.specs.Roots.{lengths, placeAt, placesFrom, placesOf, left}
 use Rattle.variables.specs.Masks.{has}
 use Rattle.variables.specs.Chains.{chainOf}
 use Rattle.paths.specs.Steps.{BorrowedAt}
-use Rattle.variables.specs.Table.{linksAt, longAt, rootsAt, placesIn, endIn, variableAt, environmentOf, borrowEndOf, asBorrow, asVariable, Fits, Unrecorded, SameLinks}
+use Rattle.variables.specs.Table.{linksAt, longAt, rootsAt, placesIn, endIn, variableAt, environmentOf, borrowEndOf, asVariable, Fits, Unrecorded, SameLinks}
 use Rattle.variables.specs.Verdicts.{typeOf, asValue, answeredAs, RootsIn}
 use Rattle.statics.proofs.Slots.{used≢live}
 use Rattle.statics.proofs.LinkChains.{boxes-drop, same-behind, same-end}
@@ -38,7 +38,7 @@ use Rattle.statics.proofs.RootLaws.{from-out, from-in}
 use Rattle.statics.proofs.RootSets.{from-ordered}
 use Rattle.variables.proofs.EntryLaws.{live-status}
 use Rattle.variables.proofs.TableLaws.{kept-end}
-use Rattle.variables.proofs.EndLaws.{told-as, end-fits, no-places, linked-places}
+use Rattle.variables.proofs.EndLaws.{told-variable, end-fits, no-places, linked-places}
 
 -- ---- ends
 
@@ -118,18 +118,17 @@ module _ (env : List ℕ) (t : ValueType) (d level : ℕ) (e : BorrowEnd) (whole
   pub let-fits : Fits given
   let-fits = rw told (end-fits (chainOf (t .links)) (t .roots))
 
-  let-borrow : asBorrow (placesIn env (chainOf (t .links))) e ≡ endIn env (chainOf (t .links)) (t .roots)
-  let-borrow = ap (asBorrow (placesIn env (chainOf (t .links)))) told ∙ told-as (placesIn env (chainOf (t .links))) (chainOf (t .links)) (t .roots)
-
   let-variable : asVariable env given ≡ fresh (chainOf (t .links)) (endIn env (chainOf (t .links)) (t .roots)) level
-  let-variable = ap₂ (λ (k : ℕ) (b : Borrow). record { chain = chainOf (t .links); movedFrom = k; borrow = b; level = level }) whole let-borrow
+  let-variable =
+      ap₂ (λ (k : ℕ) (b : BorrowEnd). asVariable env (record { links = t .links; «moved_from» = k; «borrow_end» = b; level = level })) whole told
+      ∙ told-variable env (t .links) (suc (leadingBoxes (chainOf (t .links)))) (t .roots) level
 
   -- A number that is taken is recorded nowhere, nor by the value.
   pub unrecorded : (nv at x : ℕ) (v : Value) → Neat nv (environmentOf env) at → environmentOf env x ≡ used → v ≡ value.Of t → NeatValue (environmentOf env) level (asValue env v) → Unrecorded env x (asVariable env given .borrow)
   unfolding asValue borrowOf rooted someOf
   unrecorded nv at x v N u o W = (
     λ y. go y (environmentOf env y) refl,
-    ap (λ (b : Borrow). rooted (places b) x) let-borrow
+    ap (λ (w : Variable). rooted (places (w .borrow)) x) let-variable
         ∙ unrecorded-in (environmentOf env) (chainOf (t .links)) level (endIn env (chainOf (t .links)) (t .roots)) x (W (typeOf (chainOf (t .links)) (endIn env (chainOf (t .links)) (t .roots))) (ap (asValue env) o)) u,
   )
     where

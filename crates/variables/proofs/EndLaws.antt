@@ -13,12 +13,12 @@ use Rattle.variables.specs.declared.table.BorrowEnd.{BorrowEnd}
 use Rattle.variables.specs.declared.table.BorrowEnd.the-variants as end
 use Rattle.statics.specs.Links.{Link, boxed, shared, exclusive, leadingBoxes}
 use Rattle.statics.specs.Places.{rooted}
-use Rattle.statics.specs.Environment.{noBorrow, sharedOf, exclusiveOf, places, borrowEnd}
+use Rattle.statics.specs.Environment.{Borrow, noBorrow, sharedOf, exclusiveOf, places, borrowEnd}
 use Rattle.statics.specs.Neat.{Among}
 use Rattle.statics.specs.Roots.{placesFrom, placesOf, left}
 use Rattle.variables.specs.Chains.{linkOf, chainOf}
 use Rattle.variables.specs.Masks.{has}
-use Rattle.variables.specs.Table.{longAt, placesIn, endIn, borrowEndOf, endRoots, asBorrow}
+use Rattle.variables.specs.Table.{longAt, placesIn, endIn, variableOf, borrowEndOf, endRoots, asBorrow, asVariable}
 use Rattle.variables.proofs.ChainLaws.{chain-none, chain-more}
 use Rattle.variables.proofs.MaskLaws.{has-below, in-none}
 use Rattle.statics.proofs.SetLaws.{rooted-in, rooted-out, end-out}
@@ -86,6 +86,12 @@ told-as f [] s = refl
 told-as f (boxed ∷ ks) s = told-as f ks s
 told-as f (shared ∷ ks) s = refl
 told-as f (exclusive ∷ ks) s = refl
+
+-- A state whose end is that of its links, in the rules' terms.
+pub told-variable : (env : List ℕ) (links d : ℕ) (s : Roots) (level : ℕ)
+    → asVariable env (record { links = links; «moved_from» = d; «borrow_end» = borrowEndOf (chainOf links) s; level = level }) ≡ variableOf env links d s level
+told-variable env links d s level =
+    ap (λ (b : Borrow). record { chain = chainOf links; movedFrom = d; borrow = b; level = level }) (told-as (placesIn env (chainOf links)) (chainOf links) s)
 
 -- Without a borrow link all links are boxes.
 pub none-boxed : (ks : List Link) (s : Roots) → borrowEndOf ks s ≡ end.None → length ks ≡ leadingBoxes ks
