@@ -16,7 +16,7 @@ use variables::table::{BorrowEnd, Entry, holders_at, load, roots_at};
 
 // The terms that have not finished (LANGUAGE 3.34): those at row `from` and after it, and terms around them, which name
 // the variables `named`.
-#[derive(Drop)]
+#[derive(Clone, Copy)]
 pub struct Later {
     pub from: usize,
     pub named: Roots,
@@ -62,7 +62,7 @@ fn held_by(env: &[u64], variables: usize, x: usize, any: bool) -> Roots
 
 // Variables that may lead to a root: some that record a place with that root, all that record a place with one of these,
 // and so on; and those of them that are named by a term that has not finished.
-#[derive(Drop)]
+#[derive(Clone, Copy)]
 struct Leading {
     all: Roots,
     named: Roots,

@@ -18,7 +18,7 @@ use reader::{Outcome, ReadOutcome};
 use room::{Called, RunOutcome};
 
 #[repr(C)]
-#[derive(Drop)]
+#[derive(Clone, Copy)]
 pub struct Script {
     pub number: u32,
     pub place: u64,
@@ -46,7 +46,7 @@ pub fn c_script(read: ReadOutcome) -> Script
 }
 
 #[repr(C)]
-#[derive(Drop)]
+#[derive(Clone, Copy)]
 pub struct Terms {
     pub number: u32,
     pub place: u64,
@@ -88,7 +88,7 @@ pub fn c_checked(checked: Checked) -> Terms
 }
 
 #[repr(C)]
-#[derive(Drop)]
+#[derive(Clone, Copy)]
 pub struct Bytes {
     pub number: u32,
     pub place: u64,
@@ -114,7 +114,7 @@ pub fn c_bytes(written: Outcome) -> Bytes
 
 // number is never that of a fault (LANGUAGE 7.4).
 #[repr(C)]
-#[derive(Drop)]
+#[derive(Clone, Copy)]
 pub struct Run {
     pub number: u32,
     pub place: u64,
@@ -143,7 +143,7 @@ pub fn c_ran(ran: RunOutcome) -> Run
 
 // fault is 1 where number and place are those of a fault: the run began, and the store is as it left it. Else it is 0.
 #[repr(C)]
-#[derive(Drop)]
+#[derive(Clone, Copy)]
 pub struct RunUnchecked {
     pub number: u32,
     pub place: u64,
@@ -182,7 +182,7 @@ pub fn c_unchecked(ran: UncheckedOutcome) -> RunUnchecked
 
 // number is never that of a fault (LANGUAGE 7.4).
 #[repr(C)]
-#[derive(Drop)]
+#[derive(Clone, Copy)]
 pub struct Call {
     pub number: u32,
     pub place: u64,

@@ -19,7 +19,7 @@ const SHORT: usize = 512;
 const LONG: usize = limits::MOST_TERMS as usize;
 
 // The answer (LANGUAGE 4.20) and the cells taken (4.22); or a refusal and its place; or a fault and its term (5.2).
-#[derive(Drop)]
+#[derive(Clone, Copy)]
 pub enum UncheckedOutcome {
     Answered(i32, usize),
     Refused(u32, usize),

@@ -10,7 +10,7 @@ use script_judge::tables::judge_alone;
 use syntax::limits::Limits;
 
 // The number of terms, or the refusal's number and place (LANGUAGE 5.2): the row (12 to 19) or the term (30 to 43).
-#[derive(Drop)]
+#[derive(Clone, Copy)]
 pub enum Checked {
     Accepted(usize),
     Refused(u32, usize),

@@ -16,7 +16,7 @@ use variables::table::{BorrowEnd, Entry, MOVED_FROM, links_at, load, roots_at, w
 
 // Where a place leads: to an own link of its root, the common case, for which no set is made; to own links of these
 // variables; or something on the way is moved away (33).
-#[derive(Drop)]
+#[derive(Clone, Copy)]
 pub enum Ends {
     Own,
     At(Roots),
@@ -24,7 +24,7 @@ pub enum Ends {
 }
 
 // One variable on the way: it does not pass (33), following ends at its own link, or goes on from the places it records.
-#[derive(Drop)]
+#[derive(Clone, Copy)]
 pub enum Step {
     Here,
     Through,

@@ -14,7 +14,7 @@ use syntax::{kinds, limits, packed};
 use writer::output;
 
 // A count (of the terms or the bytes of a script), or the refusal's number and place (LANGUAGE 5.2).
-#[derive(Drop)]
+#[derive(Clone, Copy)]
 pub enum Outcome {
     Count(usize),
     Refused(u32, usize),
@@ -22,7 +22,7 @@ pub enum Outcome {
 
 // What reading tells: the version and the number of terms of a script, or the refusal's number and place
 // (LANGUAGE 5.2).
-#[derive(Drop)]
+#[derive(Clone, Copy)]
 pub enum ReadOutcome {
     Script(u32, usize),
     Refused(u32, usize),

@@ -14,14 +14,14 @@ use syntax::limits::Limits;
 use syntax::{kinds, limits};
 
 // The answer and the cells taken; or the refusal's number and place (LANGUAGE 6.6).
-#[derive(Drop)]
+#[derive(Clone, Copy)]
 pub enum RunOutcome {
     Answered(i32, usize),
     Refused(u32, usize),
 }
 
 // The terms, the answer and the cells taken; or the refusal's number and place (LANGUAGE 6.8).
-#[derive(Drop)]
+#[derive(Clone, Copy)]
 pub enum Called {
     Answered(usize, i32, usize),
     Refused(u32, usize),

@@ -30,21 +30,21 @@ use variables::verdicts::{Told, Value, fine, longer_value, number_value, refused
 // The place leads to an own link of its root, with these links after the follows; or beyond a borrow link: the links of
 // the root, those of them after the follows, and the variables to whose own links the place may lead (LANGUAGE 3.13);
 // or the refusal.
-#[derive(Drop)]
+#[derive(Clone, Copy)]
 pub enum Located {
     Own(u32),
     At(u32, u32, Roots),
     Refused(u32),
 }
 
-#[derive(Drop)]
+#[derive(Clone, Copy)]
 pub enum Requirement {
     Met,
     Refused(u32, usize),
 }
 
 // The links after a place that is named rightly (31, 32), or that may be read; or the refusal.
-#[derive(Drop)]
+#[derive(Clone, Copy)]
 pub enum Readable {
     Rest(u32),
     Refused(u32),

@@ -15,7 +15,7 @@ use syntax::{kinds, limits, packed};
 use term_reader::terms::read_block;
 
 // The lent bytes of a script, and the next offset.
-#[derive(Drop)]
+#[derive(Clone, Copy)]
 pub struct Reader<'a> {
     script: &'a [u8],
     at: usize,

@@ -9,14 +9,14 @@ use crate::store::load;
 use syntax::limits;
 
 // A row, or a fault: 0 for none.
-#[derive(Drop)]
+#[derive(Clone, Copy)]
 pub struct Found {
     pub fault: u32,
     pub row: usize,
 }
 
 // A value, or a fault: 0 for none.
-#[derive(Drop)]
+#[derive(Clone, Copy)]
 pub struct Gave {
     pub fault: u32,
     pub kind: u32,

@@ -5,7 +5,7 @@ ghost use Rattle.syntax.specs.Layout.{zeros};
 ghost use Rattle.store.specs.Words.{Tidy, IsRow, Loaded, Written};
 
 // A row: its state (LANGUAGE 4.2), and the value that it holds (4.3).
-#[derive(Drop)]
+#[derive(Clone, Copy)]
 pub struct Entry {
     pub state: u32,
     pub kind: u32,

@@ -4,7 +4,7 @@ ghost use Rattle.syntax.specs.ByteParts.{word_at};
 ghost use Rattle.syntax.specs.RowParts.{field_at};
 
 // The bytes up to the end of a term's operands, counted from its kind byte, or the refusal.
-#[derive(Drop)]
+#[derive(Clone, Copy)]
 pub enum Fields {
     Fine(usize),
     Refused(u32, usize),

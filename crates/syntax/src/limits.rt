@@ -5,7 +5,7 @@ ghost use Rattle.syntax.specs.Limits.{in_ranges, row_numbers, store_numbers, unp
 
 // The set that the caller hands in: the most terms, variables, boxes and levels of a script (LANGUAGE 2.8).
 #[repr(C)]
-#[derive(Drop)]
+#[derive(Clone, Copy)]
 pub struct Limits {
     pub terms: u32,
     pub variables: u32,

@@ -30,7 +30,7 @@ use variables::table::Place;
 use variables::verdicts::{Told, Value, Verdict, number_value, verdict_of};
 
 // What judging told, and the row after the term; after a refusal, the term that is refused (LANGUAGE 3.17).
-#[derive(Drop)]
+#[derive(Clone, Copy)]
 pub struct JudgedTerm {
     pub next: usize,
     pub told: Told,

@@ -14,7 +14,7 @@ use syntax::limits;
 
 // Where a run stands after a term: the fault, 0 for none, and its term (LANGUAGE 4.5); the term's value; the cells
 // taken (4.13), the variables opened (4.18), and the row of the next term.
-#[derive(Drop)]
+#[derive(Clone, Copy)]
 pub struct Standing {
     pub fault: u32,
     pub term: usize,

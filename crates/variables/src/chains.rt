@@ -65,7 +65,7 @@ fn without_first(links: u32) -> u32
 }
 
 // The chain from some link on, or no such link.
-#[derive(Drop)]
+#[derive(Clone, Copy)]
 pub enum Rest {
     Links(u32),
     TooShort,
@@ -107,7 +107,7 @@ pub fn no_shared(links: u32, k: usize) -> bool
 }
 
 // The last shared link that is passed: after so many links, if there is one.
-#[derive(Drop)]
+#[derive(Clone, Copy)]
 pub enum SharedPassed {
     After(usize),
     None,

@@ -4,7 +4,7 @@ ghost use Rattle.std.specs.Prelude.{◌≡◌, true, false, ℕ, ◌<◌, eqb};
 ghost use Rattle.syntax.specs.Result.{pick};
 ghost use Rattle.variables.specs.Masks.{has, is_empty};
 
-#[derive(Drop)]
+#[derive(Clone, Copy)]
 pub struct Roots {
     pub low: u64,
     pub high: u64,

@@ -9,7 +9,7 @@ use crate::chains::{BOX, SHARED, leading_boxes};
 use crate::roots::Roots;
 
 // A place (LANGUAGE 2.5).
-#[derive(Drop)]
+#[derive(Clone, Copy)]
 pub struct Place {
     pub root: u32,
     pub follows: u32,
@@ -17,7 +17,7 @@ pub struct Place {
 
 // The borrow end: the roots of the places that the first borrow link stands for (LANGUAGE 3.3). There is at most one
 // place for each root, and its follows come from the lengths of the chains.
-#[derive(Drop)]
+#[derive(Clone, Copy)]
 pub enum BorrowEnd {
     None,
     Shared(Roots),
@@ -26,7 +26,7 @@ pub enum BorrowEnd {
 
 // The state of a variable (LANGUAGE 3.8). The links from moved_from on are moved away; where nothing is, moved_from is
 // one past the own positions (3.9).
-#[derive(Drop)]
+#[derive(Clone, Copy)]
 pub struct VariableState {
     pub links: u32,
     pub moved_from: u64,
@@ -35,7 +35,7 @@ pub struct VariableState {
 }
 
 // A number (LANGUAGE 3.6): free; taken, and not in scope; or in scope.
-#[derive(Drop)]
+#[derive(Clone, Copy)]
 pub enum Entry {
     Free,
     Used,

@@ -11,21 +11,21 @@ use crate::refusals;
 use crate::roots::{Roots, no_roots};
 
 // The roots are those of the places that the first borrow link stands for; without one they say nothing.
-#[derive(Drop)]
+#[derive(Clone, Copy)]
 pub struct ValueType {
     pub links: u32,
     pub roots: Roots,
 }
 
 // A let and an assign have no value (LANGUAGE 3.4).
-#[derive(Drop)]
+#[derive(Clone, Copy)]
 pub enum Value {
     None,
     Of(ValueType),
 }
 
 // The term that is refused is not told: whoever asks knows it.
-#[derive(Drop)]
+#[derive(Clone, Copy)]
 pub enum Verdict {
     Fine(Value),
     Refused(u32),
@@ -33,7 +33,7 @@ pub enum Verdict {
 
 // A verdict in three words: an enum of this size would go through memory in pieces at every term. The code is 0 where
 // there is no value, one more than the links of a value, and from REFUSED on the number of a refusal.
-#[derive(Drop)]
+#[derive(Clone, Copy)]
 pub struct Told {
     pub code: u64,
     pub roots: Roots,
