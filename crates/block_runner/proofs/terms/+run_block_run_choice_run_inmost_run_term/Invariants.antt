@@ -1,0 +1,24 @@
+use Rattle.syntax.specs.Limits.{unpacked}
+use Rattle.block_runner.proofs.WrapLaws.{Inwards, Outwards}
+use Prim.Native.Nat.{◌-◌}
+use Rattle.syntax.specs.Limits.{unpacked}
+use Rattle.block_runner.proofs.BlockRunLaws.{Going}
+use Rattle.block_runner.proofs.terms.+run_block_run_choice_run_inmost_run_term.Given as goal
+
+abbrev pub invariant-run_term-loop-around : goal.invariant-run_term-loop-around
+invariant-run_term-loop-around l = Inwards (unpacked l.sizes) l.rows l.i l.levels l.readings l.store l.opened l.count l.taken l.around
+
+abbrev pub decreases-run_term-loop-around : goal.decreases-run_term-loop-around
+decreases-run_term-loop-around l = l.levels - l.around
+
+abbrev pub invariant-run_term-loop-around-2 : goal.invariant-run_term-loop-around-2
+invariant-run_term-loop-around-2 l = Outwards (unpacked l.sizes) l.rows l.i l.levels l.readings l.count l.taken l.initial.store l.initial.opened l.initial.around l.initial.ran l.store l.opened l.around l.ran
+
+abbrev pub decreases-run_term-loop-around-2 : goal.decreases-run_term-loop-around-2
+decreases-run_term-loop-around-2 l = l.around
+
+abbrev pub invariant-run_block-loop-left : goal.invariant-run_block-loop-left
+invariant-run_block-loop-left l = Going (unpacked l.sizes) l.rows l.block l.levels l.readings l.initial.store l.initial.opened l.count l.taken l.store l.opened l.left l.at
+
+abbrev pub decreases-run_block-loop-left : goal.decreases-run_block-loop-left
+decreases-run_block-loop-left l = l.left

@@ -1,0 +1,19 @@
+-- `c_answers::answers::c_called` meets its contract. Assumes nothing.
+use mathlib.Core.Path.{refl}
+use mir.Facts.{to_z-of_z}
+use mir.Syntax.{w32}
+use mir.Val.{SFits}
+use Rattle.room.specs.Calling.{told_call}
+use Rattle.c_answers.specs.Answers.{called_in}
+use borrow.Author.Rules.{rules}
+use Rattle.c_answers.proofs.answers.c_called.Goals as goal
+
+pub returns-in-Answered : goal.returns-in-Answered
+unfolding called_in told_call
+returns-in-Answered c =
+    let h : SFits w32 c.before.called-1.given.0.1.0 = search rules in
+    rw (c.before.called-1.given.1, to_z-of_z h) refl
+
+pub returns-in-Refused : goal.returns-in-Refused
+unfolding called_in told_call
+returns-in-Refused c = rw c.before.called-in-Refused-1.given.1 refl

@@ -1,0 +1,19 @@
+-- `c_answers::answers::c_ran` meets its contract. Assumes nothing.
+use mathlib.Core.Path.{refl}
+use mir.Facts.{to_z-of_z}
+use mir.Syntax.{w32}
+use mir.Val.{SFits}
+use Rattle.room.specs.Running.{told_run}
+use Rattle.c_answers.specs.Answers.{ran_in}
+use borrow.Author.Rules.{rules}
+use Rattle.c_answers.proofs.answers.c_ran.Goals as goal
+
+pub returns-in-Answered : goal.returns-in-Answered
+unfolding ran_in told_run
+returns-in-Answered c =
+    let h : SFits w32 c.before.ran-1.given.0.0 = search rules in
+    rw (c.before.ran-1.given.1, to_z-of_z h) refl
+
+pub returns-in-Refused : goal.returns-in-Refused
+unfolding ran_in told_run
+returns-in-Refused c = rw c.before.ran-in-Refused-1.given.1 refl

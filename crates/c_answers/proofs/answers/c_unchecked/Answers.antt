@@ -1,0 +1,23 @@
+-- `c_answers::answers::c_unchecked` meets its contract. Assumes nothing.
+use mathlib.Core.Path.{refl}
+use mir.Facts.{to_z-of_z}
+use mir.Syntax.{w32}
+use mir.Val.{SFits}
+use Rattle.machine.specs.Outcomes.{told_unchecked}
+use Rattle.c_answers.specs.Answers.{unchecked_in}
+use borrow.Author.Rules.{rules}
+use Rattle.c_answers.proofs.answers.c_unchecked.Goals as goal
+
+pub returns-in-Answered : goal.returns-in-Answered
+unfolding unchecked_in told_unchecked
+returns-in-Answered c =
+    let h : SFits w32 c.before.ran-1.given.0.0 = search rules in
+    rw (c.before.ran-1.given.1, to_z-of_z h) refl
+
+pub returns-in-Refused : goal.returns-in-Refused
+unfolding unchecked_in told_unchecked
+returns-in-Refused c = rw c.before.ran-in-Refused-1.given.1 refl
+
+pub returns-in-Faulted : goal.returns-in-Faulted
+unfolding unchecked_in told_unchecked
+returns-in-Faulted c = rw c.before.ran-in-Faulted-1.given.1 refl

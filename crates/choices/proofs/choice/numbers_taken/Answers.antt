@@ -1,0 +1,6 @@
+-- `choices::choice::numbers_taken` meets its contract. Assumes nothing.
+use native.Mathlib.Numerals.{add-one}
+use Rattle.choices.proofs.choice.numbers_taken.Goals as goal
+
+pub returns : goal.returns
+returns c = simp add-one at c.word_at.ensures

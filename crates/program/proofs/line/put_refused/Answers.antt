@@ -1,0 +1,10 @@
+use native.Mathlib.Omega.{arith}
+use Rattle.program.specs.Line.{line_of}
+use Rattle.program.proofs.LineLaws.{put_next}
+use Rattle.program.proofs.line.put_refused.Goals as goal
+
+pub returns : goal.returns
+unfolding line_of
+returns c =
+    let two = put_next _ _ _ _ _ _ _ _ c.before.before.before.before.before.before.before.before.before.before.before.before.put_labelled-a.ensures.0 c.before.before.before.before.before.before.before.put_labelled-b.ensures.0 in
+    (put_next _ _ _ _ _ _ _ _ two c.before.before.put_text.ensures, omega arith)

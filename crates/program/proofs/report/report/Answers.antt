@@ -1,0 +1,19 @@
+use native.Mathlib.Omega.{arith}
+use mathlib.Core.Path.{◌≡◌}
+use lib.ListN.{length}
+use Rattle.syntax.proofs.Lists.{part_all}
+use Rattle.program.specs.Line.{short_line}
+use Rattle.program.proofs.ReportLaws.{report_short, report_called}
+use borrow.Author.Rules.{rules}
+use Rattle.program.proofs.report.report.Goals as goal
+
+pub returns-then-input-lt-READINGS : goal.returns-then-input-lt-READINGS
+unfolding short_line
+returns-then-input-lt-READINGS c =
+    let l : length c.before.before.before.before.before.before.before.args.line.now ≡ 80 = search rules in
+    (report_short _ _ _ _ _ _ _ c.before.before.before.if-input-lt-READINGS.true c.put_text.ensures (omega arith), omega (arith, c.put_text.auto.0))
+
+pub returns : goal.returns
+returns c =
+    let l : length c.before.before.before.before.before.before.before.before.before.before.before.before.before.before.before.before.args.line.now ≡ 80 = search rules in
+    (report_called _ _ _ _ _ _ _ c.before.before.before.before.before.before.before.before.before.before.before.before.if-input-lt-READINGS.false _ _ _ _ _ (part_all c.before.before.before.before.before.before.before.before.before.before.before.before.before.before.before.before.args.input.now 32) c.before.before.before.before.before.before.before.before.before.before.before.readings_of-readings.ensures c.before.before.before.before.before.before.call-called.ensures.0 c.put_called.ensures.0 (omega (arith, c.put_called.ensures.1)), omega (arith, c.put_called.ensures.1, c.put_called.auto.0))

@@ -1,0 +1,33 @@
+-- `room::call` meets its contract. Assumes nothing.
+use Rattle.syntax.specs.Kinds.{newest}
+use Rattle.syntax.proofs.Lists.{under_bytes}
+use Rattle.reader.proofs.Promise.{read_judged}
+use Rattle.room.proofs.CallLaws.{call_unfit, fit_run, call_unread, call_read}
+use Rattle.room.proofs.CallSafe.{safe_call}
+use Rattle.room.proofs.call.Goals as goal
+
+pub returns-then-number-ne0 : goal.returns-then-number-ne0
+returns-then-number-ne0 c =
+    let e = call_unfit _ _ c.before.before.before.before.before.args.readings.now _ _ _ c.before.fit_number-number.ensures c.if-number-ne0.true in
+    (e, safe_call _ _ _ _ _ (under_bytes c.before.before.before.before.before.args.script.now c.before.before.before.before.shared_slice_known-1.given) _ _ _ e)
+
+pub check_judged-checked-requires : goal.check_judged-checked-requires
+unfolding newest
+check_judged-checked-requires c = read_judged _ _ _ (under_bytes c.before.before.before.before.before.before.before.before.before.before.before.before.before.args.script.now c.before.before.before.before.before.before.before.before.before.before.before.before.shared_slice_known-1.given) _ _ _ _ _ c.before.before.before.before.before.before.read-read.ensures c.before.before.read-in-Script-1.given.1
+
+pub run_checked-requires : goal.run_checked-requires
+run_checked-requires c =
+    let fit = fit_run _ c.before.before.before.before.before.before.before.before.before.before.before.before.before.before.before.before.args.script.now c.before.before.before.before.before.before.before.before.before.before.before.before.before.before.before.before.args.readings.now c.before.before.before.before.before.before.before.before.before.before.before.before.before.before.before.before.args.rows-1.now c.before.before.before.before.before.before.before.before.before.before.before.before.before.before.before.before.args.store-1.now _ c.before.before.before.before.before.before.before.before.before.before.before.before.fit_number-number.ensures c.before.before.before.before.before.before.before.before.before.before.before.if-number-ne0.false in
+    (c.before.before.check_judged-checked.ensures, fit.eight, fit.size)
+
+pub returns-in-Refused : goal.returns-in-Refused
+unfolding newest
+returns-in-Refused c =
+    let e = call_unread _ _ c.before.before.before.before.before.before.before.before.before.before.before.before.args.readings.now _ _ _ c.before.before.before.before.before.before.before.before.fit_number-number.ensures c.before.before.before.before.before.before.before.if-number-ne0.false _ _ c.before.before.before.before.before.read-read.ensures _ _ c.before.read-1.given.1 in
+    (e, safe_call _ _ _ _ _ (under_bytes c.before.before.before.before.before.before.before.before.before.before.before.before.args.script.now c.before.before.before.before.before.before.before.before.before.before.before.shared_slice_known-1.given) _ _ _ e)
+
+pub returns-in-Script : goal.returns-in-Script
+unfolding newest
+returns-in-Script c =
+    let e = call_read _ _ c.before.before.before.before.before.before.before.before.before.before.before.before.before.before.before.before.before.before.before.before.args.readings.now _ _ _ c.before.before.before.before.before.before.before.before.before.before.before.before.before.before.before.before.fit_number-number.ensures c.before.before.before.before.before.before.before.before.before.before.before.before.before.before.before.if-number-ne0.false _ _ c.before.before.before.before.before.before.before.before.before.before.before.before.before.read-read.ensures _ _ c.before.before.before.before.before.before.before.before.before.read-in-Script-1.given.1 _ _ c.before.before.before.run_checked.ensures _ c.with_terms.ensures in
+    (e, safe_call _ _ _ _ _ (under_bytes c.before.before.before.before.before.before.before.before.before.before.before.before.before.before.before.before.before.before.before.before.args.script.now c.before.before.before.before.before.before.before.before.before.before.before.before.before.before.before.before.before.before.before.shared_slice_known-1.given) _ _ _ e)

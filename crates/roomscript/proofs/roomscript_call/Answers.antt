@@ -1,0 +1,9 @@
+-- `roomscript::roomscript_call` meets its contract. Assumes nothing.
+use mathlib.Core.Path.{ap}
+use Rattle.c_answers.specs.Answers.{called_in, in_c}
+use Rattle.roomscript.proofs.roomscript_call.Goals as goal
+
+pub returns : goal.returns
+returns c =
+    let called = c.before.before.before.before.before.call.ensures in
+    (rw c.c_called.ensures (ap (in_c called_in) called.0), (_, c.c_called.ensures, called.1))

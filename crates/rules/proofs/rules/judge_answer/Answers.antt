@@ -1,0 +1,23 @@
+-- `rules::rules::judge_answer` meets its contract. Assumes nothing.
+use Rattle.syntax.specs.Result.{need}
+use Rattle.rules.specs.RuleAnswers.{as_requirement}
+use Rattle.variables.specs.Verdicts.{as_value}
+use Rattle.rules.proofs.rules.judge_answer.Goals as goal
+
+pub returns-in_default : goal.returns-in_default
+unfolding as_requirement as_value need
+returns-in_default c = λ nv env. rw c.enum_told-1.given.1
+
+pub returns-then-is_number : goal.returns-then-is_number
+unfolding as_requirement as_value need
+returns-then-is_number c =
+    let at-is-number = c.before in
+    let at_answer = at-is-number.before.before in
+    λ nv env. rw (at_answer.answer-1.given.1, ← at-is-number.is_number.ensures, c.if-is_number.true)
+
+pub returns-else-is_number : goal.returns-else-is_number
+unfolding as_requirement as_value need
+returns-else-is_number c =
+    let at-is-number = c.before in
+    let at_answer = at-is-number.before.before in
+    λ nv env. rw (at_answer.answer-1.given.1, ← at-is-number.is_number.ensures, c.if-is_number.false)

@@ -1,0 +1,16 @@
+-- `term_runner::around::run_assign` meets its contract. Assumes nothing.
+use Rattle.term_runner.proofs.AroundLaws.{assign_stops, assign_goes}
+use native.Mathlib.Omega.{arith}
+use Rattle.term_runner.proofs.around.run_assign.Goals as goal
+
+pub returns-then-inner-ne-NO_FAULT : goal.returns-then-inner-ne-NO_FAULT
+returns-then-inner-ne-NO_FAULT c = assign_stops _ _ _ _ _ _ c.if-inner-ne-NO_FAULT.true c.before.before.before.requires.0.tidy
+
+pub assign_place-fault-requires : goal.assign_place-fault-requires
+assign_place-fault-requires c = (c.before.before.before.before.before.before.requires.0.tidy, omega (arith, c.before.before.before.before.before.before.requires.1, c.before.index_of.ensures), (c.before.before.before.before.before.before.requires.0.fine c.before.before.before.if-inner-ne-NO_FAULT.false).sound)
+
+pub shape_of-store : goal.shape_of-store
+shape_of-store c = c.before.before.before.assign_place-fault.auto.1.0
+
+pub returns : goal.returns
+returns c = rw (← c.before.before.before.before.before.index_of.ensures, ← c.before.before.before.before.index_of-2.ensures) (assign_goes _ _ _ _ _ _ c.before.before.before.before.before.before.before.if-inner-ne-NO_FAULT.false (c.before.before.before.before.before.before.before.before.before.before.requires.0.fine c.before.before.before.before.before.before.before.if-inner-ne-NO_FAULT.false).ordered _ _ c.before.before.before.assign_place-fault.ensures _ c.without_value.ensures)
