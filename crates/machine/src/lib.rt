@@ -1,4 +1,6 @@
 // The store machine (LANGUAGE 4): running a script that is given as term rows.
+#![tactic(auto)]
+
 ghost use Rattle.std.specs.Prelude.{◌≡◌, ◌≤◌, length};
 ghost use Rattle.machine.specs.Outcomes.{told_unchecked};
 ghost use Rattle.dynamics.specs.Answers.{unchecked_of};

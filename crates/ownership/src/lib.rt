@@ -1,4 +1,6 @@
 // The ownership check (LANGUAGE 3) of a script that is given as term rows, within the limits of a set (2.8).
+#![tactic(auto)]
+
 ghost use Rattle.std.specs.Prelude.{◌≡◌};
 ghost use Rattle.syntax.specs.Result.{ok};
 ghost use Rattle.syntax.specs.Answers.{judged_of};

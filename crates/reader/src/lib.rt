@@ -1,5 +1,7 @@
 // The script form (LANGUAGE 2): reading bytes into term rows (6.2), judging term rows (6.3), telling how many bytes they
 // take, and writing them as bytes again (6.4).
+#![tactic(auto)]
+
 ghost use Rattle.std.specs.Prelude.{◌≡◌};
 ghost use Rattle.reader.specs.Outcomes.{told, told_read};
 ghost use Rattle.syntax.specs.Answers.{read_of, judged_of, length_of, written_of};

@@ -1,5 +1,7 @@
 // Runs scripts that the check accepts, from term rows (LANGUAGE 6.6) or from bytes (6.8). What the check accepts runs
 // without a fault, so the answers have no case for one.
+#![tactic(auto)]
+
 ghost use Rattle.std.specs.Prelude.{◌≡◌, length};
 ghost use Rattle.syntax.specs.Limits.{store_numbers};
 ghost use Rattle.ownership.specs.Answers.{told_checked, check_of};

@@ -1,5 +1,7 @@
 // The program (LANGUAGE 6.10 to 6.12). Reads eight readings and a script from standard input, and prints the line that
 // `program::report::report_base` makes of them. Where reading fails there is no line: what was read may not be the whole input.
+#![tactic(auto)]
+
 ghost use Rattle.std.specs.Prelude.{length};
 ghost use Rattle.roomcheck.specs.Input.{Within};
 

@@ -1,5 +1,7 @@
 // The C interface: the set of limits (LANGUAGE 2.8) by value, numbers and slices. `bindings/` has the header, and a
 // safe Rust wrapper.
+#![tactic(auto)]
+
 ghost use Rattle.std.specs.Prelude.{◌≡◌};
 ghost use Rattle.syntax.specs.Answers.{read_of, judged_of, length_of, written_of};
 ghost use Rattle.ownership.specs.Answers.{check_of};

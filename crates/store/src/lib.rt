@@ -1,4 +1,5 @@
 // The lent store (LANGUAGE 4.1): its rows, locating a place (4.6), dropping values (4.8) and closing variables (4.18).
+#![tactic(auto)]
 
 pub mod numbers; // numbers.rt: the numbers in the store's rows, and the faults
 pub mod store; // store.rt: the rows of the lent store

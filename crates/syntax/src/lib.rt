@@ -1,5 +1,6 @@
 // The script form (LANGUAGE 2, 5) as definitions, and theorems about them. The code here is what bytes and term rows share:
 // limits, versions and kinds, the numbers of a row, and answers in one number.
+#![tactic(auto)]
 
 pub mod limits; // limits.rt: limits and refusal numbers
 pub mod kinds; // kinds.rt: the versions, and the kinds of terms

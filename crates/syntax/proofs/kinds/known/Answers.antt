@@ -8,6 +8,7 @@ use lib.Dec.{leb}
 use borrow.Author.Tests.{le-leb, lt-leb, lt-ltb, le-ltb, leb-true, leb-false}
 use Rattle.syntax.specs.Parts.{known_in}
 use Rattle.syntax.proofs.kinds.known.Goals as goal
+use Rattle.syntax.proofs.kinds.known.Goals.{then-version-lt-CHOICE_AND_SUM_SINCE, else-version-lt-CHOICE_AND_SUM_SINCE}
 
 none : (v b : ℕ) → b < 1 → false ≡ known_in v b
 unfolding known_in
@@ -28,7 +29,10 @@ up_to v b last which h = go (leb b 11) refl
         which
 
 pub returns-then-kind-ge-NUMBER : goal.returns-then-kind-ge-NUMBER
-returns-then-kind-ge-NUMBER c = up_to _ _ _ (⊎_elim (λ w. inl (omega (arith, w.0.taken), omega (arith, w.1))) (λ w. inr (omega (arith, w.0.left), omega (arith, w.1))) c.before.if-version-lt-CHOICE_AND_SUM_SINCE.branch) (omega (arith, c.if-kind-ge-NUMBER.true))
+returns-then-kind-ge-NUMBER c =
+    up_to _ _ _
+    (elim c.if-version-lt-CHOICE_AND_SUM_SINCE.branch [ then-version-lt-CHOICE_AND_SUM_SINCE w ↦ inl (omega arith, omega arith) | else-version-lt-CHOICE_AND_SUM_SINCE w ↦ inr (omega arith, omega arith) ])
+    (omega (arith, c.if-kind-ge-NUMBER.true))
 
 pub returns-else-kind-ge-NUMBER : goal.returns-else-kind-ge-NUMBER
 returns-else-kind-ge-NUMBER c = lt-leb _ _ c.if-kind-ge-NUMBER.false ∙ none _ _ (omega (arith, c.if-kind-ge-NUMBER.false))
