@@ -68,7 +68,7 @@ module _ {nv : ℕ} {ns : Unfinished} {Γ : Environment} {o : Option Ty} {lv : �
   goes P ow (suc n) x r h kn i = goes_at P ow x r kn i (λ y m k kn' j. goes P ow n y m (omega arith) kn' j)
 
   -- A longer way meets the end of a shorter one.
-  pub along : {w y : Name} {d r : ℕ} {p : Place} (P : Path Γ p) → Reach I.Θ w d y r → (k n : ℕ) → y ≡ var k → r ≤ n → Among (place k n) P.ps
+  pub along : {w : Name} {d : ℕ} {y : Name} {r : ℕ} {p : Place} (P : Path Γ p) → Reach I.Θ w d y r → (k n : ℕ) → y ≡ var k → r ≤ n → Among (place k n) P.ps
       → (c : ℕ) × (m : ℕ) × (w ≡ var c) × (Among (place c m) P.ps)
   along P (here Q e a b) k n q l i = (k, n, q, i)
   along {r} P (hop Q p e f a b D) k n q l i =
@@ -116,10 +116,10 @@ module _ {nv : ℕ} {ns : Unfinished} {Γ : Environment} {o : Option Ty} {lv : �
 
 module _ {nv : ℕ} {ns : Unfinished} {Γ : Environment} {lv : ℕ} {s : State} (I : Invariant nv ns Γ none lv s empty) where
   -- Where a whole root leads is whole.
-  pub whole_along : {w x : Name} {d r : ℕ} (D : Reach I.Θ w d x r) (q : Gh.Variable) → I.Θ x ≡ Gh.live q → boxes q < q.moved_from
+  pub whole_along : {w : Name} {d : ℕ} {x : Name} {r : ℕ} (D : Reach I.Θ w d x r) (q : Gh.Variable) → I.Θ x ≡ Gh.live q → boxes q < q.moved_from
       → (W : Gh.Variable) × (I.Θ w ≡ Gh.live W) × (d ≤ boxes W) × (boxes W < W.moved_from)
   whole_along (here Q e a b) q h g = let z : Q ≡ q = cc in (Q, e, a, rw z g)
-  whole_along {w} {x} (hop Q p e f a b D) q h g =
+  whole_along {w} {d} {x} (hop Q p e f a b D) q h g =
       let K = (I.typed.at x Q e).refs a p f in
       whole_along D K.W K.is K.whole
 

@@ -45,6 +45,6 @@ pub without_known : {nv : ℕ} {G : Name → Type 0} {Θ : Name → Slot} {H : N
 without_known T X xDec = known_less (λ x e. e) (λ y Q p k K. by_holder Q p k (without_holds T X xDec y Q p K))
 
 -- What is reached from a known name is known.
-pub known_along : {ns : Unfinished} {Θ : Name → Slot} {w x : Name} {d r : ℕ} → Reach Θ w d x r → Known ns Θ x → Known ns Θ w
+pub known_along : {ns : Unfinished} {Θ : Name → Slot} {w : Name} {d : ℕ} {x : Name} {r : ℕ} → Reach Θ w d x r → Known ns Θ x → Known ns Θ w
 known_along (here Q e a b) k = k
 known_along (hop Q p e f a b D) k = known_along D (by_holder Q p k (record { is = e; whole = a; at = f }))

@@ -29,10 +29,10 @@ use Rattle.safety.proofs.Invariant.{Invariant}
 use Rattle.safety.proofs.Finding.{along, Found, whole_along}
 
 -- A path that passes a borrow link goes on from the place borrowed there: c holds q, and j follows from x lead to its borrow link.
-pub beyond : {Γ : Name → Gh.Slot} {w c x : Name} {d r j : ℕ} (W : Gh.Variable) (q : Place) → Γ c ≡ Gh.live W → borrowed W.borrow ≡ some q
+pub beyond : {Γ : Name → Gh.Slot} {w c : Name} {d : ℕ} (W : Gh.Variable) (q : Place) {x : Name} {r j : ℕ} → Γ c ≡ Gh.live W → borrowed W.borrow ≡ some q
     → Reach Γ c (boxes W) x j → Reach Γ w d x r → j < r → Reach Γ w d (var q.root) (q.follows + (r - suc j))
 beyond W q eW bq (here Q e a b) D l = inv_hop W q D eW bq l
-beyond {Γ} {w} {c} {x} {d} {r} {j} W q eW bq (hop Q p e f a b E) D l =
+beyond {Γ} {w} {c} {d} W q {x} {r} {j} eW bq (hop Q p e f a b E) D l =
     subst (λ (n : ℕ). Reach Γ w d (var q.root) (q.follows + n)) (omega arith)
     (beyond W q eW bq E (inv_hop {r = r} Q p D e f (omega arith)) (omega arith))
 

@@ -148,6 +148,8 @@ module _ {nv : ℕ} {ns : Unfinished} {Γ : Environment} {lv : ℕ} {s : State} 
               not_empty C.0 C.2 (cc)
             where
               not_empty : (k : Value) → Full k → k ≡ empty → ⊥
+              not_empty empty f e = elim f [ ]
+              not_empty (owner _) f e = elim f [ ]
               not_empty (num n) f e = let y : ◌≡◌ {A = ℕ} 0 1 = cc in omega arith
               not_empty (reference l) f e = let y : ◌≡◌ {A = ℕ} 0 1 = cc in omega arith
 

@@ -52,19 +52,19 @@ inv_hop Q p (hop Q' p' e f' a b D) h f q =
     rw (z, u) at D
 
 -- Where a path ends.
-pub end_live : {Γ : Name → Slot} {w x : Name} {d r : ℕ} → Reach Γ w d x r → (W : Variable) × (Γ w ≡ live W) × (d ≤ boxes W) × (d ≤ W.moved_from)
+pub end_live : {Γ : Name → Slot} {w : Name} {d : ℕ} {x : Name} {r : ℕ} → Reach Γ w d x r → (W : Variable) × (Γ w ≡ live W) × (d ≤ boxes W) × (d ≤ W.moved_from)
 end_live (here Q e a b) = (Q, e, a, b)
 end_live (hop Q p e f a b D) = end_live D
 
 -- Where a place leads is determined.
-pub unique : {Γ : Name → Slot} {w w' x : Name} {d d' r : ℕ} → Reach Γ w d x r → Reach Γ w' d' x r → (w ≡ w') × (d ≡ d')
+pub unique : {Γ : Name → Slot} {w w' : Name} {d d' : ℕ} {x : Name} {r : ℕ} → Reach Γ w d x r → Reach Γ w' d' x r → (w ≡ w') × (d ≡ d')
 unique (here Q e a b) E = let z = inv_here Q E e a in (sym z.0, sym z.1)
 unique (hop Q p e f a b D) E = unique D (inv_hop Q p E e f b)
 
 -- A beginning of a path leads somewhere.
-pub prefix : {Γ : Name → Slot} {w x : Name} {d r : ℕ} (g j : ℕ) → Reach Γ w d x r → r ≡ g + j → (w' : Name) × (d' : ℕ) × Reach Γ w' d' x g
+pub prefix : {Γ : Name → Slot} {w : Name} {d : ℕ} {x : Name} {r : ℕ} (g j : ℕ) → Reach Γ w d x r → r ≡ g + j → (w' : Name) × (d' : ℕ) × Reach Γ w' d' x g
 prefix {Γ} {w} g j (here Q e a b) q = (w, g, here Q e (omega arith) (omega arith))
-prefix {Γ} {w} {x} {d} {r} g j (hop Q p e f a b D) q = go (dec_le g (boxes Q)) (λ k h. prefix k j D h)
+prefix {Γ} {w} {d} {x} {r} g j (hop Q p e f a b D) q = go (dec_le g (boxes Q)) (λ k h. prefix k j D h)
   where
     go : Dec (g ≤ boxes Q) → ((k : ℕ) → p.follows + (r - suc (boxes Q)) ≡ k + j → (w' : Name) × (d' : ℕ) × Reach Γ w' d' (var p.root) k)
         → (w' : Name) × (d' : ℕ) × Reach Γ w' d' x g
