@@ -5,7 +5,7 @@
 ghost use Rattle.std.specs.Prelude.{length};
 ghost use Rattle.roomcheck.specs.Input.{Within};
 
-use libc::{STDERR_FILENO, STDIN_FILENO, STDOUT_FILENO};
+use std::io::{ErrorKind, Read, Write};
 use syntax::limits;
 
 // The readings, and one byte more than a script may have: what follows changes nothing.
@@ -20,7 +20,7 @@ enum Input {
 
 // A read that a signal interrupted is tried again. Every loop has to end, so the reads are counted; so many of them
 // are out of reach.
-fn read_input(buffer: &mut [u8]) -> Input
+fn read_input<R: Read>(input: &mut R, buffer: &mut [u8]) -> Input
     ensures { Within (length buffer.new) result }
 {
     let mut done = 0;
@@ -30,37 +30,36 @@ fn read_input(buffer: &mut [u8]) -> Input
             return Input::Failed;
         }
         tries -= 1;
-        let got = libc::read(STDIN_FILENO, &mut buffer[done..]);
-        if got < 0 {
-            if os::errno() != libc::EINTR {
-                return Input::Failed;
+        match input.read(&mut buffer[done..]) {
+            Ok(0) => return Input::Whole(done),
+            Ok(more) => done += more,
+            Err(e) => {
+                if e.kind() != ErrorKind::Interrupted {
+                    return Input::Failed;
+                }
             }
-        } else {
-            let more = io::count(got, &buffer[done..]);
-            if more == 0 {
-                return Input::Whole(done);
-            }
-            done += more;
         }
     }
     Input::Whole(done)
 }
 
-fn main() {
+// What cannot be told on standard error either is not told.
+fn complain(rt: &HostRuntime, text: &[u8]) {
+    let mut errors = rt.stderr();
+    let _told = errors.write_all(text).is_ok();
+}
+
+fn main(rt: HostRuntime) {
     let mut input = [0u8; CAPACITY];
-    let Input::Whole(n) = read_input(&mut input) else {
-        io::write_all(
-            STDERR_FILENO,
-            b"roomcheck: error while reading standard input\n",
-        );
+    let mut from = rt.stdin();
+    let Input::Whole(n) = read_input(&mut from, &mut input) else {
+        complain(&rt, b"roomcheck: error while reading standard input\n");
         return;
     };
     let mut line = [0u8; program::report::LINE];
     let length = program::report::report_base(&input[..n], &mut line);
-    if !io::write_all(STDOUT_FILENO, &line[..length]) {
-        io::write_all(
-            STDERR_FILENO,
-            b"roomcheck: error while writing standard output\n",
-        );
+    let mut to = rt.stdout();
+    if to.write_all(&line[..length]).is_err() {
+        complain(&rt, b"roomcheck: error while writing standard output\n");
     }
 }
