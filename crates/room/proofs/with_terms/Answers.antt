@@ -10,8 +10,8 @@ use Rattle.room.proofs.with_terms.Goals as goal
 
 pub returns-in-Answered : goal.returns-in-Answered
 unfolding told_call with_terms told_run
-returns-in-Answered c = let h : SFits w32 c.before.ran-1.given.0.0 = search rules in rw (to_z-of_z h, c.before.ran-1.given.1) refl
+returns-in-Answered c = let h : SFits w32 c.in-Answered.answer = search rules in rw (to_z-of_z h, c.in-Answered.is) refl
 
 pub returns-in-Refused : goal.returns-in-Refused
 unfolding told_call with_terms told_run
-returns-in-Refused c = rw c.before.ran-in-Refused-1.given.1 refl
+returns-in-Refused c = rw c.in-Refused.is refl

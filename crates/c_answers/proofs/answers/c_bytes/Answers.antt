@@ -6,8 +6,8 @@ use Rattle.c_answers.proofs.answers.c_bytes.Goals as goal
 
 pub returns-in-Count : goal.returns-in-Count
 unfolding bytes_in told
-returns-in-Count c = rw c.before.written-1.given.1 refl
+returns-in-Count c = rw c.in-Count.is refl
 
 pub returns-in-Refused : goal.returns-in-Refused
 unfolding bytes_in told
-returns-in-Refused c = rw c.before.written-in-Refused-1.given.1 refl
+returns-in-Refused c = rw c.in-Refused.is refl

@@ -12,8 +12,8 @@ pub returns-in-Answered : goal.returns-in-Answered
 unfolding called_in told_call
 returns-in-Answered c =
     let h : SFits w32 c.before.called-1.given.0.1.0 = search rules in
-    rw (c.before.called-1.given.1, to_z-of_z h) refl
+    rw (c.in-Answered.is, to_z-of_z h) refl
 
 pub returns-in-Refused : goal.returns-in-Refused
 unfolding called_in told_call
-returns-in-Refused c = rw c.before.called-in-Refused-1.given.1 refl
+returns-in-Refused c = rw c.in-Refused.is refl

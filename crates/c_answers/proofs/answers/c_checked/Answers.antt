@@ -6,8 +6,8 @@ use Rattle.c_answers.proofs.answers.c_checked.Goals as goal
 
 pub returns-in-Accepted : goal.returns-in-Accepted
 unfolding terms_in told_checked
-returns-in-Accepted c = rw c.before.checked-1.given.1 refl
+returns-in-Accepted c = rw c.in-Accepted.is refl
 
 pub returns-in-Refused : goal.returns-in-Refused
 unfolding terms_in told_checked
-returns-in-Refused c = rw c.before.checked-in-Refused-1.given.1 refl
+returns-in-Refused c = rw c.in-Refused.is refl

@@ -12,8 +12,8 @@ pub returns-in-Answered : goal.returns-in-Answered
 unfolding ran_in told_run
 returns-in-Answered c =
     let h : SFits w32 c.before.ran-1.given.0.0 = search rules in
-    rw (c.before.ran-1.given.1, to_z-of_z h) refl
+    rw (c.in-Answered.is, to_z-of_z h) refl
 
 pub returns-in-Refused : goal.returns-in-Refused
 unfolding ran_in told_run
-returns-in-Refused c = rw c.before.ran-in-Refused-1.given.1 refl
+returns-in-Refused c = rw c.in-Refused.is refl

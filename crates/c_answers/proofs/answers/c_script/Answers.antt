@@ -6,8 +6,8 @@ use Rattle.c_answers.proofs.answers.c_script.Goals as goal
 
 pub returns-in-Script : goal.returns-in-Script
 unfolding script_in told_read
-returns-in-Script c = rw c.before.read-1.given.1 refl
+returns-in-Script c = rw c.in-Script.is refl
 
 pub returns-in-Refused : goal.returns-in-Refused
 unfolding script_in told_read
-returns-in-Refused c = rw c.before.read-in-Refused-1.given.1 refl
+returns-in-Refused c = rw c.in-Refused.is refl

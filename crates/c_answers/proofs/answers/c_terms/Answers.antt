@@ -6,8 +6,8 @@ use Rattle.c_answers.proofs.answers.c_terms.Goals as goal
 
 pub returns-in-Count : goal.returns-in-Count
 unfolding terms_in told
-returns-in-Count c = rw c.before.judged-1.given.1 refl
+returns-in-Count c = rw c.in-Count.is refl
 
 pub returns-in-Refused : goal.returns-in-Refused
 unfolding terms_in told
-returns-in-Refused c = rw c.before.judged-in-Refused-1.given.1 refl
+returns-in-Refused c = rw c.in-Refused.is refl

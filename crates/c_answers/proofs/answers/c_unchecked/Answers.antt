@@ -12,12 +12,12 @@ pub returns-in-Answered : goal.returns-in-Answered
 unfolding unchecked_in told_unchecked
 returns-in-Answered c =
     let h : SFits w32 c.before.ran-1.given.0.0 = search rules in
-    rw (c.before.ran-1.given.1, to_z-of_z h) refl
+    rw (c.in-Answered.is, to_z-of_z h) refl
 
 pub returns-in-Refused : goal.returns-in-Refused
 unfolding unchecked_in told_unchecked
-returns-in-Refused c = rw c.before.ran-in-Refused-1.given.1 refl
+returns-in-Refused c = rw c.in-Refused.is refl
 
 pub returns-in-Faulted : goal.returns-in-Faulted
 unfolding unchecked_in told_unchecked
-returns-in-Faulted c = rw c.before.ran-in-Faulted-1.given.1 refl
+returns-in-Faulted c = rw c.in-Faulted.is refl

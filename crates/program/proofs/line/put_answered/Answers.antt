@@ -27,6 +27,6 @@ returns c =
     let h = c.before.before.before.before.before.before.before.before.before.before.before.before.before.before.before.before.before.before.before.before.before.before.before.before.before.ranges.answer in
     let s = rw (to_z-of_z h) at c.before.before.before.before.before.before.before.before.before.before.before.before.put_signed-c.ensures in
     let answered = put_next _ _ _ _ _ _ _ _ c.before.before.before.before.before.before.before.before.before.before.before.before.before.before.before.before.put_text-b.ensures s in
-    let two = put_next _ _ _ _ _ _ _ _ c.before.before.before.before.before.before.before.before.before.before.before.before.before.before.before.before.before.before.before.before.before.put_labelled-a.ensures.0 answered in
-    let three = put_next _ _ _ _ _ _ _ _ two c.before.before.before.before.before.before.before.put_labelled-d.ensures.0 in
-    (put_next _ _ _ _ _ _ _ _ three c.before.before.put_text.ensures, omega (arith, signed_short _ h))
+    let two = put_next _ _ _ _ _ _ _ _ c.before.before.before.before.before.before.before.before.before.before.before.before.before.before.before.before.before.before.before.before.before.put_labelled-a.ensures.put answered in
+    let three = put_next _ _ _ _ _ _ _ _ two c.before.before.before.before.before.before.before.put_labelled-d.ensures.put in
+    record { put = put_next _ _ _ _ _ _ _ _ three c.before.before.put_text.ensures; within = omega (arith, signed_short _ h) }

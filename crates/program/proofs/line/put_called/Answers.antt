@@ -1,3 +1,4 @@
+-- `program::line::put_called` meets its contract. Assumes nothing.
 use mir.Facts.{to_z-of_z}
 use mir.Syntax.{w32}
 use mir.Val.{SFits}
@@ -5,12 +6,12 @@ use Rattle.room.specs.Calling.{told_call}
 use borrow.Author.Rules.{rules}
 use Rattle.program.proofs.line.put_called.Goals as goal
 
-pub returns-in-Answered : goal.returns-in-Answered
+pub returns-in-Answered-clause-put : goal.returns-in-Answered-clause-put
 unfolding told_call
-returns-in-Answered c =
-    let h : SFits w32 c.before.before.before.before.before.called-1.given.0.1.0 = search rules in
-    rw c.before.before.before.before.before.called-1.given.1 (rw (to_z-of_z h) at c.before.before.put_answered.ensures.0, c.before.before.put_answered.ensures.1)
+returns-in-Answered-clause-put c =
+    let h : SFits w32 c.in-Answered.answer = search rules in
+    rw c.in-Answered.is (rw (to_z-of_z h) at c.put_answered.ensures.put)
 
-pub returns-in-Refused : goal.returns-in-Refused
+pub returns-in-Refused-clause-put : goal.returns-in-Refused-clause-put
 unfolding told_call
-returns-in-Refused c = rw c.before.before.before.before.before.called-in-Refused-1.given.1 c.before.before.Put-refused.ensures
+returns-in-Refused-clause-put c = rw c.in-Refused.is c.put_refused.ensures.put

@@ -23,7 +23,7 @@ put_byte-first-requires c =
 pub put_decimal-requires-2 : goal.put_decimal-requires-2
 put_decimal-requires-2 c =
     let e = signed_high _ _ c.before.before.before.before.before.before.before.before.ranges.n (rw (to_z-of_z c.before.before.before.before.before.before.before.before.ranges.n) at c.before.before.before.before.before.before.bits_of-bits.ensures) c.before.before.before.before.before.if-bits-lt2147483648.false in
-    omega (arith, ap length e, c.before.before.before.put_byte-first.auto.0)
+    omega (arith, ap length e, c.before.before.before.put_byte-first.auto.line)
 
 pub returns : goal.returns
 returns c =

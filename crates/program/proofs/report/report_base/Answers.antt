@@ -6,4 +6,4 @@ use Rattle.program.proofs.report.report_base.Goals as goal
 
 pub returns : goal.returns
 unfolding base row_numbers store_numbers zeros
-returns c = (report_base _ _ _ _ _ _ _ _ c.before.before.report.ensures.0 refl refl, c.before.before.report.ensures.1)
+returns c = record { answered = report_base _ _ _ _ _ _ _ _ c.before.before.report.ensures.answered refl refl; within = c.before.before.report.ensures.within }
