@@ -188,5 +188,5 @@ judge_term-loop-sizes-preserved t c =
     let k = c.field_at-kind in (
       record { ranges = l.invariant.0.ranges; full = l.invariant.0.full; near = omega (arith, e.room, (ranged _ l.invariant.0.ranges).terms); few = boxed_few _ _ _ _ _ _ _ e _ k.ensures _ c.boxes_with-boxed.ensures },
       omega (arith, l.invariant.1),
-      around_spans _ _ _ _ _ _ _ e _ k.ensures c.if-kind-lt-BOX.false c.if-kind-eq-BELOW.false c.if-kind-eq-BLOCK.false c.if-kind-eq-CHOICE.false (eqb-false _ 13 c.if-kind-eq-SUM.false-raw) _ c.boxes_with-boxed.ensures _ refl ∙ l.invariant.2,
+      around_spans _ _ _ _ _ _ _ e _ k.ensures c.if-kind-lt-BOX.false c.if-kind-eq-BELOW.false c.if-kind-eq-BLOCK.false c.if-kind-eq-CHOICE.false c.if-kind-eq-SUM.false _ c.boxes_with-boxed.ensures _ refl ∙ l.invariant.2,
     )
