@@ -24,4 +24,4 @@ returns c =
     let at-with-first = c.before in
     let at-if1 = at-with-first.before in
     let at-one-more-fits = at-if1.before in
-    λ env i. rw (← at-one-more-fits.one_more_fits.ensures, not-false at-one-more-fits.one_more_fits.result at-if1.if-not-one_more_fits.false-raw, ← at-with-first.with_first.ensures) (c.value_of_lem.ensures env i)
+    λ env i. rw (← at-one-more-fits.one_more_fits.ensures, not-false at-one-more-fits.one_more_fits.result at-if1.if-not-one_more_fits.false-raw, ← at-with-first.with_first.ensures) (c.value_of.ensures env i)
