@@ -3,19 +3,15 @@ use Prim.Native.Nat.{ℕ, suc, ◌<◌, ◌≤◌}
 use native.Mathlib.Omega.{arith}
 use native.Mathlib.Decide.{ℕ_discrete}
 use mathlib.Core.Path.{◌≡◌, refl, sym, ap, ap₂, ◌∙◌, subst}
-use mathlib.Core.Logic.{⊎_elim, ◌⊎◌}
 use mathlib.Core.Bool.{Bool, true, false, true≢false}
-use mathlib.Core.List.{List, [], ◌∷◌}
+use mathlib.Core.List.{List}
 use lib.Dec.{leb, eqb}
 use lib.ListN.{length}
-use types.Run.{OneOf}
-use denote.Enum.Declared.{tag_of}
 use borrow.Author.Tests.{eqb-true, eq-eqb, ne_eqb, le-leb, leb-true}
 use Rattle.syntax.specs.Result.{pick}
 use Rattle.variables.specs.declared.roots.Roots.{Roots}
 use Rattle.variables.specs.declared.table.BorrowEnd.{BorrowEnd}
 use Rattle.variables.specs.declared.table.BorrowEnd.TheVariants as end
-use Rattle.variables.specs.contracts.table.BorrowEnd.{the_type}
 use Rattle.statics.specs.Environment.{used, is_free, update}
 use Rattle.variables.specs.Chains.{chain_of, is_exclusive}
 use Rattle.variables.specs.Masks.{has}
@@ -99,12 +95,9 @@ module _ (n : ℕ) (env : List ℕ) (x : ℕ) (e : BorrowEnd) where
         new = λ s h. M.members x ∙ or_right (has (roots_at env n) x) (eqb x x) (eq-eqb x x refl);
       }
 
-  -- What an `else` knows: the end is one of the first two, so there is nothing to note.
-  pub exclusive_not : OneOf (0 ∷ 1 ∷ []) (tag_of the_type e) → ExclusiveNoted n env x e env
-  exclusive_not other = record { others = λ y k l h. refl; kept = λ y h. h; new = λ s h. absurd (never s h) }
-    where
-      never : (s : Roots) → e ≡ end.Exclusive s → ⊥
-      never s h = let z : tag_of the_type e ≡ 2 = ap (tag_of the_type) h in ⊎_elim (λ k. omega arith) (λ k. omega arith) other
+  -- What an `else` knows: the end is not exclusive, so there is nothing to note.
+  pub exclusive_not : ((s : Roots) → e ≡ end.Exclusive s → ⊥) → ExclusiveNoted n env x e env
+  exclusive_not never = record { others = λ y k l h. refl; kept = λ y h. h; new = λ s h. absurd (never s h) }
 
 -- ---- one entry changed
 

@@ -2,19 +2,15 @@
 use Prim.Native.Nat.{ℕ, ◌-◌, ◌≤◌, ◌<◌}
 use native.Mathlib.Omega.{arith}
 use mathlib.Core.Path.{◌≡◌, refl, sym, ap, ◌∙◌, subst}
-use mathlib.Core.Logic.{⊎_elim}
 use mathlib.Core.Bool.{Bool, true, false}
-use mathlib.Core.List.{List, [], ◌∷◌}
+use mathlib.Core.List.{List}
 use lib.Dec.{eqb}
-use types.Run.{OneOf}
-use denote.Enum.Declared.{tag_of}
 use borrow.Author.Tests.{lt-ltb, eqb-true}
 use Rattle.variables.specs.declared.roots.Roots.{Roots}
 use Rattle.variables.specs.declared.table.BorrowEnd.TheVariants as end
 use Rattle.variables.specs.declared.table.VariableState.{VariableState}
 use Rattle.variables.specs.declared.table.Entry.{Entry}
 use Rattle.variables.specs.declared.table.Entry.TheVariants as entry
-use Rattle.variables.specs.contracts.table.BorrowEnd.{the_type}
 use Rattle.paths.specs.declared.follow.Ends.{Ends}
 use Rattle.paths.specs.declared.follow.Ends.TheVariants as ends
 use Rattle.paths.specs.declared.follow.Step.TheVariants as step
@@ -88,8 +84,8 @@ module _ (env : List ℕ) (n : ℕ) (T : NeatTable env n) (x : ℕ) (is : enviro
     whole_loaded h none = whole_there_law (omega (arith, boxes_are, moved_is)) (none_boxed (chain_of (links_at env x)) (roots_at env x) (sym end_is ∙ none))
 
     -- With a borrow link the search goes on from there.
-    pub linked_loaded : boxes < v.moved_from → OneOf (1 ∷ 2 ∷ []) (tag_of the_type v.borrow_end)
+    pub linked_loaded : boxes < v.moved_from → (v.borrow_end ≡ end.None → ⊥)
         → Passed true (variable_at env x) (long_at env x - 0) step.Through
     linked_loaded h some =
         whole_through env x (omega (arith, boxes_are, moved_is))
-        (λ z. let t : tag_of the_type v.borrow_end ≡ 0 = ap (tag_of the_type) (end_is ∙ boxed_none (chain_of (links_at env x)) (roots_at env x) z) in ⊎_elim (λ k. omega arith) (λ k. omega arith) some)
+        (λ z. some (end_is ∙ boxed_none (chain_of (links_at env x)) (roots_at env x) z))

@@ -3,10 +3,8 @@ use Prim.Native.Nat.{ℕ, zero, suc, ◌<◌, ◌≤◌}
 use native.Mathlib.Omega.{arith}
 use native.Mathlib.Decide.{dec_lt}
 use mathlib.Core.Path.{◌≡◌, refl, sym, ap, ◌∙◌}
-use mathlib.Core.Logic.{⊎_elim}
-use mathlib.Core.List.{List, [], ◌∷◌}
+use mathlib.Core.List.{List}
 use lib.Dec.{eqb}
-use types.Run.{OneOf}
 use denote.Enum.Declared.{tag_of}
 use borrow.Author.Tests.{ne_eqb}
 use Rattle.syntax.specs.Result.{err, Refusal, pick}
@@ -19,9 +17,9 @@ use Rattle.statics.specs.Rules.{in_scope}
 use Rattle.statics.proofs.Slots.{free≢live, used≢live}
 use Rattle.variables.specs.Table.{entry_word, entry_at, state_at, variable_at, slot_as, environment_of, Noted, TableFor}
 
--- What an `else` knows: the entry is one of the first two.
+-- What an `else` knows: the entry is in no state.
 abbrev pub NotLive : Entry → Type 0
-NotLive e = OneOf (0 ∷ 1 ∷ []) (tag_of the_type e)
+NotLive e = (v : VariableState) → e ≡ entry.Live v → ⊥
 
 abbrev loaded_as : ℕ → VariableState → Entry
 loaded_as s v = pick (eqb s 0) entry.Free (pick (eqb s 1) entry.Used (entry.Live v))
@@ -91,6 +89,4 @@ module _ (env : List ℕ) (x : ℕ) (e : Entry) (loaded : e ≡ entry_at env x) 
   pub not_live : NotLive e → (v : Variable) → environment_of env x ≡ live v → ⊥
   unfolding entry_at
   not_live h v k =
-      let z : e ≡ entry.Live (state_at env x) = loaded ∙ (by_status (variable_at env x) (state_at env x) (entry_word env x 0) (live_status env x v k).0).1 in
-      let w : 2 ≡ tag_of the_type e = sym (ap (tag_of the_type) z) in
-      ⊎_elim (λ k. omega arith) (λ k. omega arith) h
+      h (state_at env x) (loaded ∙ (by_status (variable_at env x) (state_at env x) (entry_word env x 0) (live_status env x v k).0).1)

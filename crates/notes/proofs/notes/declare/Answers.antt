@@ -8,16 +8,11 @@ use Rattle.notes.proofs.notes.declare.Goals as goal
 
 pub returns : goal.returns
 returns c =
-    let at-member = c.before.before in
-    let at_exclusive = at-member.before.before.before.before in
-    let at_store = at_exclusive.before.before.before.before in
-    let at-status = at_store.before.before.before.before in
-    let start = at-status.before.before.before in
-    let args = start.args in
-    let pre = start.requires in
-    let env₃ = at_exclusive.note_exclusive.new.0 in
-    let env₄ = at-member.add_member.new.0 in
-    declared args.env-1.now args.variables args.x pre.0 pre.1 pre.2 args.state pre.3 pre.4 at-status.put_word.new.0 at_store.store.new.0 env₃ env₄
-    (at-member.add_member.auto.0 ∙ at_exclusive.note_exclusive.auto.0 ∙ at_store.store.auto.0 ∙ at-status.put_word.auto.0)
-    at-status.put_word.ensures at_store.store.ensures at_exclusive.note_exclusive.ensures
-    (subst (λ (row : ℕ). MemberAdded env₃ row args.x env₄) (add-one args.variables) at-member.add_member.ensures)
+    let args = c.args in
+    let pre = c.requires in
+    let env₃ = c.note_exclusive.new.env in
+    let env₄ = c.add_member.new.env in
+    declared args.env.now args.variables args.x pre.0 pre.1 pre.2 args.state pre.3 pre.4 c.put_word.new.env c.store.new.env env₃ env₄
+    (c.add_member.auto.env ∙ c.note_exclusive.auto.env ∙ c.store.auto.env ∙ c.put_word.auto.env)
+    c.put_word.ensures c.store.ensures c.note_exclusive.ensures
+    (subst (λ (row : ℕ). MemberAdded env₃ row args.x env₄) (add-one args.variables) c.add_member.ensures)

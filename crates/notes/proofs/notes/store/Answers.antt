@@ -5,12 +5,5 @@ use Rattle.notes.proofs.notes.store.Goals as goal
 
 pub returns : goal.returns
 returns c =
-    let at-note = c.before.before in
-    let at-roots = at-note.before.before.before.before in
-    let at_level = at-roots.before.before.before.before in
-    let at_moved = at_level.before.before.before.before in
-    let at-links = at_moved.before.before.before.before in
-    let at_end = at-links.before.before.before in
-    let start = at_end.before.before in
-    stored start.args.variables start.args.env-1.now at-links.put_word.new.0 at_moved.put_word-2.new.0 at_level.put_word-3.new.0 at-roots.put_roots.new.0 at-note.note_holder.new.0 start.args.x start.args.state at_end.end_roots-roots.result
-    (omega arith) start.requires.3 at_end.end_roots-roots.ensures at-links.put_word.ensures at_moved.put_word-2.ensures at_level.put_word-3.ensures at-roots.put_roots.ensures at-note.note_holder.ensures
+    stored c.args.variables c.args.env.now c.put_word.new.env c.put_word-2.new.env c.put_word-3.new.env c.put_roots.new.env c.note_holder.new.env c.args.x c.args.state c.end_roots-roots.result
+    (omega arith) c.requires.3 c.end_roots-roots.ensures c.put_word.ensures c.put_word-2.ensures c.put_word-3.ensures c.put_roots.ensures c.note_holder.ensures

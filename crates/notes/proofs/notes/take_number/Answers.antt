@@ -6,10 +6,7 @@ use Rattle.notes.proofs.notes.take_number.Goals as goal
 
 pub returns : goal.returns
 returns c =
-    let at-raise = c.before.before in
-    let at-put = at-raise.before.before.before.before in
-    let start = at-put.before.before.before in
-    let env = start.args.env-1.now in
-    let env₁ = at-put.put_word.new.0 in
-    let env₂ = at-raise.raise_note.new.0 in
-    number_taken env start.args.variables start.args.x start.requires.0 start.requires.1 start.requires.2 env₁ env₂ (at-raise.raise_note.auto.0 ∙ at-put.put_word.auto.0) at-put.put_word.ensures (raised_next env₁ env₂ start.args.variables start.args.x at-raise.raise_note.ensures)
+    let env = c.args.env.now in
+    let env₁ = c.put_word.new.env in
+    let env₂ = c.raise_note.new.env in
+    number_taken env c.args.variables c.args.x c.requires.0 c.requires.1 c.requires.2 env₁ env₂ (c.raise_note.auto.env ∙ c.put_word.auto.env) c.put_word.ensures (raised_next env₁ env₂ c.args.variables c.args.x c.raise_note.ensures)

@@ -10,26 +10,16 @@ use Rattle.notes.proofs.notes.widen.Goals as goal
 
 pub returns-in_default : goal.returns-in_default
 returns-in_default c =
-    let at_load = c.before in
-    let start = at_load.before.before.before in
-    let env = start.args.env-1.now in
-    not_changed env start.args.variables start.args.x start.requires.0 at_load.load-entry.result at_load.load-entry.ensures c.in_default.keys2
-    (λ (z : Slot). widened z (end_in env (chain_of (links_at env start.args.x)) start.args.roots)) refl refl
+    let env = c.args.env.now in
+    not_changed env c.args.variables c.args.x c.requires.0 c.load-entry.result c.load-entry.ensures c.in_default.not-Live
+    (λ (z : Slot). widened z (end_in env (chain_of (links_at env c.args.x)) c.args.roots)) refl refl
 
 pub store-requires : goal.store-requires
 store-requires c =
-    let start = c.before.before.before.before.before.before.before.before.before.before in
-    (omega (arith, start.requires.0.0), start.requires.1, start.requires.0.1, changed_fits _ _ _ _ c.before.changed_state-wider.ensures)
+    (omega (arith, c.requires.0.0), c.requires.1, c.requires.0.1, changed_fits _ _ _ _ c.changed_state-wider.ensures)
 
 pub returns : goal.returns
 returns c =
-    let at_store = c.before.before in
-    let at-changed = at_store.before.before in
-    let at-unite = at-changed.before in
-    let at_end = at-unite.before in
-    let at_entry_lem = at_end.before.before in
-    let at_load = at_entry_lem.before.before in
-    let start = at_load.before.before.before in
-    let state = (slot_live _ _ _ at_load.load-entry.ensures _ at_entry_lem.entry-1.given.1).1 in
-    widened_by start.args.env-1.now start.args.variables start.args.x start.requires.0 start.requires.1 _ _ state _ _ at-changed.changed_state-wider.ensures at_store.store.new.0 at_store.store.auto.0 at_store.store.ensures
-    at_end.end_roots.result start.args.roots at_end.end_roots.ensures at-unite.unite-all.ensures refl
+    let state = (slot_live _ _ _ c.load-entry.ensures _ c.in-Live.is).1 in
+    widened_by c.args.env.now c.args.variables c.args.x c.requires.0 c.requires.1 _ _ state _ _ c.changed_state-wider.ensures c.store.new.env c.store.auto.env c.store.ensures
+    c.end_roots.result c.args.roots c.end_roots.ensures c.unite-all.ensures refl

@@ -11,4 +11,4 @@ returns-then-x-variables c = ap (λ (w : ℕ). eqb w 0) c.word_at.ensures ∙ fr
 
 pub returns : goal.returns
 unfolding is_free
-returns c = sym (ap is_free (slot_free _ _ (past_status _ _ c.before.before.requires _ c.if-x-variables.false)))
+returns c = sym (ap is_free (slot_free _ _ (past_status _ _ c.requires _ c.if-x-variables.false)))

@@ -6,17 +6,12 @@ use Rattle.paths.proofs.environment.level_at.Goals as goal
 
 pub returns-then-word_at-ge-LIVE : goal.returns-then-word_at-ge-LIVE
 returns-then-word_at-ge-LIVE c =
-    let at-status = c.before.before in
-    let start = at-status.before.before.before in
-    c.word_at-then-word_at-ge-LIVE.ensures ∙ sym (level_live start.args.env.now start.args.x (omega (arith, at-status.word_at.ensures, c.before.if-word_at-ge-LIVE.true)))
+    c.word_at-then-word_at-ge-LIVE.ensures ∙ sym (level_live c.args.env.now c.args.x (omega (arith, c.word_at.ensures, c.if-word_at-ge-LIVE.true)))
 
 pub returns-else-word_at-ge-LIVE : goal.returns-else-word_at-ge-LIVE
 returns-else-word_at-ge-LIVE c =
-    let at-status = c.before in
-    let start = at-status.before.before.before in
-    sym (level_not_live start.args.env.now start.args.x (omega (arith, at-status.word_at.ensures, c.if-word_at-ge-LIVE.false)))
+    sym (level_not_live c.args.env.now c.args.x (omega (arith, c.word_at.ensures, c.if-word_at-ge-LIVE.false)))
 
 pub returns-else-x-variables : goal.returns-else-x-variables
 returns-else-x-variables c =
-    let start = c.before.before in
-    sym (level_not_live start.args.env.now start.args.x (omega (arith, past_status start.args.env.now start.args.variables start.requires start.args.x c.if-x-variables.false)))
+    sym (level_not_live c.args.env.now c.args.x (omega (arith, past_status c.args.env.now c.args.variables c.requires c.args.x c.if-x-variables.false)))

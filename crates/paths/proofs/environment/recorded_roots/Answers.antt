@@ -3,4 +3,4 @@ use Rattle.variables.proofs.EndLaws.{recorded_by}
 use Rattle.paths.proofs.environment.recorded_roots.Goals as goal
 
 pub returns : goal.returns
-returns c = recorded_by _ _ _ _ c.before.borrow_end_of.ensures c.end_roots.ensures
+returns c = recorded_by _ _ _ _ c.borrow_end_of.ensures c.end_roots.ensures

@@ -2,10 +2,11 @@
 use Prim.Native.Nat.{◌-◌}
 use native.Mathlib.Omega.{arith}
 use mathlib.Core.Path.{ap, ◌∙◌}
-use mathlib.Core.Logic.{inl, inr, ⊎_elim}
+use mathlib.Core.Logic.{inl, inr}
 use Rattle.variables.specs.Chains.{as_passed}
 use Rattle.variables.proofs.ChainLaws.{last_start, last_over, last_end, last_more}
 use Rattle.variables.proofs.chains.last_shared.Goals as goal
+use Rattle.variables.proofs.chains.last_shared.Goals.{then-after-eq-SHARED, else-after-eq-SHARED}
 
 pub loop-passed-init : goal.loop-passed-init
 unfolding as_passed
@@ -28,8 +29,8 @@ loop-passed-preserved c =
     let at_rest = c.before.before in
     let at_test = at_rest.before in
     let l = at_test.before.loop-passed in (
-      last_more (as_passed l.last) l.passed at_test.before.before.args.k l.after c.without_first-after.result at_test.loop-passed-test.true at_rest.if-after-eq0.false c.without_first-after.ensures (as_passed c.before.if-after-eq-SHARED.new)
-          (⊎_elim (λ w. inl (w.0.taken, ap as_passed w.1)) (λ w. inr (w.0.left, ap as_passed w.1)) c.before.if-after-eq-SHARED.branch)
+      last_more (as_passed l.last) l.passed at_test.before.before.args.k l.after c.without_first-after.result at_test.loop-passed-test.true at_rest.if-after-eq0.false c.without_first-after.ensures (as_passed c.before.if-after-eq-SHARED.last)
+          (elim c.before.if-after-eq-SHARED.branch [ then-after-eq-SHARED w ↦ inl (w.if-after-eq-SHARED.true, ap as_passed w.last-is) | else-after-eq-SHARED w ↦ inr (w.if-after-eq-SHARED.false, ap as_passed w.last-is) ])
           ∙ l.invariant.0,
       omega (arith, at_test.loop-passed-test.true),
     )

@@ -1,5 +1,4 @@
 -- `variables::chains::leading_boxes` meets its contract. Assumes nothing.
-use Prim.Native.Nat.{◌-◌}
 use native.Mathlib.Omega.{arith}
 use Rattle.variables.proofs.ChainLaws.{boxes_more, boxes_end}
 use Rattle.variables.proofs.chains.leading_boxes.Goals as goal

@@ -1,4 +1,5 @@
 -- `variables::verdicts::fine` meets its contract. Assumes nothing.
+use native.Mathlib.Omega.{arith}
 use mathlib.Core.Path.{refl}
 use Rattle.variables.specs.Verdicts.{verdict_of, ToldAs}
 use Rattle.variables.proofs.ToldLaws.{value_told}
@@ -6,10 +7,8 @@ use Rattle.variables.proofs.verdicts.fine.Goals as goal
 
 pub returns-in-None : goal.returns-in-None
 unfolding verdict_of ToldAs
-returns-in-None c = rw c.before.enum_told-1.given.1 (refl, (refl, c.no_roots.ensures))
+returns-in-None c = rw c.in-None.is (refl, (refl, c.no_roots.ensures))
 
 pub returns-in-Of : goal.returns-in-Of
 unfolding ToldAs
-returns-in-Of c =
-    let at_value = c.before.before.before in
-    rw at_value.value-1.given.1 (value_told _ _ c.struct_known-1.given.0.fits, (refl, refl))
+returns-in-Of c = rw c.in-Of.is (value_told _ _ (omega arith), (refl, refl))

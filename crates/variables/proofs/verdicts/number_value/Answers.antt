@@ -7,4 +7,4 @@ use Rattle.variables.proofs.verdicts.number_value.Goals as goal
 
 pub returns : goal.returns
 unfolding borrow_end
-returns c = λ env i. c.value_of_lem.ensures env i ∙ rw (chain_none 0 (omega arith))
+returns c = λ env i. c.value_of.ensures env i ∙ rw (chain_none 0 (omega arith))
