@@ -5,11 +5,11 @@ use Rattle.std.proofs.Math.Option.{none, some}
 use Rattle.syntax.specs.Kinds.{wraps_of}
 use Rattle.syntax.specs.Result.{Result, ok, err, pick, ◌>>=◌}
 use Rattle.syntax.specs.Limits.{Limits, row_numbers}
-use Rattle.syntax.specs.Script.{Term, Terms, number}
+use Rattle.syntax.specs.Script.{Term, Terms}
 use Rattle.syntax.specs.Measures.{boxes_in, boxes_all}
 use Rattle.syntax.specs.RowParts.{field_at}
 use Rattle.syntax.specs.RowTrees.{RowTree, IsTree, IsRest, several_at, terms_at, tree_at}
-use Rattle.dynamics.specs.Values.{variable, empty, open_with}
+use Rattle.dynamics.specs.Values.{empty, open_with}
 use Rattle.dynamics.specs.Store.{Store, put, is_open, State, Ran, fault}
 use Rattle.dynamics.specs.Drop.{InOrder, drop_value}
 use Rattle.dynamics.specs.Run.{Outcome, run_box, run_let, run_assign, run_block_end, run, runs}

@@ -1,9 +1,22 @@
+-- How deep terms, choices and blocks may still go: the measure is four times the levels left, and more by one for an innermost term,
+-- by two for a term and by three for a block. The block's loop has the invariant `Going`, the term's two loops `Inwards` and `Outwards`.
 use Rattle.syntax.specs.Limits.{unpacked}
 use Rattle.block_runner.proofs.WrapLaws.{Inwards, Outwards}
-use Prim.Native.Nat.{◌-◌}
-use Rattle.syntax.specs.Limits.{unpacked}
 use Rattle.block_runner.proofs.BlockRunLaws.{Going}
+use Prim.Native.Nat.{◌+◌, ◌*◌, ◌-◌}
 use Rattle.block_runner.proofs.terms.+run_block_run_choice_run_inmost_run_term.Given as goal
+
+abbrev pub decreases-run_choice : goal.decreases-run_choice
+decreases-run_choice l = l.levels * 4
+
+abbrev pub decreases-run_inmost : goal.decreases-run_inmost
+decreases-run_inmost l = l.levels * 4 + 1
+
+abbrev pub decreases-run_term : goal.decreases-run_term
+decreases-run_term l = l.levels * 4 + 2
+
+abbrev pub decreases-run_block : goal.decreases-run_block
+decreases-run_block l = l.levels * 4 + 3
 
 abbrev pub invariant-run_term-loop-around : goal.invariant-run_term-loop-around
 invariant-run_term-loop-around l = Inwards (unpacked l.sizes) l.rows l.i l.levels l.readings l.store l.opened l.count l.taken l.around

@@ -9,10 +9,10 @@ use Rattle.signed.proofs.signed.sum_bits.Goals as goal
 pub returns : goal.returns
 unfolding held_sum
 returns c =
-    let a = c.before.before.before.number_of_lem in
-    let b = c.before.before.number_of-2 in
-    let s = c.before.held_sum in
-    let fa : SFits w32 a.result = record { sfits = a.type-inv } in
-    let fb : SFits w32 b.result = record { sfits = b.type-inv } in
-    let fs : SFits w32 s.result = record { sfits = s.type-inv } in
+    let a = c.number_of in
+    let b = c.number_of-2 in
+    let s = c.held_sum in
+    let fa : SFits w32 a.result = record { sfits = a.type_inv } in
+    let fb : SFits w32 b.result = record { sfits = b.type_inv } in
+    let fs : SFits w32 s.result = record { sfits = s.type_inv } in
     c.bits_of.ensures ∙ rw (to_z-of_z fs, s.ensures, to_z-of_z fa, to_z-of_z fb, a.ensures, b.ensures)

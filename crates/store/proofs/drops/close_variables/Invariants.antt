@@ -1,6 +1,5 @@
 use Rattle.syntax.specs.Limits.{unpacked}
 use Rattle.store.proofs.CellLaws.{Closing}
-use Prim.Native.Nat.{◌-◌}
 use Rattle.store.proofs.drops.close_variables.Given as goal
 
 abbrev pub invariant-loop-left : goal.invariant-loop-left

@@ -2,7 +2,6 @@
 use Rattle.store.proofs.WordLaws.{all_zero, zero_more}
 use native.Mathlib.Omega.{arith}
 use mathlib.Core.Path.{refl}
-use Prim.Native.Nat.{◌-◌}
 use lib.ListN.{length-set}
 use Rattle.store.proofs.store.clear.Goals as goal
 

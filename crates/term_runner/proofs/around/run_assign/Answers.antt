@@ -4,13 +4,10 @@ use native.Mathlib.Omega.{arith}
 use Rattle.term_runner.proofs.around.run_assign.Goals as goal
 
 pub returns-then-inner-ne-NO_FAULT : goal.returns-then-inner-ne-NO_FAULT
-returns-then-inner-ne-NO_FAULT c = assign_stops _ _ _ _ _ _ c.if-inner-ne-NO_FAULT.true c.before.before.before.requires.0.tidy
+returns-then-inner-ne-NO_FAULT c = assign_stops _ _ _ _ _ _ c.if-inner-ne-NO_FAULT.true c.requires.0.tidy
 
 pub assign_place-fault-requires : goal.assign_place-fault-requires
-assign_place-fault-requires c = (c.before.before.before.before.before.before.requires.0.tidy, omega (arith, c.before.before.before.before.before.before.requires.1, c.before.index_of.ensures), (c.before.before.before.before.before.before.requires.0.fine c.before.before.before.if-inner-ne-NO_FAULT.false).sound)
-
-pub shape_of-store : goal.shape_of-store
-shape_of-store c = c.before.before.before.assign_place-fault.auto.1.0
+assign_place-fault-requires c = (c.requires.0.tidy, omega (arith, c.requires.1, c.index_of.ensures), (c.requires.0.fine c.if-inner-ne-NO_FAULT.false).sound)
 
 pub returns : goal.returns
-returns c = rw (← c.before.before.before.before.before.index_of.ensures, ← c.before.before.before.before.index_of-2.ensures) (assign_goes _ _ _ _ _ _ c.before.before.before.before.before.before.before.if-inner-ne-NO_FAULT.false (c.before.before.before.before.before.before.before.before.before.before.requires.0.fine c.before.before.before.before.before.before.before.if-inner-ne-NO_FAULT.false).ordered _ _ c.before.before.before.assign_place-fault.ensures _ c.without_value.ensures)
+returns c = rw (← c.index_of.ensures, ← c.index_of-2.ensures) (assign_goes _ _ _ _ _ _ c.if-inner-ne-NO_FAULT.false (c.requires.0.fine c.if-inner-ne-NO_FAULT.false).ordered _ _ c.assign_place-fault.ensures _ c.without_value.ensures)

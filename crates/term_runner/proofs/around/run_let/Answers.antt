@@ -7,28 +7,25 @@ use mathlib.Core.Path.{refl}
 use Rattle.term_runner.proofs.around.run_let.Goals as goal
 
 pub returns-then-inner-ne-NO_FAULT : goal.returns-then-inner-ne-NO_FAULT
-returns-then-inner-ne-NO_FAULT c = let_stops _ _ _ _ _ _ c.if-inner-ne-NO_FAULT.true c.before.before.before.before.requires.ready.tidy
+returns-then-inner-ne-NO_FAULT c = let_stops _ _ _ _ _ _ c.if-inner-ne-NO_FAULT.true c.requires.ready.tidy
 
 pub load-here-requires : goal.load-here-requires
-load-here-requires c = (c.before.before.before.before.before.requires.ready.tidy, omega (arith, c.before.before.before.before.before.requires.variable))
+load-here-requires c = (c.requires.ready.tidy, omega (arith, c.requires.variable))
 
 pub returns-then-here-eq-OPEN : goal.returns-then-here-eq-OPEN
-returns-then-here-eq-OPEN c = let_open _ _ _ _ _ _ c.before.before.before.before.before.if-inner-ne-NO_FAULT.false c.before.before.before.before.before.before.before.before.before.requires.variable _ c.before.before.before.load-here.ensures c.before.if-here-eq-OPEN.true c.before.before.before.before.before.before.before.before.before.requires.ready.tidy _ c.without_value.ensures
+returns-then-here-eq-OPEN c = let_open _ _ _ _ _ _ c.if-inner-ne-NO_FAULT.false c.requires.variable _ c.load-here.ensures c.if-here-eq-OPEN.true c.requires.ready.tidy _ c.without_value.ensures
 
 pub put_row-requires : goal.put_row-requires
-put_row-requires c = (c.before.before.before.before.before.before.before.before.before.requires.ready.tidy, omega (arith, c.before.before.before.before.before.before.before.before.before.requires.variable), open_row _ _ _ (c.before.before.before.before.before.before.before.before.before.requires.ready.fine c.before.before.before.before.before.if-inner-ne-NO_FAULT.false).sound)
+put_row-requires c = (c.requires.ready.tidy, omega (arith, c.requires.variable), open_row _ _ _ (c.requires.ready.fine c.if-inner-ne-NO_FAULT.false).sound)
 
 pub overflow_cast-opened : goal.overflow_cast-opened
-overflow_cast-opened c = omega (arith, c.before.before.before.before.before.before.before.before.before.before.before.before.requires.variable, (ranged _ c.before.before.before.before.before.before.before.before.before.before.before.before.requires.ready.tidy.ranges).variables)
+overflow_cast-opened c = omega (arith, c.requires.variable, (ranged _ c.requires.ready.tidy.ranges).variables)
 
 pub bounds-opened-at : goal.bounds-opened-at
-bounds-opened-at c = omega (arith, c.before.before.before.before.before.before.before.before.before.before.before.before.requires.few c.before.before.before.before.before.before.before.before.if-inner-ne-NO_FAULT.false)
+bounds-opened-at c = omega (arith, c.requires.few c.if-inner-ne-NO_FAULT.false)
 
 pub overflow_add-result : goal.overflow_add-result
-overflow_add-result c = omega (arith, c.before.before.before.before.before.before.before.before.before.before.before.before.before.requires.few c.before.before.before.before.before.before.before.before.before.if-inner-ne-NO_FAULT.false)
-
-pub shape_of-store : goal.shape_of-store
-shape_of-store c = c.before.before.before.put_row.auto.1.0
+overflow_add-result c = omega (arith, c.requires.few c.if-inner-ne-NO_FAULT.false)
 
 pub returns : goal.returns
-returns c = let_goes _ _ _ _ _ _ c.before.before.before.before.before.before.before.before.before.if-inner-ne-NO_FAULT.false c.before.before.before.before.before.before.before.before.before.before.before.before.before.requires.variable _ c.before.before.before.before.before.before.before.load-here.ensures c.before.before.before.before.before.if-here-eq-OPEN.false (c.before.before.before.before.before.before.before.before.before.before.before.before.before.requires.few c.before.before.before.before.before.before.before.before.before.if-inner-ne-NO_FAULT.false) _ c.before.before.before.put_row.ensures _ refl
+returns c = let_goes _ _ _ _ _ _ c.if-inner-ne-NO_FAULT.false c.requires.variable _ c.load-here.ensures c.if-here-eq-OPEN.false (c.requires.few c.if-inner-ne-NO_FAULT.false) _ c.put_row.ensures _ refl

@@ -7,12 +7,12 @@ use Rattle.term_runner.proofs.plain.paired.Goals as goal
 
 pub returns-then-kind-eq-SUM : goal.returns-then-kind-eq-SUM
 unfolding pair_of
-returns-then-kind-eq-SUM c = c.sum_bits.ensures ∙ rw (eq-eqb _ _ c.before.if-kind-eq-SUM.true)
+returns-then-kind-eq-SUM c = c.sum_bits.ensures ∙ rw (eq-eqb _ _ c.if-kind-eq-SUM.true)
 
 pub returns-then-raised : goal.returns-then-raised
 unfolding pair_of compared less
-returns-then-raised c = rw (ne_eqb _ _ c.before.before.before.if-kind-eq-SUM.false, ← c.before.before.raised.ensures, ← c.before.raised-2.ensures, lt-ltb _ _ c.if-raised.true)
+returns-then-raised c = rw (ne_eqb _ _ c.if-kind-eq-SUM.false, ← c.raised.ensures, ← c.raised-2.ensures, lt-ltb _ _ c.if-raised.true)
 
 pub returns : goal.returns
 unfolding pair_of compared less
-returns c = rw (ne_eqb _ _ c.before.before.before.if-kind-eq-SUM.false, ← c.before.before.raised.ensures, ← c.before.raised-2.ensures, le-ltb _ _ c.if-raised.false)
+returns c = rw (ne_eqb _ _ c.if-kind-eq-SUM.false, ← c.raised.ensures, ← c.raised-2.ensures, le-ltb _ _ c.if-raised.false)

@@ -12,6 +12,6 @@ use Rattle.term_runner.proofs.plain.reading_bits.Goals as goal
 pub returns : goal.returns
 unfolding bits_of
 returns c =
-    let e = get_or c.before.before.args.readings.now c.before.before.args.n (pos 0) in
+    let e = get_or c.args.readings.now c.args.n (pos 0) in
     let h : SFits w32 e = search rules in
     c.bits_of.ensures ∙ rw (to_z-of_z h)

@@ -1,7 +1,6 @@
 -- `term_runner::skip::after_term` meets its contract. The loop's invariant is `Passing`: what is still to pass leads to the row after the term. Assumes nothing.
 use Rattle.term_runner.proofs.SkipLaws.{passing_starts, passing_ends, passing_room, passing_goes, passing_few}
 use native.Mathlib.Omega.{arith}
-use Prim.Native.Nat.{◌-◌}
 use Rattle.term_runner.proofs.skip.after_term.Goals as goal
 
 pub loop-left-init : goal.loop-left-init
