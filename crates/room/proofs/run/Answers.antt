@@ -7,13 +7,13 @@ use Rattle.room.proofs.run.Goals as goal
 
 pub returns-then-number-ne0 : goal.returns-then-number-ne0
 returns-then-number-ne0 c =
-    let e = run_unfit _ _ c.before.before.before.before.args.readings.now _ _ (unfit _ c.before.before.before.before.args.rows.now c.before.before.before.before.args.readings.now c.before.before.before.before.args.store.now _ c.before.fit_number-number.ensures c.if-number-ne0.true) in
-    record { answered = e; safe = safe_run _ _ _ _ (under_words c.before.before.before.before.args.rows.now c.before.before.before.shared_slice_known-1.given) _ _ e }
+    let e = run_unfit _ _ c.args.readings.now _ _ (unfit _ c.args.rows.now c.args.readings.now c.args.store.now _ c.fit_number-number.ensures c.if-number-ne0.true) in
+    record { answered = e; safe = safe_run _ _ _ _ (under_words c.args.rows.now c.shared_slice_known-1.given) _ _ e }
 
 pub run_checked-requires : goal.run_checked-requires
 run_checked-requires c =
-    let fit = all_fit _ c.before.before.before.before.before.before.args.rows.now c.before.before.before.before.before.before.args.readings.now c.before.before.before.before.before.before.args.store.now _ c.before.before.before.fit_number-number.ensures c.before.before.if-number-ne0.false in
-    (c.before.check-checked.ensures, fit.eight, fit.size)
+    let fit = all_fit _ c.args.rows.now c.args.readings.now c.args.store.now _ c.fit_number-number.ensures c.if-number-ne0.false in
+    (c.check-checked.ensures, fit.eight, fit.size)
 
 pub returns : goal.returns
-returns c = record { answered = c.before.before.run_checked.ensures; safe = safe_run _ _ _ _ (under_words c.before.before.before.before.before.before.before.before.before.args.rows.now c.before.before.before.before.before.before.before.before.shared_slice_known-1.given) _ _ c.before.before.run_checked.ensures }
+returns c = record { answered = c.run_checked.ensures; safe = safe_run _ _ _ _ (under_words c.args.rows.now c.shared_slice_known-1.given) _ _ c.run_checked.ensures }

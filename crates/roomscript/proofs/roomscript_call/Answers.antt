@@ -5,5 +5,5 @@ use Rattle.roomscript.proofs.roomscript_call.Goals as goal
 
 pub returns : goal.returns
 returns c =
-    let called = c.before.before.before.before.before.call.ensures in
+    let called = c.call.ensures in
     (rw c.c_called.ensures (ap (in_c called_in) called.0), (_, c.c_called.ensures, called.1))

@@ -4,4 +4,4 @@ use Rattle.c_answers.specs.Answers.{terms_in}
 use Rattle.roomscript.proofs.roomscript_check.Goals as goal
 
 pub returns : goal.returns
-returns c = c.c_checked.ensures ∙ ap terms_in c.before.check.ensures
+returns c = c.c_checked.ensures ∙ ap terms_in c.check.ensures

@@ -4,4 +4,4 @@ use Rattle.c_answers.specs.Answers.{terms_in}
 use Rattle.roomscript.proofs.roomscript_judge_rows.Goals as goal
 
 pub returns : goal.returns
-returns c = c.c_terms.ensures ∙ ap terms_in c.before.judge_rows.ensures
+returns c = c.c_terms.ensures ∙ ap terms_in c.judge_rows.ensures

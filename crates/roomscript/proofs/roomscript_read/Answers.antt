@@ -4,4 +4,4 @@ use Rattle.c_answers.specs.Answers.{script_in, in_c}
 use Rattle.roomscript.proofs.roomscript_read.Goals as goal
 
 pub returns : goal.returns
-returns c = rw c.c_script.ensures (ap (in_c script_in) c.before.before.before.read.ensures)
+returns c = rw c.c_script.ensures (ap (in_c script_in) c.read.ensures)

@@ -5,5 +5,5 @@ use Rattle.roomscript.proofs.roomscript_run.Goals as goal
 
 pub returns : goal.returns
 returns c =
-    let ran = c.before.before.before.run.ensures in
+    let ran = c.run.ensures in
     (rw c.c_ran.ensures (ap (in_c ran_in) ran.0), (_, c.c_ran.ensures, ran.1))

@@ -6,5 +6,5 @@ use Rattle.program.proofs.line.put_refused.Goals as goal
 pub returns : goal.returns
 unfolding line_of
 returns c =
-    let two = put_next _ _ _ _ _ _ _ _ c.before.before.before.before.before.before.before.before.before.before.before.before.put_labelled-a.ensures.put c.before.before.before.before.before.before.before.put_labelled-b.ensures.put in
-    record { put = put_next _ _ _ _ _ _ _ _ two c.before.before.put_text.ensures; within = omega arith }
+    let two = put_next _ _ _ _ _ _ _ _ c.put_labelled-a.ensures.put c.put_labelled-b.ensures.put in
+    record { put = put_next _ _ _ _ _ _ _ _ two c.put_text.ensures; within = omega arith }

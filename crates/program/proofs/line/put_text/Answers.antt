@@ -16,7 +16,7 @@ pub overflow_add-line : goal.overflow_add-line
 overflow_add-line c = omega arith
 
 pub bounds-line-at : goal.bounds-line-at
-bounds-line-at c = omega (arith, ap length c.before.before.loop-i.invariant.1, length-sets c.before.before.before.args.line.now c.before.before.before.args.at (take c.before.before.loop-i.i c.before.before.before.args.text.now))
+bounds-line-at c = omega (arith, ap length c.loop-i.invariant.1, length-sets c.args.line.now c.args.at (take c.loop-i.i c.args.text.now))
 
 pub overflow_add-i : goal.overflow_add-i
 overflow_add-i c = omega arith
@@ -25,13 +25,13 @@ pub loop-i-smaller : goal.loop-i-smaller
 loop-i-smaller c = omega arith
 
 pub loop-i-preserved : goal.loop-i-preserved
-loop-i-preserved c = (omega arith, text_put _ _ _ _ _ c.before.loop-i-test.true c.before.before.loop-i.invariant.1 (length-take-le _ _ (omega arith)))
+loop-i-preserved c = (omega arith, text_put _ _ _ _ _ c.loop-i-test.true c.loop-i.invariant.1 (length-take-le _ _ (omega arith)))
 
 pub overflow_add-result : goal.overflow_add-result
 overflow_add-result c = omega arith
 
 pub shape_of-line : goal.shape_of-line
-shape_of-line c = ap length c.before.loop-i.invariant.1 ∙ length-sets c.before.before.args.line.now c.before.before.args.at (take c.before.loop-i.i c.before.before.args.text.now)
+shape_of-line c = ap length c.loop-i.invariant.1 ∙ length-sets c.args.line.now c.args.at (take c.loop-i.i c.args.text.now)
 
 pub returns : goal.returns
-returns c = text_all _ _ _ _ _ (omega arith) (omega arith) c.before.loop-i.invariant.1
+returns c = text_all _ _ _ _ _ (omega arith) (omega arith) c.loop-i.invariant.1

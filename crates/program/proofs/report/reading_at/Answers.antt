@@ -13,17 +13,17 @@ use Rattle.program.proofs.report.reading_at.Goals as goal
 
 pub returns-then-input-lt4 : goal.returns-then-input-lt4
 unfolding reading_at
-returns-then-input-lt4 c = rw (lt-leb (c.before.before.args.at + 4) (length c.before.before.args.input.now) (omega (arith, c.if-input-lt4.true))) refl
+returns-then-input-lt4 c = rw (lt-leb (c.args.at + 4) (length c.args.input.now) (omega (arith, c.if-input-lt4.true))) refl
 
 pub returns-then-input-at : goal.returns-then-input-at
 unfolding reading_at
-returns-then-input-at c = rw (lt-leb (c.before.before.before.args.at + 4) (length c.before.before.before.args.input.now) (omega (arith, c.before.if-input-lt4.false, c.if-input-at.true))) refl
+returns-then-input-at c = rw (lt-leb (c.args.at + 4) (length c.args.input.now) (omega (arith, c.if-input-lt4.false, c.if-input-at.true))) refl
 
 pub word_at-requires : goal.word_at-requires
-word_at-requires c = omega (arith, c.before.if-input-lt4.false, c.if-input-at.false)
+word_at-requires c = omega (arith, c.if-input-lt4.false, c.if-input-at.false)
 
 pub returns : goal.returns
 unfolding reading_at
 returns c =
     let h : SFits w32 c.number_of_lem.result = search rules in
-    rw (le-leb (c.before.before.before.before.before.args.at + 4) (length c.before.before.before.before.before.args.input.now) (omega (arith, c.before.before.before.if-input-lt4.false, c.before.before.if-input-at.false)), ← c.before.word_at.ensures) (to_z-of_z h ∙ c.number_of_lem.ensures)
+    rw (le-leb (c.args.at + 4) (length c.args.input.now) (omega (arith, c.if-input-lt4.false, c.if-input-at.false)), ← c.word_at.ensures) (to_z-of_z h ∙ c.number_of_lem.ensures)

@@ -6,4 +6,4 @@ use Rattle.program.proofs.report.report_base.Goals as goal
 
 pub returns : goal.returns
 unfolding base row_numbers store_numbers zeros
-returns c = record { answered = report_base _ _ _ _ _ _ _ _ c.before.before.report.ensures.answered refl refl; within = c.before.before.report.ensures.within }
+returns c = record { answered = report_base _ _ _ _ _ _ _ _ c.report.ensures.answered refl refl; within = c.report.ensures.within }
