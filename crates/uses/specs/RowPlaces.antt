@@ -1,6 +1,5 @@
 -- The places in a row as the code has them, and rows of terms around an inner term. No rule of the language is stated here.
 use Rattle.std.specs.Prelude.{ℕ, ◌+◌, ◌*◌, ◌≤◌, ◌<◌, ◌≡◌, true, List, length}
-use Rattle.syntax.specs.Script.{Place}
 use Rattle.syntax.specs.Kinds.{wraps_of}
 use Rattle.syntax.specs.RowParts.{field_at}
 use Rattle.variables.specs.declared.table.Place as table

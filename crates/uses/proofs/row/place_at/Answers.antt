@@ -2,4 +2,4 @@
 use Rattle.uses.proofs.row.place_at.Goals as goal
 
 pub returns : goal.returns
-returns c = rw (c.before.field_at.ensures, c.field_at-2.ensures)
+returns c = rw (c.field_at.ensures, c.field_at-2.ensures)

@@ -5,33 +5,31 @@ use Rattle.uses.proofs.FoundUses.{naming_kinds, same_kind, other_kinds}
 use Rattle.uses.proofs.uses.names_first.Goals as goal
 
 pub returns-in-3 : goal.returns-in-3
-returns-in-3 c = same_kind c.in-3.keys1 naming_kinds.0
+returns-in-3 c = same_kind c.in-3.is naming_kinds.0
 
 pub returns-in-4 : goal.returns-in-4
-returns-in-4 c = same_kind c.in-4.keys2 naming_kinds.1
+returns-in-4 c = same_kind c.in-4.is naming_kinds.1
 
 pub returns-in-5 : goal.returns-in-5
-returns-in-5 c = same_kind c.in-5.keys3 naming_kinds.2
+returns-in-5 c = same_kind c.in-5.is naming_kinds.2
 
 pub returns-in-6 : goal.returns-in-6
-returns-in-6 c = same_kind c.in-6.keys4 naming_kinds.3
+returns-in-6 c = same_kind c.in-6.is naming_kinds.3
 
 pub returns-in-8 : goal.returns-in-8
-returns-in-8 c = same_kind c.in-8.keys5 naming_kinds.4
+returns-in-8 c = same_kind c.in-8.is naming_kinds.4
 
 pub returns-in-9 : goal.returns-in-9
-returns-in-9 c = same_kind c.in-9.keys6 naming_kinds.5
+returns-in-9 c = same_kind c.in-9.is naming_kinds.5
 
 pub returns-in-10 : goal.returns-in-10
-returns-in-10 c = same_kind c.in-10.keys7 naming_kinds.6
+returns-in-10 c = same_kind c.in-10.is naming_kinds.6
 
 pub returns-in-12 : goal.returns-in-12
-returns-in-12 c = same_kind c.in-12.keys8 naming_kinds.7
+returns-in-12 c = same_kind c.in-12.is naming_kinds.7
 
 pub returns-in-13 : goal.returns-in-13
-returns-in-13 c = same_kind c.in-13.keys9 naming_kinds.8
+returns-in-13 c = same_kind c.in-13.is naming_kinds.8
 
 pub returns-in_default : goal.returns-in_default
-returns-in_default c =
-    let r = c.in_default.rest in
-    other_kinds _ (⊎_elim (λ h. omega (arith, h, r.0.0.0.0.0)) (λ h. ⊎_elim (λ k. omega (arith, k, r.0.0.0.0.1, r.0.0.0.1)) r.0.1 h)) (λ h. ⊎_elim r.0.0.1 r.1 h)
+returns-in_default c = other_kinds _ (λ h. ⊎_elim (λ k. omega arith) (λ k. ⊎_elim (λ l. omega arith) (λ l. omega arith) k) h) (λ h. ⊎_elim (λ k. omega arith) (λ k. omega arith) h)
