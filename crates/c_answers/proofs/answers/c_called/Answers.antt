@@ -11,7 +11,7 @@ use Rattle.c_answers.proofs.answers.c_called.Goals as goal
 pub returns-in-Answered : goal.returns-in-Answered
 unfolding called_in told_call
 returns-in-Answered c =
-    let h : SFits w32 c.called-1.given.0.1.0 = search rules in
+    let h : SFits w32 c.in-Answered.answer = search rules in
     rw (c.in-Answered.is, to_z-of_z h) refl
 
 pub returns-in-Refused : goal.returns-in-Refused

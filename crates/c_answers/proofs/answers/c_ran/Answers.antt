@@ -11,7 +11,7 @@ use Rattle.c_answers.proofs.answers.c_ran.Goals as goal
 pub returns-in-Answered : goal.returns-in-Answered
 unfolding ran_in told_run
 returns-in-Answered c =
-    let h : SFits w32 c.ran-1.given.0.0 = search rules in
+    let h : SFits w32 c.in-Answered.answer = search rules in
     rw (c.in-Answered.is, to_z-of_z h) refl
 
 pub returns-in-Refused : goal.returns-in-Refused
