@@ -38,7 +38,7 @@ fn missing(archive: &Path, is_named: bool) -> String {
     let remedy = if is_named {
         format!("{FOLDER} names its folder: put the archive there, or unset the variable")
     } else {
-        "make it at the repository root with: rt staticlib roomscript".to_owned()
+        "make it at the repository root with: bash tools/build roomscript".to_owned()
     };
     format!("{archive} is missing; {remedy}")
 }

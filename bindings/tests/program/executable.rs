@@ -19,7 +19,7 @@ pub fn executable() -> PathBuf {
     let path = root().join("target").join("bin").join("roomcheck");
     assert!(
         path.is_file(),
-        "target/bin/roomcheck is missing; make it at the repository root with: rt check roomcheck"
+        "target/bin/roomcheck is missing; make it at the repository root with: bash tools/build roomcheck"
     );
     path
 }
