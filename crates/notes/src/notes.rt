@@ -50,6 +50,7 @@ fn add_member(env: &mut [u64], row: usize, x: usize)
 }
 
 // Notes that the first borrow link of x is exclusive, if it is (LANGUAGE 3.11).
+#[tactic(auto, using(crate::proofs::NoteLaws::exclusive_noted, crate::proofs::NoteLaws::exclusive_not))]
 fn note_exclusive(env: &mut [u64], variables: usize, x: usize, end: BorrowEnd)
     requires { (variables * 8 + 16 ≤ length env.old) × (x < 128) }
     ensures { ExclusiveNoted variables env.old x end env.new }
