@@ -21,13 +21,12 @@ write_beyond-requires c =
 
 pub returns-in-Refused : goal.returns-in-Refused
 unfolding judge_write as_value valued ◌>>=◌
-returns-in-Refused c =
-    (
-      λ i.
-          let refused = located_as _ _ _ _ _ _ (c.judge_place-located.ensures i) c.in-Refused.is in
-          told_refused _ _ c.refused-in-Refused.ensures.0 _ i ∙ rw (c.in-Of.is, refused) refl,
-      c.requires.0,
-    )
+returns-in-Refused c = (
+  λ i.
+      let refused = located_as _ _ _ _ _ _ (c.judge_place-located.ensures i) c.in-Refused.is in
+      told_refused _ _ c.refused-in-Refused.ensures.0 _ i ∙ rw (c.in-Of.is, refused) refl,
+  c.requires.0,
+)
 
 pub returns-in-Own : goal.returns-in-Own
 returns-in-Own c =
@@ -38,4 +37,3 @@ pub returns-in-At : goal.returns-in-At
 returns-in-At c =
     let is-of = c.in-Of.is in
     (λ i. rw is-of (c.write_beyond.ensures.0 i), c.write_beyond.ensures.1)
-

@@ -11,4 +11,3 @@ returns-then-barred c = λ env i. rw c.if-barred.true (told_refused _ _ c.refuse
 pub returns : goal.returns
 unfolding need as_value ◌>>=◌
 returns c = λ env i. rw c.if-barred.false (told_fine _ _ c.fine.ensures.0 env i)
-

@@ -4,14 +4,9 @@ use native.Mathlib.Omega.{arith}
 use mathlib.Core.Path.{◌≡◌, refl, sym, ap, ◌∙◌}
 use mathlib.Core.Bool.{Bool, true, false}
 use mathlib.Core.List.{List}
-use lib.Dec.{leb}
-use borrow.Author.Tests.{not-true, not-false}
-use Rattle.syntax.specs.Script.{Place}
 use Rattle.variables.specs.declared.roots.Roots.{Roots}
-use Rattle.statics.specs.Places.{every}
 use Rattle.statics.specs.Environment.{level_of}
-use Rattle.statics.specs.Roots.{lengths, places_of}
-use Rattle.variables.specs.Masks.{has}
+use Rattle.statics.specs.Roots.{lengths}
 use Rattle.variables.specs.Table.{environment_of, long_at}
 use Rattle.variables.proofs.MaskLaws.{one_out}
 use Rattle.paths.proofs.EveryRoot.{every_holds, every_over, every_fails, every_on}
@@ -61,4 +56,3 @@ pub returns : goal.returns
 returns c =
     let env = c.args.env.now in
     λ m k. sym (every_over c.args.variables (outlives env c.args.roots m) (lengths (environment_of env)) k c.loop-roots.left (sym c.is_empty-in-loop-roots.ensures ∙ c.loop-roots-test.false)) ∙ c.loop-roots.invariant.1 m k
-

@@ -1,7 +1,6 @@
 -- `assigns::assign::widen_all` meets its contract. The loop: the variables that are not left are widened, all others as before. Assumes nothing.
 use native.Mathlib.Omega.{arith}
 use mathlib.Core.Path.{refl, sym, ◌∙◌}
-use borrow.Author.Tests.{not-true, not-false}
 use Rattle.variables.proofs.MaskLaws.{one_out}
 use Rattle.rules.proofs.WriteLaws.{widening_first, widening_next, widening_over}
 use Rattle.assigns.proofs.assign.widen_all.Goals as goal
@@ -27,4 +26,3 @@ shape_of-env c = c.loop-roots.invariant.1
 
 pub returns : goal.returns
 returns c = (widening_over _ _ _ _ _ (sym c.is_empty.ensures ∙ c.loop-roots-test.false) c.loop-roots.invariant.2, c.loop-roots.invariant.0)
-

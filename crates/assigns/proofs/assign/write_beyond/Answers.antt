@@ -2,7 +2,6 @@
 use mathlib.Core.Path.{◌≡◌, sym, ◌∙◌}
 use mathlib.Core.Bool.{true}
 use lib.ListN.{take}
-use borrow.Author.Tests.{not-true, not-false}
 use Rattle.statics.specs.Links.{no_shared}
 use Rattle.variables.specs.Chains.{chain_of}
 use Rattle.variables.specs.Verdicts.{as_value}
@@ -29,12 +28,11 @@ live_long_enough-requires c =
     (c.requires.0.0, (c.requires.1 0).low)
 
 pub returns-then-not-live_long_enough : goal.returns-then-not-live_long_enough
-returns-then-not-live_long_enough c =
-    (
-      λ i. told_refused _ _ c.refused-then-not-live_long_enough.ensures.0 _ i
-          ∙ sym (lives_too_short _ _ _ c.requires.0.1.1 i _ _ _ _ (c.requires.1 i) _ (passed (goal.at.returns-then-not-live_long_enough c).Else-not-no_shared) c.if-rest-of.false _ (c.recorded_roots-roots.ensures c.args.env.now) c.live_long_enough.result c.live_long_enough.ensures (c.if-not-live_long_enough.true)),
-      c.requires.0.0,
-    )
+returns-then-not-live_long_enough c = (
+  λ i. told_refused _ _ c.refused-then-not-live_long_enough.ensures.0 _ i
+      ∙ sym (lives_too_short _ _ _ c.requires.0.1.1 i _ _ _ _ (c.requires.1 i) _ (passed (goal.at.returns-then-not-live_long_enough c).Else-not-no_shared) c.if-rest-of.false _ (c.recorded_roots-roots.ensures c.args.env.now) c.live_long_enough.result c.live_long_enough.ensures (c.if-not-live_long_enough.true)),
+  c.requires.0.0,
+)
 
 pub write_to-requires : goal.write_to-requires
 write_to-requires c =
@@ -42,10 +40,8 @@ write_to-requires c =
 
 pub returns : goal.returns
 unfolding as_value
-returns c =
-    (
-      λ i. told_fine _ _ c.fine.ensures.0 _ i
-          ∙ sym (written _ _ _ c.requires.0.1.1 i _ _ _ _ (c.requires.1 i) _ (passed (goal.at.returns c).Else-not-no_shared) c.if-rest-of.false _ (c.recorded_roots-roots.ensures c.args.env.now) c.live_long_enough.result c.live_long_enough.ensures c.if-not-live_long_enough.false _ c.write_to.ensures.0),
-      c.write_to.ensures.1,
-    )
-
+returns c = (
+  λ i. told_fine _ _ c.fine.ensures.0 _ i
+      ∙ sym (written _ _ _ c.requires.0.1.1 i _ _ _ _ (c.requires.1 i) _ (passed (goal.at.returns c).Else-not-no_shared) c.if-rest-of.false _ (c.recorded_roots-roots.ensures c.args.env.now) c.live_long_enough.result c.live_long_enough.ensures c.if-not-live_long_enough.false _ c.write_to.ensures.0),
+  c.write_to.ensures.1,
+)

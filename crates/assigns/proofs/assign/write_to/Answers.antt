@@ -25,4 +25,3 @@ returns-else-is_empty-2 c =
     let low : c.without.result.low < 2 ^ 64 = omega arith in
     let high : rest.high < 2 ^ 64 = omega arith in
     (written_several _ _ _ _ _ c.requires.1 rest _ c.lowest-x.ensures.0 c.without.ensures low high (sym c.is_empty-2.ensures ∙ c.if-is_empty-2.false) c.widen_all.ensures.0, c.widen_all.ensures.1)
-

@@ -1,6 +1,5 @@
 -- `rules::rules::begin_let` meets its contract. Assumes nothing.
 use mathlib.Core.Path.{sym, ◌∙◌}
-use borrow.Author.Tests.{not-true, not-false}
 use Rattle.syntax.specs.Result.{need, ◌>>=◌}
 use Rattle.rules.specs.RuleAnswers.{begun}
 use Rattle.rules.proofs.rules.begin_let.Goals as goal
@@ -18,4 +17,3 @@ pub returns : goal.returns
 unfolding begun need ◌>>=◌
 returns c =
     (rw (← c.is_free.ensures, c.if-not-is_free.false, c.take_number.ensures.0), c.take_number.ensures.1)
-

@@ -17,4 +17,3 @@ pub returns-else-is_number : goal.returns-else-is_number
 unfolding as_requirement as_value need
 returns-else-is_number c =
     λ nv env. rw (c.in-Of.is, ← c.is_number.ensures, c.if-is_number.false)
-

@@ -23,4 +23,3 @@ returns c =
     λ i ns first second.
     rw (number_at _ i (c.judge_number-left.ensures i ns first) c.in_default.is, number_at _ i (c.judge_number-right.ensures i ns second) c.in_default-right.is)
     (c.number_value.ensures _ i)
-

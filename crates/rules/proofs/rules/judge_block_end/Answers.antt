@@ -1,6 +1,5 @@
 -- `rules::rules::judge_block_end` meets its contract. Assumes nothing.
 use mathlib.Core.Path.{ap, ◌∙◌}
-use borrow.Author.Tests.{not-true, not-false}
 use Rattle.syntax.specs.Result.{need, ◌>>=◌}
 use Rattle.statics.specs.Rules.{judge_block_end}
 use Rattle.variables.specs.Verdicts.{answered_as}
@@ -23,4 +22,3 @@ returns c =
     let long = value_lives _ c.args.variables _ _ _ _ c.roots_in.ensures c.lives_at.ensures ∙ c.if-not-lives_at.false in
     let left = c.leave_blocks.ensures.0 _ c.requires.1 in
     (λ i. ap (answered_as _ i) c.fine.ensures.0 ∙ block_left _ _ c.leave_blocks.ensures.2 _ _ i _ long left, c.leave_blocks.ensures.1)
-

@@ -15,4 +15,3 @@ pub returns : goal.returns
 unfolding judge_box as_value valued borrow_end leading_boxes ◌>>=◌
 returns c =
     λ nv env i. rw c.in-Of.is (c.longer_value.ensures env i)
-

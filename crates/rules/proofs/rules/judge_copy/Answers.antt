@@ -1,15 +1,12 @@
 -- `rules::rules::judge_copy` meets its contract. Assumes nothing.
 use Prim.Native.Nat.{ℕ}
 use mathlib.Core.Path.{◌≡◌, sym, ◌∙◌}
-use mathlib.Core.Bool.{true, false}
-use borrow.Author.Tests.{not-true, not-false}
+use mathlib.Core.Bool.{true}
 use Rattle.syntax.specs.Result.{◌>>=◌}
-use Rattle.statics.specs.Links.{is_number, copies}
 use Rattle.statics.specs.Follow.{value_whole}
 use Rattle.statics.specs.Uses.{Unfinished}
 use Rattle.statics.specs.Bars.{read_barred}
 use Rattle.statics.specs.Rules.{judge_copy}
-use Rattle.variables.specs.Chains.{chain_of}
 use Rattle.variables.specs.Table.{environment_of, as_place}
 use Rattle.rules.specs.RuleAnswers.{Named, Read}
 use Rattle.variables.proofs.ToldLaws.{told_refused}
@@ -61,4 +58,3 @@ pub returns-else-is_number : goal.returns-else-is_number
 returns-else-is_number c =
     λ i ns barred. c.value_of.ensures _ i
     ∙ sym (copy_lent _ _ c.requires i _ (read (goal.at.returns-else-is_number c).In-Rest i ns barred) _ c.index_of.ensures _ c.index_of-in-Rest.ensures (sym c.is_copied.ensures ∙ c.if-not-is_copied.false) _ (c.lent_at-roots.ensures i))
-

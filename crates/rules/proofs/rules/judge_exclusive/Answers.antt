@@ -2,9 +2,7 @@
 use Prim.Native.Nat.{ℕ, ◌<◌}
 use native.Mathlib.Omega.{arith}
 use mathlib.Core.Path.{◌≡◌, sym, ◌∙◌}
-use mathlib.Core.Bool.{true}
 use mathlib.Core.List.{List}
-use borrow.Author.Tests.{not-true, not-false}
 use Rattle.syntax.specs.Result.{◌>>=◌}
 use Rattle.syntax.specs.Script.{Place}
 use Rattle.statics.specs.Rules.{judge_exclusive}
@@ -77,4 +75,3 @@ returns-in-Refused c =
 pub returns-else-barred : goal.returns-else-barred
 returns-else-barred c =
     λ i ns barred. exclusive_there c.args.env.now c.args.variables c.requires i (p (goal.at.returns-else-barred c).In-Rest) (named (goal.at.returns-else-barred c).In-Rest) _ (is_root (goal.at.returns-else-barred c).In-Rest) _ c.value_whole.ensures ns c.if-not-value_whole.false _ _ c.index_of.ensures c.links_at.ensures _ c.no_shared.ensures c.if-not-no_shared.false _ barred c.if-barred.false _ c.only.ensures _ c.longer_value.ensures
-

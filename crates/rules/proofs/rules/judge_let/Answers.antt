@@ -23,11 +23,9 @@ declare-requires c =
     )
 
 pub returns : goal.returns
-returns c =
-    (
-      λ i.
-          ap (answered_as _ i) c.fine.ensures.0
-          ∙ let_there c.args.env.now _ _ _ _ c.nothing_moved.ensures c.borrow_end_of.ensures _ _ i _ _ c.in-Of.is c.declare.ensures.0,
-      c.declare.ensures.1,
-    )
-
+returns c = (
+  λ i.
+      ap (answered_as _ i) c.fine.ensures.0
+      ∙ let_there c.args.env.now _ _ _ _ c.nothing_moved.ensures c.borrow_end_of.ensures _ _ i _ _ c.in-Of.is c.declare.ensures.0,
+  c.declare.ensures.1,
+)

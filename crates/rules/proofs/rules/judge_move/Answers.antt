@@ -4,7 +4,6 @@ use native.Mathlib.Omega.{arith}
 use mathlib.Core.Path.{◌≡◌, sym, ◌∙◌}
 use mathlib.Core.Bool.{Bool, true, false}
 use mathlib.Core.List.{List}
-use borrow.Author.Tests.{not-true, not-false}
 use Rattle.syntax.specs.Script.{Place}
 use Rattle.statics.specs.Links.{leading_boxes}
 use Rattle.variables.specs.Chains.{chain_of}
@@ -99,12 +98,11 @@ move_away-requires c =
     (c.requires.0, inside k)
 
 pub returns-in-Refused : goal.returns-in-Refused
-returns-in-Refused c =
-    (
-      λ i ns barred. told_refused _ _ c.refused.ensures.0 _ i
-          ∙ sym (move_refused c.args.variables (environment_of c.args.env.now) i (as_place c.args.place) (c.judge_named-named.ensures i) c.in-Refused.is ns),
-      c.requires.0,
-    )
+returns-in-Refused c = (
+  λ i ns barred. told_refused _ _ c.refused.ensures.0 _ i
+      ∙ sym (move_refused c.args.variables (environment_of c.args.env.now) i (as_place c.args.place) (c.judge_named-named.ensures i) c.in-Refused.is ns),
+  c.requires.0,
+)
 
 pub returns-else-barred : goal.returns-else-barred
 returns-else-barred c =
@@ -113,4 +111,3 @@ returns-else-barred c =
           ∙ move_there (env k) (nv k) (p k) (named k) (own k c.links_at.ensures c.leading_boxes.ensures.0 c.index_of.ensures c.if-leading_boxes-index_of.false) (whole k c.value_whole.ensures c.if-not-value_whole.false) _ c.move_away.ensures.2 _ (is_root k) _ c.roots_at-roots.ensures c.move_away.ensures.0 ns i (sym barred ∙ c.if-barred.false),
       c.move_away.ensures.1,
     )
-

@@ -47,4 +47,3 @@ returns c =
     let told = c.links_from-after.ensures ∙ ap₂ (λ (k l : ℕ). rest_of k (chain_of l)) c.index_of.ensures (c.links_at.ensures ∙ ap (links_at env) c.index_of-root.ensures) in
     let there = rest_there _ _ told c.in-Links.is in
     λ i. record { variable = _; is = live; long = there.0; after = there.1 }
-

@@ -34,4 +34,3 @@ returns-else-is_number c =
     λ i ns barred.
     let F = read (goal.at.returns-else-is_number c).In-Rest i ns barred in
     rw (F.is, F.named.after, ← c.is_number.ensures, c.if-is_number.false)
-

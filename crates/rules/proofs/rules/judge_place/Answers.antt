@@ -45,4 +45,3 @@ returns-in-At c =
 pub returns-in-MovedAway : goal.returns-in-MovedAway
 returns-in-MovedAway c =
     λ i. place_moved _ _ c.requires i _ (named (goal.at.returns-in-MovedAway c).After-index_of) _ (is_root (goal.at.returns-in-MovedAway c).After-index_of) _ c.index_of.ensures _ c.search-ends.ensures c.in-MovedAway.is
-

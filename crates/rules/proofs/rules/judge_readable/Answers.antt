@@ -1,7 +1,6 @@
 -- `rules::rules::judge_readable` meets its contract. Assumes nothing.
 use mathlib.Core.Path.{◌≡◌, sym, subst}
 use mathlib.Core.Bool.{true}
-use borrow.Author.Tests.{not-true, not-false}
 use Rattle.rules.specs.declared.rules.Readable.{Readable}
 use Rattle.variables.specs.Table.{environment_of, as_place}
 use Rattle.rules.specs.RuleAnswers.{Named, ReadableIs}
@@ -49,4 +48,3 @@ returns c =
           subst (λ (k : Readable). ReadableIs nv ns (environment_of env) i p k) (sym told) found,
       whole_there_law nv (environment_of env) p told (named (goal.at.returns c).After-index_of-root) (whole_is env p (named (goal.at.returns c).After-index_of-root) _ (is_root (goal.at.returns c).After-index_of-root) nv _ true c.value_whole.ensures c.if-not-value_whole.false),
     )
-

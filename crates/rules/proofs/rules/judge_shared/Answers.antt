@@ -90,4 +90,3 @@ unfolding as_passed
 returns-in-After c =
     let k = (goal.at.returns-in-After c).After-index_of-root in
     λ i ns barred. shared_lent _ _ k.requires i _ (read k i ns barred) _ k.index_of-root.ensures _ c.index_of.ensures _ (last (goal.at.returns-in-After c).After-last_shared-passed ∙ ap as_passed c.in-After.is) _ (c.lent_at.ensures i) _ c.longer_value-in-After.ensures
-

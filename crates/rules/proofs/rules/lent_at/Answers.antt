@@ -15,11 +15,10 @@ roots_at-requires c =
     omega (arith, live_inside env c.args.variables c.requires.0.0 root (variable_at env root) c.requires.1.is, c.requires.0.0.0)
 
 pub borrows_at-requires : goal.borrows_at-requires
-borrows_at-requires c =
-    (
-      omega (arith, c.requires.0.0.0),
-      lent_low _ _ c.requires.0 0 _ _ c.requires.1 _ c.search-ends.ensures _ c.in-At.is,
-    )
+borrows_at-requires c = (
+  omega (arith, c.requires.0.0.0),
+  lent_low _ _ c.requires.0 0 _ _ c.requires.1 _ c.search-ends.ensures _ c.in-At.is,
+)
 
 pub returns-in-Own : goal.returns-in-Own
 returns-in-Own c =
@@ -32,4 +31,3 @@ returns-in-At c =
 pub returns-in-MovedAway : goal.returns-in-MovedAway
 returns-in-MovedAway c =
     absurd (never_moved _ _ c.requires.0 0 _ _ c.requires.1 _ c.search-ends.ensures c.in-MovedAway.is)
-

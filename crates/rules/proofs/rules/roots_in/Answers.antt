@@ -8,4 +8,3 @@ returns-in-None c = roots_none _ _ c.in-None.is c.no_roots.ensures
 pub returns-in-Of : goal.returns-in-Of
 returns-in-Of c =
     roots_of _ _ _ c.in-Of.is c.recorded_roots.ensures
-

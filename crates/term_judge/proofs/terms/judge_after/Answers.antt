@@ -60,4 +60,3 @@ returns-in_default-kind c =
     let k = c.field_at-kind.ensures in
     let assigned = c.judge_assign-told.ensures.0 _ (after_later _ c.args.rows.now c.args.uses.now (has c.args.named) _ _ c.requires.0 c.args.inner.next) in
     (after_assign _ _ _ _ (later (goal.at.returns-in_default-kind c).After-verdict_of-verdict) _ _ _ fine _ _ (wraps (goal.at.returns-in_default-kind c).After-verdict_of-verdict) (λ e. omega (arith, k)) (λ e. omega (arith, k)) (told_ended _ _ _ _ _ c.judged_term-in_default-kind.ensures _ assigned), c.judge_assign-told.ensures.1)
-

@@ -27,4 +27,3 @@ pub returns : goal.returns
 returns c =
     let fine = sym c.verdict_of-verdict.ensures ∙ c.in-Fine.is in
     (λ ns later. assign_fine _ _ c.args.rows.now _ _ _ _ c.place_at-place.ensures _ (c.judge_write-written.ensures.0 _) ns _ fine _ _ c.index_of-root.ensures (c.write_barred-barred.ensures ns later) _ c.judge_written.ensures, c.judge_write-written.ensures.1)
-

@@ -23,4 +23,3 @@ pub returns : goal.returns
 unfolding begin_at
 returns c =
     (rw (← c.field_at-kind.ensures, eq-eqb _ _ c.if-kind-ne-LET.false, ← c.index_at-x.ensures) c.begin_let.ensures.0, c.begin_let.ensures.1)
-

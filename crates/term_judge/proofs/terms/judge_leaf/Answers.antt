@@ -2,7 +2,6 @@
 use Prim.Native.Nat.{ℕ, ◌-◌, ◌<◌}
 use native.Mathlib.Omega.{arith}
 use mathlib.Core.Path.{◌≡◌, sym, ◌∙◌}
-use mathlib.Core.Logic.{inl, inr}
 use mathlib.Core.Bool.{true}
 use lib.ListN.{length}
 use Rattle.syntax.specs.Kinds.{newest, kind_of}
@@ -69,4 +68,3 @@ returns-in-10 c =
 pub returns-in_default : goal.returns-in_default
 returns-in_default c =
     (λ ns later. c.number_value.ensures _ _ ∙ sym (leaf_number_law _ _ _ _ _ ns _ (λ k. omega arith) (λ k. omega arith) (λ k. omega arith) (λ k. omega arith) (λ k. grind arith) (λ k. grind arith)), c.requires.0.0)
-

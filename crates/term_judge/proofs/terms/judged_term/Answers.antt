@@ -14,4 +14,3 @@ pub returns : goal.returns
 unfolding ended answered_as ◌>>=◌
 returns c env =
     rw (sym c.verdict_of-verdict.ensures ∙ c.in-Fine.is)
-
