@@ -6,8 +6,8 @@ use Rattle.assigns.proofs.assign.judge_written.Goals as goal
 
 pub returns-then-barred : goal.returns-then-barred
 unfolding need ◌>>=◌
-returns-then-barred c = λ env i. rw c.before.if-barred.true (told_refused _ _ c.refused.ensures.0 env i)
+returns-then-barred c = λ env i. rw c.if-barred.true (told_refused _ _ c.refused.ensures.0 env i)
 
 pub returns : goal.returns
 unfolding need as_value ◌>>=◌
-returns c = λ env i. rw c.before.if-barred.false (told_fine _ _ c.fine.ensures.0 env i)
+returns c = λ env i. rw c.if-barred.false (told_fine _ _ c.fine.ensures.0 env i)

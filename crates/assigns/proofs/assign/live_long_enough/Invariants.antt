@@ -1,9 +1,26 @@
 use Prim.Native.Nat.{ℕ, ◌<◌}
 use mathlib.Core.Path.{◌≡◌}
-use mathlib.Core.Bool.{true}
+use mathlib.Core.Bool.{Bool, true}
+use mathlib.Core.List.{List}
+use lib.Dec.{leb}
+use Rattle.syntax.specs.Script.{Place}
+use Rattle.variables.specs.declared.roots.Roots.{Roots}
+use Rattle.statics.specs.Places.{every}
+use Rattle.statics.specs.Environment.{level_of}
+use Rattle.statics.specs.Roots.{lengths, places_of}
+use Rattle.variables.specs.Table.{environment_of, long_at}
 use Rattle.variables.specs.Masks.{has}
 use Rattle.statics.proofs.ClosureLoop.{count}
 use Rattle.assigns.proofs.assign.live_long_enough.Given as goal
+
+abbrev pub lives : List ℕ → Roots → ℕ → ℕ → Bool
+lives env roots m level = every (λ p. leb (level_of (environment_of env p.root)) level) (places_of 128 (has roots) (long_at env) m)
+
+abbrev pub outlives : List ℕ → Roots → ℕ → Place → Bool
+outlives env roots m q = lives env roots m (level_of (environment_of env q.root))
+
+abbrev pub all_outlive : List ℕ → ℕ → Roots → Roots → ℕ → ℕ → Bool
+all_outlive env variables roots left m k = every (outlives env roots m) (places_of variables (has left) (lengths (environment_of env)) k)
 
 abbrev pub invariant-loop-roots : goal.invariant-loop-roots
 invariant-loop-roots l = ((y : ℕ) → has l.left y ≡ true → y < l.variables) × ((m k : ℕ) → all_outlive l.env l.variables l.roots l.left m k ≡ all_outlive l.env l.variables l.roots l.initial.left m k)

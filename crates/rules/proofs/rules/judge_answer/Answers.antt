@@ -6,18 +6,14 @@ use Rattle.rules.proofs.rules.judge_answer.Goals as goal
 
 pub returns-in_default : goal.returns-in_default
 unfolding as_requirement as_value need
-returns-in_default c = λ nv env. rw c.enum_told-1.given.1
+returns-in_default c = λ nv env. rw c.in_default.is
 
 pub returns-then-is_number : goal.returns-then-is_number
 unfolding as_requirement as_value need
 returns-then-is_number c =
-    let at-is-number = c.before in
-    let at_answer = at-is-number.before.before in
-    λ nv env. rw (at_answer.answer-1.given.1, ← at-is-number.is_number.ensures, c.if-is_number.true)
+    λ nv env. rw (c.in-Of.is, ← c.is_number.ensures, c.if-is_number.true)
 
 pub returns-else-is_number : goal.returns-else-is_number
 unfolding as_requirement as_value need
 returns-else-is_number c =
-    let at-is-number = c.before in
-    let at_answer = at-is-number.before.before in
-    λ nv env. rw (at_answer.answer-1.given.1, ← at-is-number.is_number.ensures, c.if-is_number.false)
+    λ nv env. rw (c.in-Of.is, ← c.is_number.ensures, c.if-is_number.false)

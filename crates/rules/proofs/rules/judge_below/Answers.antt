@@ -8,28 +8,18 @@ use Rattle.rules.proofs.rules.judge_below.Goals as goal
 pub returns-in-Refused : goal.returns-in-Refused
 unfolding judge_below ◌>>=◌
 returns-in-Refused c =
-    let at_left = c.before.before in
-    let at-judge-number = at_left.before.before in
-    λ i ns first second. rw (no_number _ i (at-judge-number.judge_number-left.ensures i ns first) at_left.left-1.given.1) (told_refused _ _ c.refused.ensures.0 _ i)
+    λ i ns first second. rw (no_number _ i (c.judge_number-left.ensures i ns first) c.in-Refused.is) (told_refused _ _ c.refused.ensures.0 _ i)
 
 pub returns-in-Refused-right : goal.returns-in-Refused-right
 unfolding judge_below ◌>>=◌
 returns-in-Refused-right c =
-    let at_right = c.before.before in
-    let at-judge-number2 = at_right.before.before in
-    let at-enum-told = at-judge-number2.before in
-    let at-judge-number = at-enum-told.before.before in
     λ i ns first second.
-    rw (number_at _ i (at-judge-number.judge_number-left.ensures i ns first) at-enum-told.enum_told-1.given.1, no_number _ i (at-judge-number2.judge_number-right.ensures i ns second) at_right.right-1.given.1)
+    rw (number_at _ i (c.judge_number-left.ensures i ns first) c.in_default.is, no_number _ i (c.judge_number-right.ensures i ns second) c.in-Refused-right.is)
     (told_refused _ _ c.refused-in-Refused-right.ensures.0 _ i)
 
 pub returns : goal.returns
 unfolding judge_below ◌>>=◌
 returns c =
-    let at-enum-told2 = c.before in
-    let at-judge-number2 = at-enum-told2.before.before in
-    let at-enum-told = at-judge-number2.before in
-    let at-judge-number = at-enum-told.before.before in
     λ i ns first second.
-    rw (number_at _ i (at-judge-number.judge_number-left.ensures i ns first) at-enum-told.enum_told-1.given.1, number_at _ i (at-judge-number2.judge_number-right.ensures i ns second) at-enum-told2.enum_told-in_default-right-1.given.1)
+    rw (number_at _ i (c.judge_number-left.ensures i ns first) c.in_default.is, number_at _ i (c.judge_number-right.ensures i ns second) c.in_default-right.is)
     (c.number_value.ensures _ i)

@@ -10,33 +10,22 @@ use Rattle.rules.proofs.rules.judge_let.Goals as goal
 pub returns-in_default : goal.returns-in_default
 unfolding judge_let as_value valued ◌>>=◌
 returns-in_default c =
-    let at-enum-told = c.before in
-    let start = at-enum-told.before.before.before in
-    (λ i. rw at-enum-told.enum_told-1.given.1 (told_refused _ _ c.refused.ensures.0 _ i), start.requires.0.0)
+    (λ i. rw c.in_default.is (told_refused _ _ c.refused.ensures.0 _ i), c.requires.0.0)
 
 pub declare-requires : goal.declare-requires
 declare-requires c =
-    let at_end = c.before in
-    let at-whole = at_end.before in
-    let at_inner = at-whole.before.before.before in
-    let start = at_inner.before.before.before in
-    let env = start.args.env-1.now in (
-      start.requires.0.0,
-      start.requires.1,
-      start.requires.2,
-      let_fits env _ _ start.args.level _ at-whole.nothing_moved.ensures at_end.borrow_end_of.ensures,
-      unrecorded env _ _ _ _ at-whole.nothing_moved.ensures at_end.borrow_end_of.ensures _ _ _ _ start.requires.0.1.1 start.requires.2 at_inner.inner-1.given.1 start.requires.3,
+    let env = c.args.env.now in (
+      c.requires.0.0,
+      c.requires.1,
+      c.requires.2,
+      let_fits env _ _ c.args.level _ c.nothing_moved.ensures c.borrow_end_of.ensures,
+      unrecorded env _ _ _ _ c.nothing_moved.ensures c.borrow_end_of.ensures _ _ _ _ c.requires.0.1.1 c.requires.2 c.in-Of.is c.requires.3,
     )
 
 pub returns : goal.returns
-returns c =
-    let at-declare = c.before.before.before in
-    let at_end = at-declare.before.before in
-    let at-whole = at_end.before in
-    let at_inner = at-whole.before.before.before in
-    let start = at_inner.before.before.before in (
-      λ i.
-          ap (answered_as _ i) c.fine.ensures.0
-          ∙ let_there start.args.env-1.now _ _ _ _ at-whole.nothing_moved.ensures at_end.borrow_end_of.ensures _ _ i _ _ at_inner.inner-1.given.1 at-declare.declare.ensures.0,
-      at-declare.declare.ensures.1,
-    )
+returns c = (
+  λ i.
+      ap (answered_as _ i) c.fine.ensures.0
+      ∙ let_there c.args.env.now _ _ _ _ c.nothing_moved.ensures c.borrow_end_of.ensures _ _ i _ _ c.in-Of.is c.declare.ensures.0,
+  c.declare.ensures.1,
+)

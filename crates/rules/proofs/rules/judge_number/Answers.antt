@@ -9,33 +9,28 @@ use Rattle.variables.specs.Table.{environment_of, as_place}
 use Rattle.rules.specs.RuleAnswers.{Read}
 use Rattle.rules.proofs.PlaceLaws.{read_at, number_refused}
 use Rattle.rules.proofs.rules.judge_number.Goals as goal
+use Rattle.rules.proofs.rules.judge_number.Goals.{In-Rest}
 
 -- What is known of a readable place.
-read : (k : goal.In-Rest) →
-    let start = k.before.before.before.before.before in
-    (i : ℕ) (ns : Unfinished) → start.args.barred ≡ read_barred start.args.variables ns (environment_of start.args.env.now) (as_place start.args.place).root
-    → Read start.args.variables ns (environment_of start.args.env.now) i (as_place start.args.place) k.before.readable-1.given.0.0
-read k i ns barred = read_at _ ns _ i _ (k.before.before.before.judge_readable-readable.ensures.0 i ns barred) k.before.readable-1.given.1
+read : (k : In-Rest) (i : ℕ) (ns : Unfinished) → k.args.barred ≡ read_barred k.args.variables ns (environment_of k.args.env.now) (as_place k.args.place).root
+    → Read k.args.variables ns (environment_of k.args.env.now) i (as_place k.args.place) k.in-Rest.rest
+read k i ns barred = read_at _ ns _ i _ (k.judge_readable-readable.ensures.0 i ns barred) k.in-Rest.is
 
 pub returns-then-is_number : goal.returns-then-is_number
 unfolding judge_number need ◌>>=◌
 returns-then-is_number c =
-    let at-number = c.before in
     λ i ns barred.
-    let F = read at-number.before i ns barred in
-    rw (F.is, F.named.after, ← at-number.is_number.ensures, c.if-is_number.true)
+    let F = read (goal.at.returns-then-is_number c).In-Rest i ns barred in
+    rw (F.is, F.named.after, ← c.is_number.ensures, c.if-is_number.true)
 
 pub returns-in-Refused : goal.returns-in-Refused
 returns-in-Refused c =
-    let at-judge-readable = c.before.before in
-    let start = at-judge-readable.before.before in
-    let env = start.args.env.now in
-    λ i ns barred. number_refused start.args.variables ns (environment_of env) i (as_place start.args.place) (at-judge-readable.judge_readable-readable.ensures.0 i ns barred) c.enum_told-1.given.1
+    let env = c.args.env.now in
+    λ i ns barred. number_refused c.args.variables ns (environment_of env) i (as_place c.args.place) (c.judge_readable-readable.ensures.0 i ns barred) c.in-Refused.is
 
 pub returns-else-is_number : goal.returns-else-is_number
 unfolding judge_number need ◌>>=◌
 returns-else-is_number c =
-    let at-number = c.before in
     λ i ns barred.
-    let F = read at-number.before i ns barred in
-    rw (F.is, F.named.after, ← at-number.is_number.ensures, c.if-is_number.false)
+    let F = read (goal.at.returns-else-is_number c).In-Rest i ns barred in
+    rw (F.is, F.named.after, ← c.is_number.ensures, c.if-is_number.false)

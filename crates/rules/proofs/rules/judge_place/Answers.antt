@@ -6,57 +6,42 @@ use Rattle.rules.specs.RuleAnswers.{Named}
 use Rattle.rules.proofs.PlaceLaws.{named_at, named_refused, named_live, named_inside, search_fits, place_moved, place_there}
 use Rattle.rules.proofs.OwnLaws.{found_own}
 use Rattle.rules.proofs.rules.judge_place.Goals as goal
+use Rattle.rules.proofs.rules.judge_place.Goals.{After-index_of}
 
 -- Where the place is named, and the code has its root and its follows.
-module _ (b : goal.After-index_of) where
-  abbrev at_named : goal.After-named-in-Rest-1
-  at_named = b.before.before.before
+module _ (b : After-index_of) where
+  named : Named (environment_of b.args.env.now) (as_place b.args.place) b.in-Rest.rest
+  named = named_at _ _ 0 _ (b.judge_named-named.ensures 0) b.in-Rest.is
 
-  abbrev start : goal.Start
-  start = at_named.before.before.before.before
-
-  named : Named (environment_of start.args.env.now) (as_place start.args.place) at_named.named-in-Rest-1.given.0.0
-  named = named_at _ _ 0 _ (at_named.before.before.judge_named-named.ensures 0) at_named.named-in-Rest-1.given.1
-
-  is_root : b.before.index_of-root.result ≡ (as_place start.args.place).root
-  is_root = b.before.index_of-root.ensures
+  is_root : b.index_of-root.result ≡ (as_place b.args.place).root
+  is_root = b.index_of-root.ensures
 
 pub judge_named-named-requires : goal.judge_named-named-requires
-judge_named-named-requires c = c.before.requires.0
+judge_named-named-requires c = c.requires.0
 
 pub search-ends-requires : goal.search-ends-requires
 search-ends-requires c = (
-  (start c).requires,
-  named_live _ _ (named c) _ (is_root c),
-  search_fits _ _ (named c) _ (is_root c) _ c.index_of.ensures,
+  c.requires,
+  named_live _ _ (named (goal.at.search-ends-requires c).After-index_of) _ (is_root (goal.at.search-ends-requires c).After-index_of),
+  search_fits _ _ (named (goal.at.search-ends-requires c).After-index_of) _ (is_root (goal.at.search-ends-requires c).After-index_of) _ c.index_of.ensures,
 )
 
 pub links_at-requires : goal.links_at-requires
 links_at-requires c =
-    let b = c.before.before.before.before in
-    omega (arith, (start b).requires.0.0, named_inside _ _ (named b) _ (is_root b) _ (start b).requires)
+    omega (arith, c.requires.0.0, named_inside _ _ (named (goal.at.links_at-requires c).After-index_of) _ (is_root (goal.at.links_at-requires c).After-index_of) _ c.requires)
 
 pub returns-in-Refused : goal.returns-in-Refused
 returns-in-Refused c =
-    let at-judge-named = c.before.before.before in
-    let start = at-judge-named.before.before in
-    λ i. named_refused start.args.variables (environment_of start.args.env.now) i (as_place start.args.place) (at-judge-named.judge_named-named.ensures i) c.before.named-1.given.1
+    λ i. named_refused c.args.variables (environment_of c.args.env.now) i (as_place c.args.place) (c.judge_named-named.ensures i) c.in-Refused.is
 
 pub returns-in-Own : goal.returns-in-Own
 returns-in-Own c =
-    let at-search = c.before.before in
-    let b = at-search.before in
-    λ i. found_own _ _ (start b).requires i _ (named b) _ (is_root b) _ b.index_of.ensures _ at-search.search-ends.ensures c.enum_told-1.given.1
+    λ i. found_own _ _ c.requires i _ (named (goal.at.returns-in-Own c).After-index_of) _ (is_root (goal.at.returns-in-Own c).After-index_of) _ c.index_of.ensures _ c.search-ends.ensures c.in-Own.is
 
 pub returns-in-At : goal.returns-in-At
 returns-in-At c =
-    let at-ends = c.before.before in
-    let at-search = at-ends.before.before in
-    let b = at-search.before in
-    λ i. place_there _ _ (start b).requires i _ (named b) _ (is_root b) _ b.index_of.ensures _ at-search.search-ends.ensures _ at-ends.ends-1.given.1 _ c.links_at.ensures
+    λ i. place_there _ _ c.requires i _ (named (goal.at.returns-in-At c).After-index_of) _ (is_root (goal.at.returns-in-At c).After-index_of) _ c.index_of.ensures _ c.search-ends.ensures _ c.in-At.is _ c.links_at.ensures
 
 pub returns-in-MovedAway : goal.returns-in-MovedAway
 returns-in-MovedAway c =
-    let at-search = c.before.before in
-    let b = at-search.before in
-    λ i. place_moved _ _ (start b).requires i _ (named b) _ (is_root b) _ b.index_of.ensures _ at-search.search-ends.ensures c.enum_told-in-MovedAway-1.given.1
+    λ i. place_moved _ _ c.requires i _ (named (goal.at.returns-in-MovedAway c).After-index_of) _ (is_root (goal.at.returns-in-MovedAway c).After-index_of) _ c.index_of.ensures _ c.search-ends.ensures c.in-MovedAway.is

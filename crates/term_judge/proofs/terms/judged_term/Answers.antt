@@ -8,11 +8,9 @@ use Rattle.term_judge.proofs.terms.judged_term.Goals as goal
 pub returns-in_default : goal.returns-in_default
 unfolding ended answered_as ◌>>=◌
 returns-in_default c env =
-    let at-verdict-of = c.before.before in
-    rw (sym at-verdict-of.verdict_of-verdict.ensures ∙ c.enum_told-in_default-1.given.1)
+    rw (sym c.verdict_of-verdict.ensures ∙ c.in_default.is)
 
 pub returns : goal.returns
 unfolding ended answered_as ◌>>=◌
 returns c env =
-    let at-verdict-of = c.before.before in
-    rw (sym at-verdict-of.verdict_of-verdict.ensures ∙ c.enum_told-1.given.1)
+    rw (sym c.verdict_of-verdict.ensures ∙ c.in-Fine.is)
