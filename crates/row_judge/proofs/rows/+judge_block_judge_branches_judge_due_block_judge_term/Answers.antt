@@ -5,7 +5,6 @@ use native.Mathlib.Omega.{arith}
 use mathlib.Core.Path.{refl, sym, ◌∙◌}
 use mathlib.Core.Logic.{inl, inr}
 use mathlib.Core.Bool.{true, false}
-use borrow.Author.Tests.{eqb-false}
 use Rattle.syntax.specs.Limits.{row_numbers}
 use Rattle.syntax.proofs.Ranges.{ranged}
 use Rattle.syntax.proofs.PackedLaws.{spanned_refused, spanned_fine, refused_spanned, counted_spanned}

@@ -1,7 +1,8 @@
 -- `row_judge::rows::fields_fit` meets its contract: each arm tests the operands of its kinds, and the last arm those of the kinds with one place. Assumes nothing.
-use mathlib.Core.Path.{sym, ◌∙◌}
+use mathlib.Core.Path.{◌≡◌, sym, ◌∙◌}
 use native.Mathlib.Omega.{arith}
-use mathlib.Core.Logic.{inl, inr}
+use borrow.Author.Rules.{rules}
+use mathlib.Core.Logic.{◌⊎◌, inl, inr}
 use mathlib.Core.List.{[], ◌∷◌}
 use Rattle.syntax.specs.Kinds.{byte_of, fields, k_number, k_reading, k_box, k_let, k_block}
 use Rattle.syntax.specs.Parts.{place_fields}
@@ -41,12 +42,12 @@ returns-in-11 c = rw (fields_by _ k_block _ c.in-11.is) c.one_fits-in-11.ensures
 pub returns-then-place_fits-2 : goal.returns-then-place_fits-2
 unfolding fields_fit
 returns-then-place_fits-2 c =
-    let n = c.in_default.in_default-own.rest in
-    rw (fields_place _ (omega arith) (omega arith) (omega arith) (omega arith) (λ e. n.0.1 (inl e)) (omega arith) (λ e. n.0.1 (inr e)) _ c.requires)
+    let n : (c.args.kind ≡ 10) ⊎ (c.args.kind ≡ 13) → ⊥ = search rules in
+    rw (fields_place _ (omega arith) (omega arith) (omega arith) (omega arith) (λ e. n (inl e)) (omega arith) (λ e. n (inr e)) _ c.requires)
     (c.all_zero-then-place_fits-2.ensures ∙ sym (place_then _ _ _ [] (c.args.c ∷ c.args.d ∷ []) (sym c.place_fits-in_default.ensures ∙ c.if-place_fits-2.true)))
 
 pub returns-else-place_fits-2 : goal.returns-else-place_fits-2
 returns-else-place_fits-2 c =
-    let n = c.in_default.in_default-own.rest in
-    rw (fields_place _ (omega arith) (omega arith) (omega arith) (omega arith) (λ e. n.0.1 (inl e)) (omega arith) (λ e. n.0.1 (inr e)) _ c.requires)
+    let n : (c.args.kind ≡ 10) ⊎ (c.args.kind ≡ 13) → ⊥ = search rules in
+    rw (fields_place _ (omega arith) (omega arith) (omega arith) (omega arith) (λ e. n (inl e)) (omega arith) (λ e. n (inr e)) _ c.requires)
     (c.if-place_fits-2.false ∙ sym (place_else _ _ _ [] _ (sym c.place_fits-in_default.ensures ∙ c.if-place_fits-2.false)))

@@ -4,7 +4,7 @@ use mathlib.Core.Path.{◌≡◌, refl, sym, ◌∙◌}
 use mathlib.Core.Bool.{Bool, true, false, ◌&&◌}
 use lib.Dec.{leb, eqb}
 use borrow.Author.Rules.{rules}
-use borrow.Author.Tests.{not-false, eq-eqb, ne_eqb, le-leb, lt-leb}
+use borrow.Author.Tests.{eq-eqb, ne_eqb, le-leb, lt-leb}
 use Rattle.syntax.specs.Limits.{row_numbers, unpacked}
 use Rattle.syntax.specs.RowParts.{row_number}
 use Rattle.syntax.proofs.KnownKinds.{known_is}
@@ -36,15 +36,15 @@ returns-then-kind-eq0 c = rw (lt-leb _ _ c.if-sizes-i.false, ← c.field_at-kind
 
 pub returns-then-not-known : goal.returns-then-not-known
 unfolding row_number
-returns-then-not-known c = rw (lt-leb _ _ c.if-sizes-i.false, ← c.field_at-kind.ensures, ne_eqb _ _ c.if-kind-eq0.false, ← c.known.ensures, c.if-not-known.true-raw)
+returns-then-not-known c = rw (lt-leb _ _ c.if-sizes-i.false, ← c.field_at-kind.ensures, ne_eqb _ _ c.if-kind-eq0.false, ← c.known.ensures, c.if-not-known.true)
 
 pub returns-then-levels-eq0 : goal.returns-then-levels-eq0
 unfolding row_number
-returns-then-levels-eq0 c = rw (lt-leb _ _ c.if-sizes-i.false, ← c.field_at-kind.ensures, ne_eqb _ _ c.if-kind-eq0.false, ← c.known.ensures, c.if-not-known.false-raw, eq-eqb _ _ c.if-levels-eq0.true)
+returns-then-levels-eq0 c = rw (lt-leb _ _ c.if-sizes-i.false, ← c.field_at-kind.ensures, ne_eqb _ _ c.if-kind-eq0.false, ← c.known.ensures, c.if-not-known.false, eq-eqb _ _ c.if-levels-eq0.true)
 
 pub returns-then-sizes-boxes : goal.returns-then-sizes-boxes
 unfolding row_number
-returns-then-sizes-boxes c = rw (lt-leb _ _ c.if-sizes-i.false, ← c.field_at-kind.ensures, ne_eqb _ _ c.if-kind-eq0.false, ← c.known.ensures, c.if-not-known.false-raw, ne_eqb _ _ c.if-levels-eq0.false, eq-eqb _ _ c.if-kind-eq-BOX.true, le-leb _ _ c.if-sizes-boxes.true)
+returns-then-sizes-boxes c = rw (lt-leb _ _ c.if-sizes-i.false, ← c.field_at-kind.ensures, ne_eqb _ _ c.if-kind-eq0.false, ← c.known.ensures, c.if-not-known.false, ne_eqb _ _ c.if-levels-eq0.false, eq-eqb _ _ c.if-kind-eq-BOX.true, le-leb _ _ c.if-sizes-boxes.true)
 
 pub field_at-a-requires : goal.field_at-a-requires
 unfolding row_numbers
@@ -63,7 +63,7 @@ unfolding row_numbers
 field_at-d-requires c = search rules
 
 pub fields_fit-requires : goal.fields_fit-requires
-fields_fit-requires c = (known_is _ _ (sym c.known.ensures ∙ not-false c.known.result c.if-not-known.false-raw)).0
+fields_fit-requires c = (known_is _ _ (sym c.known.ensures ∙ c.if-not-known.false)).0
 
 pub returns-then-fields_fit : goal.returns-then-fields_fit
 unfolding row_number
@@ -73,7 +73,7 @@ returns-then-fields_fit c =
     let most = (unpacked c.args.sizes).boxes in
     let room : (eqb kind 7 && leb most boxes) ≡ false =
     elim c.if-kind-eq-BOX.branch [ then-kind-eq-BOX+else-sizes-boxes w ↦ room_left most kind boxes w.if-sizes-boxes.false | else-kind-eq-BOX w ↦ no_box most kind boxes w.if-kind-eq-BOX.false ] in
-    rw (lt-leb _ _ c.if-sizes-i.false, ← c.field_at-kind.ensures, ne_eqb _ _ c.if-kind-eq0.false, ← c.known.ensures, c.if-not-known.false-raw, ne_eqb _ _ c.if-levels-eq0.false, room, ← c.field_at-a.ensures, ← c.field_at-b.ensures, ← c.field_at-c.ensures, ← c.field_at-d.ensures, ← c.fields_fit.ensures, c.if-fields_fit.true)
+    rw (lt-leb _ _ c.if-sizes-i.false, ← c.field_at-kind.ensures, ne_eqb _ _ c.if-kind-eq0.false, ← c.known.ensures, c.if-not-known.false, ne_eqb _ _ c.if-levels-eq0.false, room, ← c.field_at-a.ensures, ← c.field_at-b.ensures, ← c.field_at-c.ensures, ← c.field_at-d.ensures, ← c.fields_fit.ensures, c.if-fields_fit.true)
 
 pub returns : goal.returns
 unfolding row_number
@@ -83,4 +83,4 @@ returns c =
     let most = (unpacked c.args.sizes).boxes in
     let room : (eqb kind 7 && leb most boxes) ≡ false =
     elim c.if-kind-eq-BOX.branch [ then-kind-eq-BOX+else-sizes-boxes w ↦ room_left most kind boxes w.if-sizes-boxes.false | else-kind-eq-BOX w ↦ no_box most kind boxes w.if-kind-eq-BOX.false ] in
-    rw (lt-leb _ _ c.if-sizes-i.false, ← c.field_at-kind.ensures, ne_eqb _ _ c.if-kind-eq0.false, ← c.known.ensures, c.if-not-known.false-raw, ne_eqb _ _ c.if-levels-eq0.false, room, ← c.field_at-a.ensures, ← c.field_at-b.ensures, ← c.field_at-c.ensures, ← c.field_at-d.ensures, ← c.fields_fit.ensures, c.if-fields_fit.false)
+    rw (lt-leb _ _ c.if-sizes-i.false, ← c.field_at-kind.ensures, ne_eqb _ _ c.if-kind-eq0.false, ← c.known.ensures, c.if-not-known.false, ne_eqb _ _ c.if-levels-eq0.false, room, ← c.field_at-a.ensures, ← c.field_at-b.ensures, ← c.field_at-c.ensures, ← c.field_at-d.ensures, ← c.fields_fit.ensures, c.if-fields_fit.false)

@@ -1,6 +1,6 @@
 -- `script_reader::reader::judge_lead` meets its contract. Assumes nothing.
 use mathlib.Core.Path.{refl, sym}
-use borrow.Author.Tests.{not-true, not-false, lt-ltb, le-ltb}
+use borrow.Author.Tests.{lt-ltb, le-ltb}
 use Rattle.syntax.specs.Kinds.{newest}
 use Rattle.syntax.specs.ByteParts.{lead_judged}
 use Rattle.syntax.proofs.NumberLaws.{number_stops, number_none}
@@ -25,8 +25,8 @@ returns-then-script-at c = (rw (← c.mark_number-first.ensures, number_none _ _
 
 pub returns-then-not-knows_version : goal.returns-then-not-knows_version
 unfolding lead_judged newest
-returns-then-not-knows_version c = (rw (← c.mark_number-first.ensures, number_none _ _ _ c.if-first-ne0.false, ← c.mark_number-second.ensures, number_none _ _ _ c.if-second-ne0.false, ← c.mark_number-third.ensures, number_none _ _ _ c.if-third-ne0.false, le-ltb _ _ c.if-script-at.false, ← c.version_at.ensures, ← c.knows_version.ensures, not-true c.knows_version.result c.if-not-knows_version.true-raw) refl, under_bytes c.args.script.now c.type_inv.script)
+returns-then-not-knows_version c = (rw (← c.mark_number-first.ensures, number_none _ _ _ c.if-first-ne0.false, ← c.mark_number-second.ensures, number_none _ _ _ c.if-second-ne0.false, ← c.mark_number-third.ensures, number_none _ _ _ c.if-third-ne0.false, le-ltb _ _ c.if-script-at.false, ← c.version_at.ensures, ← c.knows_version.ensures, c.if-not-knows_version.true) refl, under_bytes c.args.script.now c.type_inv.script)
 
 pub returns : goal.returns
 unfolding lead_judged newest
-returns c = (rw (← c.mark_number-first.ensures, number_none _ _ _ c.if-first-ne0.false, ← c.mark_number-second.ensures, number_none _ _ _ c.if-second-ne0.false, ← c.mark_number-third.ensures, number_none _ _ _ c.if-third-ne0.false, le-ltb _ _ c.if-script-at.false, ← c.version_at.ensures, ← c.knows_version.ensures, not-false c.knows_version.result c.if-not-knows_version.false-raw) refl, under_bytes c.args.script.now c.type_inv.script)
+returns c = (rw (← c.mark_number-first.ensures, number_none _ _ _ c.if-first-ne0.false, ← c.mark_number-second.ensures, number_none _ _ _ c.if-second-ne0.false, ← c.mark_number-third.ensures, number_none _ _ _ c.if-third-ne0.false, le-ltb _ _ c.if-script-at.false, ← c.version_at.ensures, ← c.knows_version.ensures, c.if-not-knows_version.false) refl, under_bytes c.args.script.now c.type_inv.script)

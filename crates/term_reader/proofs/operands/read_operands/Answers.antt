@@ -1,8 +1,9 @@
 -- `term_reader::operands::read_operands` meets its contract: each arm reads the operands of its kind. The last has the kinds with one place.
 -- Assumes nothing.
 use native.Mathlib.Omega.{arith}
-use mathlib.Core.Path.{refl}
-use mathlib.Core.Logic.{inl, inr}
+use borrow.Author.Rules.{rules}
+use mathlib.Core.Path.{◌≡◌, refl}
+use mathlib.Core.Logic.{◌⊎◌, inl, inr}
 use Rattle.syntax.specs.Layout.{zeros}
 use Rattle.syntax.specs.ByteParts.{judged_fields, values_at}
 use Rattle.syntax.proofs.KnownKinds.{fields_number, fields_reading, fields_box, fields_let, fields_two, fields_block, fields_place}
@@ -29,5 +30,5 @@ returns-in-11 c = rw (c.in-11.is, fields_block) (rw c.in-11.is at c.read_one-in-
 
 pub returns-in_default : goal.returns-in_default
 returns-in_default c =
-    let r = c.in_default.in_default-own.rest in
-    rw (fields_place _ (omega arith) (omega arith) (omega arith) (omega arith) (λ e. r.0.1 (inl e)) (omega arith) (λ e. r.0.1 (inr e)) _ c.requires.2) c.read_place.ensures
+    let r : (c.args.kind ≡ 10) ⊎ (c.args.kind ≡ 13) → ⊥ = search rules in
+    rw (fields_place _ (omega arith) (omega arith) (omega arith) (omega arith) (λ e. r (inl e)) (omega arith) (λ e. r (inr e)) _ c.requires.2) c.read_place.ensures

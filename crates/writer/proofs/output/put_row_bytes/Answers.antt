@@ -1,3 +1,6 @@
+use Prim.Native.Nat.{◌*◌}
+use lib.ListN.{get_or}
+use borrow.Author.Rules.{rules}
 use Rattle.writer.specs.OutputParts.{bytes_at}
 use Rattle.writer.proofs.OutputLaws.{word_bytes, one_bytes, none_bytes, places_bytes, place_bytes}
 use Rattle.writer.proofs.output.put_row_bytes.Goals as goal
@@ -20,7 +23,7 @@ put_five-requires-in-10 c = rw (places_bytes _ _ _ _ _ c.in-10.is) at c.requires
 
 pub put_three-requires : goal.put_three-requires
 unfolding bytes_at
-put_three-requires c = rw (place_bytes _ _ _ _ _ c.in_default.in_default-own.rest.0.0.0.1 c.in_default.in_default-own.rest.0.0.1 c.in_default.in_default-own.rest.0.1 c.in_default.in_default-own.rest.1) at c.requires.1
+put_three-requires c = rw (place_bytes (get_or c.args.rows.now (c.args.i * 5) 0) _ _ _ _ (search rules) (search rules) (search rules) (search rules)) at c.requires.1
 
 pub returns-in-1 : goal.returns-in-1
 unfolding bytes_at
@@ -40,4 +43,4 @@ returns-in-10 c = rw (places_bytes _ _ _ _ _ c.in-10.is) c.put_five-in-10.ensure
 
 pub returns-in_default : goal.returns-in_default
 unfolding bytes_at
-returns-in_default c = rw (place_bytes _ _ _ _ _ c.in_default.in_default-own.rest.0.0.0.1 c.in_default.in_default-own.rest.0.0.1 c.in_default.in_default-own.rest.0.1 c.in_default.in_default-own.rest.1) c.put_three.ensures
+returns-in_default c = rw (place_bytes (get_or c.args.rows.now (c.args.i * 5) 0) _ _ _ _ (search rules) (search rules) (search rules) (search rules)) c.put_three.ensures

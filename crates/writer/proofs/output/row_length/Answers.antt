@@ -1,6 +1,7 @@
 use native.Mathlib.Omega.{arith}
-use mathlib.Core.Path.{ap}
-use mathlib.Core.Logic.{⊎_elim, inl, inr}
+use borrow.Author.Rules.{rules}
+use mathlib.Core.Path.{◌≡◌, ap}
+use mathlib.Core.Logic.{◌⊎◌, ⊎_elim, inl, inr}
 use lib.ListN.{length}
 use Rattle.writer.proofs.OutputLaws.{word_bytes, one_bytes, none_bytes, places_bytes, place_bytes}
 use Rattle.writer.proofs.output.row_length.Goals as goal
@@ -16,4 +17,7 @@ pub returns-in-7 : goal.returns-in-7
 returns-in-7 c = (λ a b x d. ap length (none_bytes _ a b x d c.in-7.is), omega arith)
 
 pub returns-in_default : goal.returns-in_default
-returns-in_default c = (λ a b x d. ap length (place_bytes _ a b x d (λ e. c.in_default.in_default-own.rest.0.0.1 (inl e)) c.in_default.in_default-own.rest.0.1 c.in_default.in_default-own.rest.1 (λ e. c.in_default.in_default-own.rest.0.0.1 (inr e))), omega arith)
+returns-in_default c =
+    let five : (c.args.kind ≡ 1) ⊎ ((c.args.kind ≡ 10) ⊎ (c.args.kind ≡ 13)) → ⊥ = search rules in
+    let two : (c.args.kind ≡ 2) ⊎ ((c.args.kind ≡ 8) ⊎ (c.args.kind ≡ 11)) → ⊥ = search rules in
+    (λ a b x d. ap length (place_bytes _ a b x d (λ e. five (inl e)) two (omega arith) (λ e. five (inr e))), omega arith)
