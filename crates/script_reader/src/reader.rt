@@ -1,7 +1,6 @@
-// A reader of a script in its named form: the lent bytes and the next offset. No function over a struct that holds a
-// reference is covered by the borrow checker, so they are few and thin: each leaves its work to one on slice and
-// number, and has no branch. An answer is one number, as the term reader's is; where the answer so far is a refusal, it is
-// answered again.
+// A reader of a script in its named form: the lent bytes and the next offset. The functions over it are few and thin: each
+// leaves its work to one on slice and number, and has no branch. An answer is one number, as the term reader's is; where
+// the answer so far is a refusal, it is answered again.
 ghost use Rattle.std.specs.Prelude.{◌≡◌, ◌+◌, ◌<◌, ◌≤◌, length};
 ghost use Rattle.syntax.specs.Limits.{unpacked, version_of};
 ghost use Rattle.syntax.specs.Kinds.{newest};

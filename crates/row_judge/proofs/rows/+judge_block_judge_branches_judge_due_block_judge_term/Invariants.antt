@@ -1,4 +1,4 @@
-use Prim.Native.Nat.{◌≤◌}
+use Prim.Native.Nat.{◌≤◌, ◌+◌, ◌*◌}
 use mathlib.Core.Path.{◌≡◌}
 use mathlib.Core.Bool.{false}
 use Rattle.syntax.specs.Limits.{unpacked, version_of}
@@ -17,3 +17,15 @@ invariant-judge_term-loop-sizes l = RowsReady (unpacked l.sizes) l.rows l.at l.b
 
 abbrev pub decreases-judge_term-loop-sizes : goal.decreases-judge_term-loop-sizes
 decreases-judge_term-loop-sizes l = l.left
+
+abbrev pub decreases-judge_block : goal.decreases-judge_block
+decreases-judge_block l = l.levels * 4 + 1
+
+abbrev pub decreases-judge_branches : goal.decreases-judge_branches
+decreases-judge_branches l = l.levels * 4 + 3
+
+abbrev pub decreases-judge_due_block : goal.decreases-judge_due_block
+decreases-judge_due_block l = l.levels * 4 + 2
+
+abbrev pub decreases-judge_term : goal.decreases-judge_term
+decreases-judge_term l = l.levels * 4

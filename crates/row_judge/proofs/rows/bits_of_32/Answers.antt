@@ -1,5 +1,5 @@
 -- `row_judge::rows::bits_of_32` meets its contract. The loop's invariant: the bits met, with those of the numbers that are left of the 32, are the bits of all. Assumes nothing.
-use Prim.Native.Nat.{ℕ, ◌+◌, ◌-◌}
+use Prim.Native.Nat.{ℕ, ◌+◌}
 use native.Mathlib.Omega.{arith}
 use mathlib.Core.Path.{◌≡◌, sym, ap, ◌∙◌}
 use lib.ListN.{take, drop}

@@ -1,5 +1,4 @@
 -- `row_judge::rows::first_from` meets its contract. The loop's invariant: the first number not 0 is still ahead. Assumes nothing.
-use Prim.Native.Nat.{◌-◌}
 use native.Mathlib.Omega.{arith}
 use mathlib.Core.Path.{refl, sym, ◌∙◌}
 use Rattle.row_judge.proofs.LeftOver.{used_later, used_here, used_none}

@@ -1,5 +1,5 @@
 -- `row_judge::rows::first_used` meets its contract. The loop's invariant: the first number not 0 is still ahead. Assumes nothing.
-use Prim.Native.Nat.{◌-◌, ◌≤◌, ◌+◌}
+use Prim.Native.Nat.{◌≤◌, ◌+◌}
 use native.Mathlib.Omega.{arith}
 use mathlib.Core.Path.{refl, sym, ◌∙◌}
 use lib.ListN.{length}

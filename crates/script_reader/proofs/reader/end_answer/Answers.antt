@@ -10,12 +10,12 @@ unfolding end_judged
 returns-then-got-ge-REFUSED c = rw (found_refused _ c.if-got-ge-REFUSED.true)
 
 pub refused-requires : goal.refused-requires
-refused-requires c = omega (arith, c.before.before.before.requires)
+refused-requires c = omega (arith, c.requires)
 
 pub returns-then-at-script : goal.returns-then-at-script
 unfolding end_judged
-returns-then-at-script c = rw (found_fine _ c.before.before.if-got-ge-REFUSED.false, lt-ltb _ _ c.before.if-at-script.true) (refused_found _ 19 _ (omega (arith, c.before.before.before.before.requires)) c.refused.ensures)
+returns-then-at-script c = rw (found_fine _ c.if-got-ge-REFUSED.false, lt-ltb _ _ c.if-at-script.true) (refused_found _ 19 _ (omega (arith, c.requires)) c.refused.ensures)
 
 pub returns : goal.returns
 unfolding end_judged
-returns c = rw (found_fine _ c.before.if-got-ge-REFUSED.false, le-ltb _ _ c.if-at-script.false)
+returns c = rw (found_fine _ c.if-got-ge-REFUSED.false, le-ltb _ _ c.if-at-script.false)

@@ -9,24 +9,24 @@ use Rattle.script_reader.proofs.reader.judge_lead.Goals as goal
 
 pub returns-then-first-ne0 : goal.returns-then-first-ne0
 unfolding lead_judged
-returns-then-first-ne0 c = (rw (← c.before.mark_number-first.ensures) (sym (number_stops _ _ _ c.if-first-ne0.true)), under_bytes c.before.before.before.args.script.now c.before.before.shared_slice_known-1.given)
+returns-then-first-ne0 c = (rw (← c.mark_number-first.ensures) (sym (number_stops _ _ _ c.if-first-ne0.true)), under_bytes c.args.script.now c.type_inv.script)
 
 pub returns-then-second-ne0 : goal.returns-then-second-ne0
 unfolding lead_judged
-returns-then-second-ne0 c = (rw (← c.before.before.before.mark_number-first.ensures, number_none _ _ _ c.before.before.if-first-ne0.false, ← c.before.mark_number-second.ensures) (sym (number_stops _ _ _ c.if-second-ne0.true)), under_bytes c.before.before.before.before.before.args.script.now c.before.before.before.before.shared_slice_known-1.given)
+returns-then-second-ne0 c = (rw (← c.mark_number-first.ensures, number_none _ _ _ c.if-first-ne0.false, ← c.mark_number-second.ensures) (sym (number_stops _ _ _ c.if-second-ne0.true)), under_bytes c.args.script.now c.type_inv.script)
 
 pub returns-then-third-ne0 : goal.returns-then-third-ne0
 unfolding lead_judged
-returns-then-third-ne0 c = (rw (← c.before.before.before.before.before.mark_number-first.ensures, number_none _ _ _ c.before.before.before.before.if-first-ne0.false, ← c.before.before.before.mark_number-second.ensures, number_none _ _ _ c.before.before.if-second-ne0.false, ← c.before.mark_number-third.ensures) (sym (number_stops _ _ _ c.if-third-ne0.true)), under_bytes c.before.before.before.before.before.before.before.args.script.now c.before.before.before.before.before.before.shared_slice_known-1.given)
+returns-then-third-ne0 c = (rw (← c.mark_number-first.ensures, number_none _ _ _ c.if-first-ne0.false, ← c.mark_number-second.ensures, number_none _ _ _ c.if-second-ne0.false, ← c.mark_number-third.ensures) (sym (number_stops _ _ _ c.if-third-ne0.true)), under_bytes c.args.script.now c.type_inv.script)
 
 pub returns-then-script-at : goal.returns-then-script-at
 unfolding lead_judged
-returns-then-script-at c = (rw (← c.before.before.before.before.before.before.mark_number-first.ensures, number_none _ _ _ c.before.before.before.before.before.if-first-ne0.false, ← c.before.before.before.before.mark_number-second.ensures, number_none _ _ _ c.before.before.before.if-second-ne0.false, ← c.before.before.mark_number-third.ensures, number_none _ _ _ c.before.if-third-ne0.false, lt-ltb _ _ c.if-script-at.true) refl, under_bytes c.before.before.before.before.before.before.before.before.args.script.now c.before.before.before.before.before.before.before.shared_slice_known-1.given)
+returns-then-script-at c = (rw (← c.mark_number-first.ensures, number_none _ _ _ c.if-first-ne0.false, ← c.mark_number-second.ensures, number_none _ _ _ c.if-second-ne0.false, ← c.mark_number-third.ensures, number_none _ _ _ c.if-third-ne0.false, lt-ltb _ _ c.if-script-at.true) refl, under_bytes c.args.script.now c.type_inv.script)
 
 pub returns-then-not-knows_version : goal.returns-then-not-knows_version
 unfolding lead_judged newest
-returns-then-not-knows_version c = (rw (← c.before.before.before.before.before.before.before.before.before.mark_number-first.ensures, number_none _ _ _ c.before.before.before.before.before.before.before.before.if-first-ne0.false, ← c.before.before.before.before.before.before.before.mark_number-second.ensures, number_none _ _ _ c.before.before.before.before.before.before.if-second-ne0.false, ← c.before.before.before.before.before.mark_number-third.ensures, number_none _ _ _ c.before.before.before.before.if-third-ne0.false, le-ltb _ _ c.before.before.before.if-script-at.false, ← c.before.before.version_at.ensures, ← c.before.knows_version.ensures, not-true c.before.knows_version.result c.if-not-knows_version.true-raw) refl, under_bytes c.before.before.before.before.before.before.before.before.before.before.before.args.script.now c.before.before.before.before.before.before.before.before.before.before.shared_slice_known-1.given)
+returns-then-not-knows_version c = (rw (← c.mark_number-first.ensures, number_none _ _ _ c.if-first-ne0.false, ← c.mark_number-second.ensures, number_none _ _ _ c.if-second-ne0.false, ← c.mark_number-third.ensures, number_none _ _ _ c.if-third-ne0.false, le-ltb _ _ c.if-script-at.false, ← c.version_at.ensures, ← c.knows_version.ensures, not-true c.knows_version.result c.if-not-knows_version.true-raw) refl, under_bytes c.args.script.now c.type_inv.script)
 
 pub returns : goal.returns
 unfolding lead_judged newest
-returns c = (rw (← c.before.before.before.before.before.before.before.before.before.mark_number-first.ensures, number_none _ _ _ c.before.before.before.before.before.before.before.before.if-first-ne0.false, ← c.before.before.before.before.before.before.before.mark_number-second.ensures, number_none _ _ _ c.before.before.before.before.before.before.if-second-ne0.false, ← c.before.before.before.before.before.mark_number-third.ensures, number_none _ _ _ c.before.before.before.before.if-third-ne0.false, le-ltb _ _ c.before.before.before.if-script-at.false, ← c.before.before.version_at.ensures, ← c.before.knows_version.ensures, not-false c.before.knows_version.result c.if-not-knows_version.false-raw) refl, under_bytes c.before.before.before.before.before.before.before.before.before.before.before.args.script.now c.before.before.before.before.before.before.before.before.before.before.shared_slice_known-1.given)
+returns c = (rw (← c.mark_number-first.ensures, number_none _ _ _ c.if-first-ne0.false, ← c.mark_number-second.ensures, number_none _ _ _ c.if-second-ne0.false, ← c.mark_number-third.ensures, number_none _ _ _ c.if-third-ne0.false, le-ltb _ _ c.if-script-at.false, ← c.version_at.ensures, ← c.knows_version.ensures, not-false c.knows_version.result c.if-not-knows_version.false-raw) refl, under_bytes c.args.script.now c.type_inv.script)

@@ -9,8 +9,8 @@ returns-then-script-j c = rw (le-leb _ _ c.if-script-j.true)
 
 pub returns-then-script-j-2 : goal.returns-then-script-j-2
 unfolding mark_number
-returns-then-script-j-2 c = rw (lt-leb _ _ c.before.before.if-script-j.false, ne_eqb _ _ c.if-script-j-2.true)
+returns-then-script-j-2 c = rw (lt-leb _ _ c.if-script-j.false, ne_eqb _ _ c.if-script-j-2.true)
 
 pub returns : goal.returns
 unfolding mark_number
-returns c = rw (lt-leb _ _ c.before.before.if-script-j.false, eq-eqb _ _ c.if-script-j-2.false)
+returns c = rw (lt-leb _ _ c.if-script-j.false, eq-eqb _ _ c.if-script-j-2.false)

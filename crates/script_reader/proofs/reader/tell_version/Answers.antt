@@ -10,7 +10,7 @@ unfolding with_version
 returns-then-got-ge-REFUSED c = rw (found_refused _ c.if-got-ge-REFUSED.true)
 
 pub fine-requires : goal.fine-requires
-fine-requires c = omega (arith, c.before.requires)
+fine-requires c = omega (arith, c.requires)
 
 pub returns : goal.returns
-returns c = told_answer _ _ _ c.before.before.requires c.before.if-got-ge-REFUSED.false c.fine.ensures
+returns c = told_answer _ _ _ c.requires c.if-got-ge-REFUSED.false c.fine.ensures

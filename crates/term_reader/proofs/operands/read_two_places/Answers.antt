@@ -27,26 +27,26 @@ unfolding judged_fields
 two_places nv t at = ap (on_number _ _) (follow_number _ _ (Fine 3) _) ∙ follow_number _ _ _ _
 
 pub returns-in_default : goal.returns-in_default
-returns-in_default c = (rw (two_places, ← c.before.before.judge_place-first.ensures, c.enum_told-1.given.1), rw c.enum_told-1.given.1 tt)
+returns-in_default c = (rw (two_places, ← c.judge_place-first.ensures, c.in_default.is), rw c.in_default.is tt)
 
 pub returns-in_default-second : goal.returns-in_default-second
-returns-in_default-second c = (rw (two_places, ← c.before.before.before.before.before.before.judge_place-first.ensures, c.before.before.before.before.first-1.given.1) c.before.before.judge_place-second.ensures, rw c.enum_told-in_default-second-1.given.1 tt)
+returns-in_default-second c = (rw (two_places, ← c.in-Fine.ensures) c.judge_place-second.ensures, rw c.in_default-second.is tt)
 
 pub bounds-tail-1 : goal.bounds-tail-1
-bounds-tail-1 c = let h = place_within _ _ _ 3 _ (sym c.before.before.before.before.before.judge_place-second.ensures ∙ c.before.before.before.second-1.given.1) in omega arith
+bounds-tail-1 c = let h = place_within _ _ _ 3 _ (sym c.in-Fine-second.ensures) in omega arith
 
 pub bounds-tail-2 : goal.bounds-tail-2
-bounds-tail-2 c = let h = place_within _ _ _ 3 _ (sym c.before.before.before.before.before.before.before.judge_place-second.ensures ∙ c.before.before.before.before.before.second-1.given.1) in omega arith
+bounds-tail-2 c = let h = place_within _ _ _ 3 _ (sym c.in-Fine-second.ensures) in omega arith
 
 pub bounds-tail-3 : goal.bounds-tail-3
-bounds-tail-3 c = let h = place_within _ _ _ 3 _ (sym c.before.before.before.before.before.before.before.before.before.judge_place-second.ensures ∙ c.before.before.before.before.before.before.before.second-1.given.1) in omega arith
+bounds-tail-3 c = let h = place_within _ _ _ 3 _ (sym c.in-Fine-second.ensures) in omega arith
 
 pub bounds-tail-4 : goal.bounds-tail-4
-bounds-tail-4 c = place_within _ _ _ 3 _ (sym c.before.before.before.before.before.before.before.before.before.before.before.judge_place-second.ensures ∙ c.before.before.before.before.before.before.before.before.before.second-1.given.1)
+bounds-tail-4 c = place_within _ _ _ 3 _ (sym c.in-Fine-second.ensures)
 
 pub returns : goal.returns
 unfolding values_at zeros
 returns c = (
-  rw (two_places, ← c.before.before.before.before.before.before.before.before.before.before.before.before.before.before.before.before.before.before.before.judge_place-first.ensures, c.before.before.before.before.before.before.before.before.before.before.before.before.before.before.before.before.before.first-1.given.1) (sym c.before.before.before.before.before.before.before.before.before.before.before.before.before.second-1.given.1 ∙ c.before.before.before.before.before.before.before.before.before.before.before.before.before.before.before.judge_place-second.ensures),
-  rw (← c.before.before.before.before.before.before.before.before.before.wide.ensures.0, ← c.before.before.before.before.before.before.before.wide-2.ensures.0, ← c.before.before.before.before.before.wide-3.ensures.0, ← c.before.before.before.wide-4.ensures.0) c.before.before.put_row.ensures,
+  rw (two_places, ← c.in-Fine.ensures) c.in-Fine-second.ensures,
+  rw (← c.wide.ensures.0, ← c.wide-2.ensures.0, ← c.wide-3.ensures.0, ← c.wide-4.ensures.0) c.put_row.ensures,
 )

@@ -1,4 +1,4 @@
-use Prim.Native.Nat.{◌<◌, ◌-◌}
+use Prim.Native.Nat.{◌<◌, ◌+◌, ◌*◌}
 use mathlib.Core.Path.{◌≡◌}
 use mathlib.Core.Bool.{false}
 use lib.ListN.{length}
@@ -18,3 +18,15 @@ invariant-read_term-loop-sizes l = Inner (unpacked l.sizes) (version_of l.sizes)
 
 abbrev pub decreases-read_term-loop-sizes : goal.decreases-read_term-loop-sizes
 decreases-read_term-loop-sizes l = l.left
+
+abbrev pub decreases-read_block : goal.decreases-read_block
+decreases-read_block l = l.levels * 4 + 1
+
+abbrev pub decreases-read_branches : goal.decreases-read_branches
+decreases-read_branches l = l.levels * 4 + 3
+
+abbrev pub decreases-read_due_block : goal.decreases-read_due_block
+decreases-read_due_block l = l.levels * 4 + 2
+
+abbrev pub decreases-read_term : goal.decreases-read_term
+decreases-read_term l = l.levels * 4

@@ -1,4 +1,3 @@
-use Prim.Native.Nat.{◌-◌}
 use native.Mathlib.Omega.{arith}
 use mathlib.Core.Path.{refl}
 use Rattle.writer.specs.OutputParts.{flat}
@@ -32,7 +31,7 @@ loop-i-smaller c = omega arith
 
 pub loop-i-preserved : goal.loop-i-preserved
 loop-i-preserved c =
-    (omega arith, omega (arith, kind_counted c.before.before.before.before.before.args.rows.now c.before.before.before.loop-i.i c.row_length-bytes.result c.row_length-bytes.ensures.0), omega arith)
+    (omega arith, omega (arith, kind_counted c.args.rows.now c.loop-i.i c.row_length-bytes.result c.row_length-bytes.ensures.0), omega arith)
 
 pub returns : goal.returns
-returns c = λ v. all_counted _ _ _ c.before.loop-i.invariant.0 c.loop-i-test.false _ v c.before.loop-i.invariant.1
+returns c = λ v. all_counted _ _ _ c.loop-i.invariant.0 c.loop-i-test.false _ v c.loop-i.invariant.1
