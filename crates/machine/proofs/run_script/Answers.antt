@@ -1,9 +1,8 @@
 -- `machine::run_script` meets its contract. Assumes nothing.
 use Rattle.machine.proofs.ScriptLaws.{run_inside, run_ranged, script_begins, script_closes, script_faults, script_wrong, script_answers}
-use Rattle.syntax.specs.Limits.{store_numbers}
 use borrow.Author.Rules.{rules}
 use native.Mathlib.Omega.{arith}
-use mathlib.Core.Path.{sym, ap, ◌∙◌}
+use mathlib.Core.Path.{◌∙◌}
 use mir.Facts.{to_z-of_z}
 use mir.Val.{SFits}
 use mir.Syntax.{w32}

@@ -25,15 +25,15 @@ run_block-drop_any-fault-requires t c = (c.loop-left.invariant.ready.tidy, c.loo
 
 pub run_block-returns-then-fault-ne-NO_FAULT : goal.run_block-returns-then-fault-ne-NO_FAULT
 run_block-returns-then-fault-ne-NO_FAULT t c =
-    going_drops _ _ _ _ _ _ _ _ _ _ _ _ _ c.loop-left.invariant c.loop-left-test.true _ _ c.drop_any-fault.ensures c.if-fault-ne-NO_FAULT.true _ c.without_value.ensures
+    going_drops _ _ _ _ _ _ _ _ _ _ _ _ _ c.loop-left.invariant (omega arith) _ _ c.drop_any-fault.ensures c.if-fault-ne-NO_FAULT.true _ c.without_value.ensures
 
 pub run_block-run_term-ran-requires : goal.run_block-run_term-ran-requires
 run_block-run_term-ran-requires t c =
-    (omega (arith, c.decreases), turn_ready _ _ _ _ _ _ _ _ _ _ _ _ _ c.loop-left.invariant c.loop-left-test.true _ _ c.drop_any-fault.ensures c.if-fault-ne-NO_FAULT.false)
+    (omega (arith, c.decreases), turn_ready _ _ _ _ _ _ _ _ _ _ _ _ _ c.loop-left.invariant (omega arith) _ _ c.drop_any-fault.ensures c.if-fault-ne-NO_FAULT.false)
 
 pub run_block-returns-then-ran-ne-NO_FAULT : goal.run_block-returns-then-ran-ne-NO_FAULT
 run_block-returns-then-ran-ne-NO_FAULT t c =
-    going_stops _ _ _ _ _ _ _ _ _ _ _ _ _ c.loop-left.invariant c.loop-left-test.true _ _ c.drop_any-fault.ensures c.if-fault-ne-NO_FAULT.false _ _ _ c.run_term-ran.ensures c.if-ran-ne-NO_FAULT.true
+    going_stops _ _ _ _ _ _ _ _ _ _ _ _ _ c.loop-left.invariant (omega arith) _ _ c.drop_any-fault.ensures c.if-fault-ne-NO_FAULT.false _ _ _ c.run_term-ran.ensures c.if-ran-ne-NO_FAULT.true
 
 pub run_block-overflow_sub-left : goal.run_block-overflow_sub-left
 run_block-overflow_sub-left t c = omega arith
@@ -43,7 +43,7 @@ run_block-loop-left-smaller t c = omega arith
 
 pub run_block-loop-left-preserved : goal.run_block-loop-left-preserved
 run_block-loop-left-preserved t c =
-    going_goes _ _ _ _ _ _ _ _ _ _ _ _ _ c.loop-left.invariant c.loop-left-test.true _ _ c.drop_any-fault.ensures c.if-fault-ne-NO_FAULT.false _ _ _ c.run_term-ran.ensures c.if-ran-ne-NO_FAULT.false c.run_term-ran.auto.opened
+    going_goes _ _ _ _ _ _ _ _ _ _ _ _ _ c.loop-left.invariant (omega arith) _ _ c.drop_any-fault.ensures c.if-fault-ne-NO_FAULT.false _ _ _ c.run_term-ran.ensures c.if-ran-ne-NO_FAULT.false c.run_term-ran.auto.opened
 
 pub run_block-returns : goal.run_block-returns
 run_block-returns t c = going_ends _ _ _ _ _ _ _ _ _ _ _ _ _ c.loop-left.invariant c.loop-left-test.false
