@@ -2,7 +2,7 @@
 use Prim.Native.Nat.{ℕ, zero, suc, ◌+◌, ◌-◌, ◌/◌, ◌≤◌, ◌<◌}
 use native.Mathlib.Omega.{arith}
 use native.Mathlib.Numerals.{add-one}
-use mathlib.Core.Path.{◌≡◌, ap, ◌∙◌}
+use mathlib.Core.Path.{◌≡◌, sym, ap, ◌∙◌}
 use mathlib.Core.Bool.{Bool, true, false}
 use mathlib.Core.List.{List, [], ◌∷◌}
 use lib.ListN.{length, take, drop, get_or, length-drop, drop_of_length-le}
@@ -31,6 +31,15 @@ pub bits_none : (rows : List ℕ) (b from k n : ℕ) → n ≤ k → b ≡ bits_
 unfolding bits_of
 bits_none rows b from k n h = let e : n - k ≡ 0 = omega (arith, h) in rw e
 
+-- The bits of all numbers from i on.
+pub rest_bits_more : (rows : List ℕ) (b i : ℕ) → i < length rows → bits_of b (drop i rows) ≡ bits_of (bit_or b (get_or rows i 0)) (drop (i + 1) rows)
+unfolding bits_of
+rest_bits_more rows b i h = ap (bits_of b) (first_left rows i h)
+
+pub rest_bits_none : (rows : List ℕ) (b i : ℕ) → length rows ≤ i → b ≡ bits_of b (drop i rows)
+unfolding bits_of
+rest_bits_none rows b i h = sym (ap (bits_of b) (drop_of_length-le rows h))
+
 pub used_later : (rows : List ℕ) (i : ℕ) → i < length rows → get_or rows i 0 ≡ 0 → first_used i (drop i rows) ≡ first_used (i + 1) (drop (i + 1) rows)
 unfolding first_used
 used_later rows i h z = rw (first_left rows i h, eq-eqb _ _ z, add-one)
@@ -58,6 +67,18 @@ passed b k (suc n) (x ∷ xs) m h =
 -- Numbers without any bit are all 0.
 pub bits_unused : (rows : List ℕ) (i n : ℕ) → i + n ≤ length rows → bits_of 0 (take n (drop i rows)) ≡ 0 → first_used i (drop i rows) ≡ first_used (i + n) (drop (i + n) rows)
 bits_unused rows i n m z = (passed 0 i n (drop i rows) (omega (arith, length-drop i rows, m)) z).1 ∙ ap (first_used (i + n)) (drop-drop n i rows)
+
+all_unused : (b k : ℕ) (xs : List ℕ) → bits_of b xs ≡ 0 → (b ≡ 0) × (first_used k xs ≡ k + length xs)
+unfolding bits_of first_used
+all_unused b k [] h = (h, omega arith)
+all_unused b k (x ∷ xs) h =
+    let q = all_unused (bit_or b x) (suc k) xs h in
+    let z = no_bits b x q.0 in
+    let e : suc k + length xs ≡ k + suc (length xs) = omega arith in
+    (z.0, rw (eq-eqb x 0 z.1) (q.1 ∙ e))
+
+pub rest_unused : (rows : List ℕ) (i : ℕ) → i ≤ length rows → bits_of 0 (drop i rows) ≡ 0 → length rows ≡ first_used i (drop i rows)
+rest_unused rows i h z = omega (arith, (all_unused 0 i (drop i rows) z).1, length-drop i rows)
 
 -- 19 (LANGUAGE 5.13) is at the row of the first number that is not 0.
 pub left_judged : (k : ℕ) (xs : List ℕ) → nothing_left in_rows k xs ≡ pick (ltb (first_used k xs) (k + length xs)) (err (19, first_used k xs / 5)) (ok tt)

@@ -213,6 +213,19 @@ fn bits_of_32(rows: &[u32], from: usize) -> u32
     bits
 }
 
+// The bits that any number from `from` on has: 0 where 19 is not met (LANGUAGE 5.13). Nothing leaves the loop early.
+fn bits_from(rows: &[u32], from: usize) -> u32
+    ensures { result ≡ bits_of 0 (drop from rows.now) }
+{
+    let mut bits: u32 = 0;
+    let mut i = from;
+    while i < rows.len() {
+        bits |= rows[i];
+        i += 1;
+    }
+    bits
+}
+
 // The same as `first_used`, one number after the other.
 fn first_from(rows: &[u32], from: usize) -> usize
     requires { from ≤ length rows.now }
@@ -230,7 +243,7 @@ fn first_from(rows: &[u32], from: usize) -> usize
 
 // 19 (LANGUAGE 5.13): where the first number from `from` on that is not 0 stands; the length where there is none. In a
 // small script most rows are unused, so 32 numbers at a time are passed over: the time of a loop of a few instructions
-// depends on where it is linked (DECISIONS C51).
+// depends on where it is linked (DECISIONS C51). The fewer than 32 at the end are looked at together too.
 pub fn first_used(rows: &[u32], from: usize) -> usize
     requires { from ≤ length rows.now }
     ensures { result ≡ first_used from (drop from rows.now) }
@@ -241,6 +254,9 @@ pub fn first_used(rows: &[u32], from: usize) -> usize
             return first_from(rows, i);
         }
         i += 32;
+    }
+    if bits_from(rows, i) == 0 {
+        return rows.len();
     }
     first_from(rows, i)
 }
