@@ -4,13 +4,7 @@ use native.Mathlib.Omega.{arith}
 use Rattle.machine.proofs.run_judged.Goals as goal
 
 pub run_script-requires : goal.run_script-requires
-run_script-requires c = (c.requires, omega (arith, c.if-set-le-SHORT.true))
-
-pub returns-then-set-le-SHORT : goal.returns-then-set-le-SHORT
-returns-then-set-le-SHORT c = c.run_script.ensures
+run_script-requires c = (c.requires, omega arith)
 
 pub run_script-requires-2 : goal.run_script-requires-2
 run_script-requires-2 c = (c.requires, omega (arith, (run_ranged _ _ _ _ c.requires).terms))
-
-pub returns : goal.returns
-returns c = c.run_script-2.ensures
