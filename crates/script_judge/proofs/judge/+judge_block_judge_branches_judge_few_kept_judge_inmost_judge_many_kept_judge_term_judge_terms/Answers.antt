@@ -1,5 +1,5 @@
 -- The functions that judge terms, blocks and choices, which call each other, meet their contracts. Assumes nothing.
-use Prim.Native.Nat.{ℕ, ◌-◌, ◌+◌, ◌<◌, ◌*◌}
+use Prim.Native.Nat.{ℕ, ◌-◌, ◌+◌, ◌<◌}
 use native.Mathlib.Omega.{arith}
 use native.Mathlib.Numerals.{add-one}
 use mathlib.Core.Path.{◌≡◌, sym, ◌∙◌, ap, refl}
@@ -19,19 +19,15 @@ use mathlib.Core.List.{List, [], ◌∷◌, ◌++◌}
 use Rattle.syntax.specs.Script.{Term}
 use Rattle.syntax.specs.RowTrees.{RowTree, tree_at, IsTree}
 use Rattle.statics.specs.Environment.{Environment}
-use Rattle.statics.specs.Choice.{carried}
 use Rattle.statics.specs.Neat.{Neat}
 use Rattle.variables.specs.Table.{environment_of, as_place}
-use Rattle.choices.specs.Kept.{KeepsAll, Stays}
+use Rattle.choices.specs.Kept.{Stays}
 use Rattle.term_judge.specs.declared.terms.JudgedTerm.{JudgedTerm}
-use Rattle.term_judge.specs.JudgeRows.{ended, judge_at, branches_at}
+use Rattle.term_judge.specs.JudgeRows.{ended, judge_at}
 use Rattle.script_judge.proofs.BlockLaws.{one_judged, next_after, rest_refused, rest_fine, rest_none}
 use Rattle.script_judge.proofs.BranchLaws.{first_ready, first_refused, first_neat, first_stays, second_ready, second_start, second_refused, second_neat, second_stays, branches_fine, choice_refused, choice_met}
-use mathlib.Core.Option.{none, some}
-use lib.ListN.{length}
-use Rattle.script_judge.proofs.InwardsLaws.{Inwards, Outwards, inwards_start, inwards_more, inwards_neat, inwards_tree, inwards_around, inwards_refused, outwards_start, outwards_none, outwards_less, outwards_around, outwards_ready}
-use borrow.Fn.Kinds.{In}
-use borrow.Fn.PlainCycle.{is, falls, and}
+use mathlib.Core.Option.{some}
+use Rattle.script_judge.proofs.InwardsLaws.{Outwards, inwards_start, inwards_more, inwards_neat, inwards_tree, inwards_around, inwards_refused, outwards_start, outwards_none, outwards_less, outwards_around, outwards_ready}
 use mathlib.Core.Bool.{Bool, true}
 use lib.Dec.{eqb}
 use Rattle.syntax.specs.Result.{pick}
@@ -313,11 +309,10 @@ judge_inmost-judge_few_kept-requires t c =
     (omega (arith, c.decreases), (p.0, is_choice t (goal.at.judge_inmost-judge_few_kept-requires t c).Then-kind-eq-CHOICE, p.2, c.numbers_taken-count.ensures, c.if-count-le-FEW.true))
 
 pub judge_inmost-returns-then-count-le-FEW : goal.judge_inmost-returns-then-count-le-FEW
-judge_inmost-returns-then-count-le-FEW t c =
-    (
-      choice_met _ _ _ _ c.requires.0 (is_choice t (goal.at.judge_inmost-returns-then-count-le-FEW t c).Then-kind-eq-CHOICE) _ c.place_at-first.ensures _ (after_choice t (goal.at.judge_inmost-returns-then-count-le-FEW t c).After-judge_number-number) _ _ (judged t (goal.at.judge_inmost-returns-then-count-le-FEW t c).After-judge_number-number) (inside_choice t (goal.at.judge_inmost-returns-then-count-le-FEW t c).After-unite-inside) (same_choice t (goal.at.judge_inmost-returns-then-count-le-FEW t c).After-unite-inside) _ c.in_default.is _ _ c.judge_few_kept.ensures.0,
-      c.judge_few_kept.ensures.1,
-    )
+judge_inmost-returns-then-count-le-FEW t c = (
+  choice_met _ _ _ _ c.requires.0 (is_choice t (goal.at.judge_inmost-returns-then-count-le-FEW t c).Then-kind-eq-CHOICE) _ c.place_at-first.ensures _ (after_choice t (goal.at.judge_inmost-returns-then-count-le-FEW t c).After-judge_number-number) _ _ (judged t (goal.at.judge_inmost-returns-then-count-le-FEW t c).After-judge_number-number) (inside_choice t (goal.at.judge_inmost-returns-then-count-le-FEW t c).After-unite-inside) (same_choice t (goal.at.judge_inmost-returns-then-count-le-FEW t c).After-unite-inside) _ c.in_default.is _ _ c.judge_few_kept.ensures.0,
+  c.judge_few_kept.ensures.1,
+)
 
 pub judge_inmost-judge_many_kept-requires : goal.judge_inmost-judge_many_kept-requires
 judge_inmost-judge_many_kept-requires t c =
@@ -325,11 +320,10 @@ judge_inmost-judge_many_kept-requires t c =
     (omega (arith, c.decreases), (p.0, is_choice t (goal.at.judge_inmost-judge_many_kept-requires t c).Then-kind-eq-CHOICE, p.2, c.numbers_taken-count.ensures))
 
 pub judge_inmost-returns-then-kind-eq-CHOICE : goal.judge_inmost-returns-then-kind-eq-CHOICE
-judge_inmost-returns-then-kind-eq-CHOICE t c =
-    (
-      choice_met _ _ _ _ c.requires.0 (is_choice t (goal.at.judge_inmost-returns-then-kind-eq-CHOICE t c).Then-kind-eq-CHOICE) _ c.place_at-first.ensures _ (after_choice t (goal.at.judge_inmost-returns-then-kind-eq-CHOICE t c).After-judge_number-number) _ _ (judged t (goal.at.judge_inmost-returns-then-kind-eq-CHOICE t c).After-judge_number-number) (inside_choice t (goal.at.judge_inmost-returns-then-kind-eq-CHOICE t c).After-unite-inside) (same_choice t (goal.at.judge_inmost-returns-then-kind-eq-CHOICE t c).After-unite-inside) _ c.in_default.is _ _ c.judge_many_kept.ensures.0,
-      c.judge_many_kept.ensures.1,
-    )
+judge_inmost-returns-then-kind-eq-CHOICE t c = (
+  choice_met _ _ _ _ c.requires.0 (is_choice t (goal.at.judge_inmost-returns-then-kind-eq-CHOICE t c).Then-kind-eq-CHOICE) _ c.place_at-first.ensures _ (after_choice t (goal.at.judge_inmost-returns-then-kind-eq-CHOICE t c).After-judge_number-number) _ _ (judged t (goal.at.judge_inmost-returns-then-kind-eq-CHOICE t c).After-judge_number-number) (inside_choice t (goal.at.judge_inmost-returns-then-kind-eq-CHOICE t c).After-unite-inside) (same_choice t (goal.at.judge_inmost-returns-then-kind-eq-CHOICE t c).After-unite-inside) _ c.in_default.is _ _ c.judge_many_kept.ensures.0,
+  c.judge_many_kept.ensures.1,
+)
 
 pub judge_inmost-place_at-second-requires : goal.judge_inmost-place_at-second-requires
 judge_inmost-place_at-second-requires t c =

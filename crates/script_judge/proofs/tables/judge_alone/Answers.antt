@@ -15,4 +15,3 @@ returns-then-variables-le-FEW c = c.judge_few.ensures
 
 pub returns-else-variables-le-FEW : goal.returns-else-variables-le-FEW
 returns-else-variables-le-FEW c = c.judge_many.ensures
-

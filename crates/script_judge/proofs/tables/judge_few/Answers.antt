@@ -14,4 +14,3 @@ judge_script-requires c =
     let p = c.requires in
     let tables = tables_ready 64 _ p.3 (omega arith) in
     (p.0, p.1, p.2, p.4, tables.0, tables.1, tables.2, tables.3)
-
