@@ -1,36 +1,49 @@
-use Prim.Native.Nat.{◌-◌}
-use mathlib.Core.Path.{◌≡◌}
-use Rattle.variables.specs.declared.verdicts.Verdict.TheVariants as verdict
-use Rattle.variables.specs.Masks.{has}
-use Rattle.variables.specs.Verdicts.{verdict_of}
-use Rattle.uses.specs.RowUses.{later_at}
-use Prim.Native.Nat.{◌-◌}
-use Rattle.syntax.specs.RowTrees.{tree_at}
-use Rattle.statics.specs.Environment.{Environment}
-use Rattle.variables.specs.Table.{environment_of}
-use Rattle.uses.specs.RowUses.{later_at}
-use Prim.Native.Nat.{◌-◌, ◌≤◌}
+use Prim.Native.Nat.{ℕ, ◌+◌, ◌-◌, ◌*◌, ◌≤◌}
 use mathlib.Core.Path.{◌≡◌}
 use mathlib.Core.Option.{none}
+use mathlib.Core.List.{List}
 use lib.ListN.{length}
 use Rattle.syntax.specs.RowTrees.{IsRest, tree_at}
 use Rattle.variables.specs.declared.verdicts.Value.{Value}
+use Rattle.variables.specs.declared.verdicts.Verdict.TheVariants as verdict
+use Rattle.statics.specs.Environment.{Environment}
+use Rattle.variables.specs.Masks.{has}
 use Rattle.variables.specs.Table.{TableFor, environment_of}
 use Rattle.variables.specs.Verdicts.{as_value, verdict_of}
+use Rattle.uses.specs.RowUses.{later_at}
 use Rattle.term_judge.specs.JudgeRows.{Ready, rest_at}
 use Rattle.script_judge.proofs.InwardsLaws.{Inwards, Outwards}
-use borrow.Fn.PlainCycle.{is, and}
-use Prim.Native.Nat.{◌-◌}
-use mathlib.Core.Path.{◌≡◌}
-use Rattle.syntax.specs.RowTrees.{tree_at}
-use Rattle.variables.specs.Table.{environment_of}
-use Rattle.uses.specs.RowUses.{later_at}
-use Prim.Native.Nat.{◌-◌}
-use mathlib.Core.Path.{◌≡◌}
-use Rattle.syntax.specs.RowTrees.{tree_at}
-use Rattle.script_judge.proofs.InwardsLaws.{Outwards}
-use Rattle.variables.specs.Verdicts.{as_value}
 use Rattle.script_judge.proofs.judge.+judge_block_judge_branches_judge_few_kept_judge_inmost_judge_many_kept_judge_term_judge_terms.Given as goal
+
+-- How deep the functions that judge terms, blocks and choices may still go, and what their loops keep. In a block's loop over its terms, what is
+-- left gives the answer of all. Inwards, each term begins in the state that the one around it left; outwards, what has been judged is the answer
+-- of the term so far in.
+
+-- What is left from row i on, which falls from a block or a choice to the terms in it: levels, and numbers of rows.
+abbrev remaining : List ℕ → ℕ → ℕ → ℕ
+remaining rows i levels = levels + (length rows - 5 * i)
+
+-- Where both stay, the rank of the function falls.
+abbrev pub decreases-judge_block : goal.decreases-judge_block
+decreases-judge_block l = remaining l.rows.now l.i l.levels * 6
+
+abbrev pub decreases-judge_branches : goal.decreases-judge_branches
+decreases-judge_branches l = remaining l.rows.now l.i l.levels * 6 + 1
+
+abbrev pub decreases-judge_few_kept : goal.decreases-judge_few_kept
+decreases-judge_few_kept l = remaining l.rows.now l.i l.levels * 6 + 2
+
+abbrev pub decreases-judge_inmost : goal.decreases-judge_inmost
+decreases-judge_inmost l = remaining l.rows.now l.i l.levels * 6 + 3
+
+abbrev pub decreases-judge_many_kept : goal.decreases-judge_many_kept
+decreases-judge_many_kept l = remaining l.rows.now l.i l.levels * 6 + 2
+
+abbrev pub decreases-judge_term : goal.decreases-judge_term
+decreases-judge_term l = remaining l.rows.now l.i l.levels * 6 + 4
+
+abbrev pub decreases-judge_terms : goal.decreases-judge_terms
+decreases-judge_terms l = remaining l.rows.now l.i l.levels * 6 + 5
 
 -- Inwards: the state in which the inner term is judged. Outwards: what has been judged there.
 abbrev pub invariant-judge_term-loop-env : goal.invariant-judge_term-loop-env

@@ -9,50 +9,35 @@ use Rattle.statics.proofs.NeatJudged.{neat_start}
 use Rattle.uses.specs.RowUses.{UsesFor, later_at}
 use Rattle.script_judge.proofs.ScriptLaws.{LastTree, script_refused, script_fine, ends_tree, script_alone}
 use Rattle.script_judge.proofs.judge.judge_script.Goals as goal
+use Rattle.script_judge.proofs.judge.judge_script.Goals.{After-find_uses, After-judge_terms-judged}
 
 -- The last uses are found before the script is judged.
-module _ (f : goal.After-find_uses) where
-  abbrev start : goal.Start
-  start = f.before.before.before.before.before
-
-  tree_stands : IsTree (tree_at start.args.variables start.args.levels start.args.rows.now 0)
-  tree_stands = ends_tree (tree_at _ _ _ _) _ start.requires.0
-
-  found : UsesFor start.args.variables start.args.rows.now f.find_uses.last.1.1.0
-  found = rw start.requires.6 at f.find_uses.ensures
+tree_stands : (f : After-find_uses) → IsTree (tree_at f.args.variables f.args.levels f.args.rows.now 0)
+tree_stands f = ends_tree (tree_at _ _ _ _) _ f.requires.0
 
 -- Where it is judged: nothing is named after it, nor around it.
-module _ (j : goal.After-judge_terms-judged) where
-  abbrev at_find_uses : goal.After-find_uses
-  at_find_uses = j.before.before.before.before.before.before
+module _ (j : After-judge_terms-judged) where
+  found : UsesFor j.args.variables j.args.rows.now j.find_uses.new.uses
+  found = rw j.requires.6 at j.find_uses.ensures
 
-  alone : LastTree (start at_find_uses).args.variables (later_at (start at_find_uses).args.variables at_find_uses.find_uses.last.1.1.0 (has j.before.no_roots.result)) (tree_at (start at_find_uses).args.variables (start at_find_uses).args.levels (start at_find_uses).args.rows.now 0)
-  alone = let p = (start at_find_uses).requires in script_alone _ _ _ (found at_find_uses) _ j.before.no_roots.ensures (tree_at _ _ _ _) _ p.0 p.1
+  alone : LastTree j.args.variables (later_at j.args.variables j.find_uses.new.uses (has j.no_roots.result)) (tree_at j.args.variables j.args.levels j.args.rows.now 0)
+  alone = script_alone _ _ _ found _ j.no_roots.ensures (tree_at _ _ _ _) _ j.requires.0 j.requires.1
 
 pub find_uses-requires : goal.find_uses-requires
-find_uses-requires c = let p = c.before.before.before.before.requires in (rw p.6 p.1, p.2, p.7)
+find_uses-requires c = let p = c.requires in (rw p.6 p.1, p.2, p.7)
 
 pub judge_terms-judged-requires : goal.judge_terms-judged-requires
 judge_terms-judged-requires c =
-    let f = c.before.before.before.before.before in
-    let p = (start f).requires in
-    (rest_one _ _ (tree_stands f), record { table = p.4; neat = rw p.5 (neat_start _); deep = omega (arith, p.3); last_uses = found f })
+    let p = c.requires in
+    (rest_one _ _ (tree_stands (goal.at.judge_terms-judged-requires c).After-find_uses), record { table = p.4; neat = rw p.5 (neat_start _); deep = omega (arith, p.3); last_uses = rw p.6 at c.find_uses.ensures })
 
 pub returns-in-Refused : goal.returns-in-Refused
 unfolding as_requirement
 returns-in-Refused c =
-    let at-verdict = c.before in
-    let at-verdict-of = at-verdict.before.before in
-    let j = at-verdict-of.before.before.before in
-    let f = at_find_uses j in
-    let refused = sym at-verdict-of.verdict_of-verdict.ensures ∙ at-verdict.verdict-1.given.1 in
-    script_refused _ (tree_at _ _ _) _ (tree_stands f) _ (alone j) _ (start f).requires.5 _ _ j.judge_terms-judged.ensures.0 _ refused
+    let refused = sym c.verdict_of-verdict.ensures ∙ c.in-Refused.is in
+    script_refused _ (tree_at _ _ _) _ (tree_stands (goal.at.returns-in-Refused c).After-find_uses) _ (alone (goal.at.returns-in-Refused c).After-judge_terms-judged) _ c.requires.5 _ _ c.judge_terms-judged.ensures.0 _ refused
 
 pub returns-in-Fine : goal.returns-in-Fine
 returns-in-Fine c =
-    let at-verdict2 = c.before.before in
-    let at-verdict-of = at-verdict2.before.before in
-    let j = at-verdict-of.before.before.before in
-    let f = at_find_uses j in
-    let fine = sym at-verdict-of.verdict_of-verdict.ensures ∙ at-verdict2.verdict-in-Fine-1.given.1 in
-    script_fine _ (tree_at _ _ _) _ (tree_stands f) _ (alone j) _ (start f).requires.5 _ _ j.judge_terms-judged.ensures.0 _ fine _ c.judge_answer.ensures
+    let fine = sym c.verdict_of-verdict.ensures ∙ c.in-Fine.is in
+    script_fine _ (tree_at _ _ _) _ (tree_stands (goal.at.returns-in-Fine c).After-find_uses) _ (alone (goal.at.returns-in-Fine c).After-judge_terms-judged) _ c.requires.5 _ _ c.judge_terms-judged.ensures.0 _ fine _ c.judge_answer.ensures
