@@ -9,11 +9,11 @@ use Rattle.room.proofs.call.Goals as goal
 pub returns-then-number-ne0 : goal.returns-then-number-ne0
 returns-then-number-ne0 c =
     let e = call_unfit _ _ c.args.readings.now _ _ _ c.fit_number-number.ensures c.if-number-ne0.true in
-    record { answered = e; safe = safe_call _ _ _ _ _ (under_bytes c.args.script.now c.shared_slice_known-1.given) _ _ _ e }
+    record { answered = e; safe = safe_call _ _ _ _ _ (under_bytes c.args.script.now c.type_inv.script) _ _ _ e }
 
 pub check_judged-checked-requires : goal.check_judged-checked-requires
 unfolding newest
-check_judged-checked-requires c = read_judged _ _ _ (under_bytes c.args.script.now c.shared_slice_known-1.given) _ _ _ _ _ c.read-read.ensures c.in-Script.is
+check_judged-checked-requires c = read_judged _ _ _ (under_bytes c.args.script.now c.type_inv.script) _ _ _ _ _ c.read-read.ensures c.in-Script.is
 
 pub run_checked-requires : goal.run_checked-requires
 run_checked-requires c =
@@ -24,10 +24,10 @@ pub returns-in-Refused : goal.returns-in-Refused
 unfolding newest
 returns-in-Refused c =
     let e = call_unread _ _ c.args.readings.now _ _ _ c.fit_number-number.ensures c.if-number-ne0.false _ _ c.read-read.ensures _ _ c.in-Refused.is in
-    record { answered = e; safe = safe_call _ _ _ _ _ (under_bytes c.args.script.now c.shared_slice_known-1.given) _ _ _ e }
+    record { answered = e; safe = safe_call _ _ _ _ _ (under_bytes c.args.script.now c.type_inv.script) _ _ _ e }
 
 pub returns-in-Script : goal.returns-in-Script
 unfolding newest
 returns-in-Script c =
     let e = call_read _ _ c.args.readings.now _ _ _ c.fit_number-number.ensures c.if-number-ne0.false _ _ c.read-read.ensures _ _ c.in-Script.is _ _ c.run_checked.ensures _ c.with_terms.ensures in
-    record { answered = e; safe = safe_call _ _ _ _ _ (under_bytes c.args.script.now c.shared_slice_known-1.given) _ _ _ e }
+    record { answered = e; safe = safe_call _ _ _ _ _ (under_bytes c.args.script.now c.type_inv.script) _ _ _ e }

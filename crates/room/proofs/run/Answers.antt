@@ -8,7 +8,7 @@ use Rattle.room.proofs.run.Goals as goal
 pub returns-then-number-ne0 : goal.returns-then-number-ne0
 returns-then-number-ne0 c =
     let e = run_unfit _ _ c.args.readings.now _ _ (unfit _ c.args.rows.now c.args.readings.now c.args.store.now _ c.fit_number-number.ensures c.if-number-ne0.true) in
-    record { answered = e; safe = safe_run _ _ _ _ (under_words c.args.rows.now c.shared_slice_known-1.given) _ _ e }
+    record { answered = e; safe = safe_run _ _ _ _ (under_words c.args.rows.now c.type_inv.rows) _ _ e }
 
 pub run_checked-requires : goal.run_checked-requires
 run_checked-requires c =
@@ -16,4 +16,4 @@ run_checked-requires c =
     (c.check-checked.ensures, fit.eight, fit.size)
 
 pub returns : goal.returns
-returns c = record { answered = c.run_checked.ensures; safe = safe_run _ _ _ _ (under_words c.args.rows.now c.shared_slice_known-1.given) _ _ c.run_checked.ensures }
+returns c = record { answered = c.run_checked.ensures; safe = safe_run _ _ _ _ (under_words c.args.rows.now c.type_inv.rows) _ _ c.run_checked.ensures }
