@@ -5,11 +5,11 @@ use Rattle.ownership.proofs.CheckLaws.{rows_refused}
 use Rattle.ownership.proofs.check.Goals as goal
 
 pub check_judged-requires : goal.check_judged-requires
-check_judged-requires c = rows_counted _ _ _ _ c.before.before.before.judge_rows-outcome.ensures c.before.outcome-in-Count-1.given.1
+check_judged-requires c = rows_counted _ _ _ _ c.judge_rows-outcome.ensures c.in-Count.is
 
 pub returns-in-Refused : goal.returns-in-Refused
 unfolding told_checked
-returns-in-Refused c = rows_refused _ _ _ _ _ c.before.before.before.judge_rows-outcome.ensures c.before.outcome-1.given.1
+returns-in-Refused c = rows_refused _ _ _ _ _ c.judge_rows-outcome.ensures c.in-Refused.is
 
 pub returns-in-Count : goal.returns-in-Count
 returns-in-Count c = c.check_judged.ensures
