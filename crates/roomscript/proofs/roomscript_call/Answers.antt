@@ -6,4 +6,4 @@ use Rattle.roomscript.proofs.roomscript_call.Goals as goal
 pub returns : goal.returns
 returns c =
     let called = c.call.ensures in
-    (rw c.c_called.ensures (ap (in_c called_in) called.0), (_, c.c_called.ensures, called.1))
+    record { answered = rw c.c_called.ensures (ap (in_c called_in) called.answered); safe = (_, c.c_called.ensures, called.safe) }

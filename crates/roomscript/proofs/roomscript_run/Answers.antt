@@ -6,4 +6,4 @@ use Rattle.roomscript.proofs.roomscript_run.Goals as goal
 pub returns : goal.returns
 returns c =
     let ran = c.run.ensures in
-    (rw c.c_ran.ensures (ap (in_c ran_in) ran.0), (_, c.c_ran.ensures, ran.1))
+    record { answered = rw c.c_ran.ensures (ap (in_c ran_in) ran.answered); safe = (_, c.c_ran.ensures, ran.safe) }

@@ -25,5 +25,5 @@ word_at-requires c = omega (arith, c.if-input-lt4.false, c.if-input-at.false)
 pub returns : goal.returns
 unfolding reading_at
 returns c =
-    let h : SFits w32 c.number_of_lem.result = search rules in
-    rw (le-leb (c.args.at + 4) (length c.args.input.now) (omega (arith, c.if-input-lt4.false, c.if-input-at.false)), ← c.word_at.ensures) (to_z-of_z h ∙ c.number_of_lem.ensures)
+    let h : SFits w32 c.number_of.result = search rules in
+    rw (le-leb (c.args.at + 4) (length c.args.input.now) (omega (arith, c.if-input-lt4.false, c.if-input-at.false)), ← c.word_at.ensures) (to_z-of_z h ∙ c.number_of.ensures)
