@@ -7,6 +7,6 @@ put_decimal-requires c = omega (arith, decimal_word _ c.ranges.n, c.put_text-num
 
 pub returns : goal.returns
 returns c = record {
-    put = put_next _ _ _ _ _ _ _ _ c.put_text-number.ensures c.put_decimal.ensures;
-    within = omega (arith, decimal_word _ c.ranges.n);
-  }
+  put = put_next _ _ _ _ _ _ _ _ c.put_text-number.ensures c.put_decimal.ensures;
+  within = omega (arith, decimal_word _ c.ranges.n);
+}
