@@ -2,6 +2,7 @@
 pub mod ReadLaws
 pub mod OutputTrees
 pub mod OutputAnswers
+pub mod WriteRefused
 pub mod Undo
 pub mod WritingLength
 pub mod MoreAnswers

@@ -6,7 +6,7 @@ use mathlib.Core.Bool.{Bool, true, false}
 use mathlib.Core.List.{List}
 use lib.ListN.{length, drop, length-drop}
 use lib.Dec.{ltb, eqb}
-use borrow.Author.Tests.{lt-ltb, le-ltb}
+use borrow.Author.Tests.{lt-ltb, le-ltb, eq-eqb, ne_eqb}
 use Rattle.syntax.specs.Result.{Result, ok, err, need, Refusal, pick, ◌>>=◌}
 use Rattle.syntax.specs.Limits.{Limits, in_ranges, row_numbers}
 use Rattle.syntax.specs.Kinds.{newest, knows}
@@ -19,14 +19,29 @@ use Rattle.syntax.specs.Answers.{rows_tree, judged_of, given_whole}
 use Rattle.syntax.specs.RowParts.{term_rows, judged_in, given_terms, span_of, first_used}
 use Rattle.reader.specs.declared.Outcome.TheVariants as outcome
 use Rattle.syntax.specs.RowParts as span
-use Rattle.syntax.proofs.Answers.{after, stop, go_on, stops}
+use Rattle.syntax.proofs.Answers.{after, stop, need_err, go_on, stops}
 use Rattle.row_judge.proofs.LeftOver.{left_judged}
 use Rattle.row_judge.proofs.RowSpans.{refused_of, FineOf, fine_of, Words, Ends, ends}
 
--- Rows of every version are those of the newest.
-pub judged_newest : (l : Limits) (rows : List ℕ) → given_terms l newest rows ≡ judged_of l rows
+module _ (l : Limits) (rows : List ℕ) where
+  pub other_set : in_ranges l ≡ false → told (outcome.Refused 74 0) ≡ judged_of l rows
+  unfolding told judged_of rows_tree
+  other_set r = sym (stop (rows_tree l rows) _ _ (stop (need (in_ranges l) (74, 0)) _ _ (need_err (in_ranges l) (74, 0) r)))
+
+  module _ (ranges : in_ranges l ≡ true) where
+    pub other_length : (length rows ≡ row_numbers l → ⊥) → told (outcome.Refused 2 0) ≡ judged_of l rows
+    unfolding told judged_of rows_tree need ◌>>=◌
+    other_length n = rw (ranges, ne_eqb (length rows) (row_numbers l) n)
+
+    -- Rows of every version are those of the newest.
+    pub judged_newest : length rows ≡ row_numbers l → judged_in l newest rows ≡ judged_of l rows
+    unfolding judged_in judged_of rows_tree decode need ◌>>=◌
+    judged_newest full = rw (ranges, eq-eqb (length rows) (row_numbers l) full)
+
+-- The same of all that is judged first.
+pub given_newest : (l : Limits) (rows : List ℕ) → given_terms l newest rows ≡ judged_of l rows
 unfolding given_terms given_whole judged_of rows_tree decode knows newest need ◌>>=◌
-judged_newest l rows = go (in_ranges l) (eqb (length rows) (row_numbers l)) (decode_in l newest rows)
+given_newest l rows = go (in_ranges l) (eqb (length rows) (row_numbers l)) (decode_in l newest rows)
   where
     whole : Term → Whole
     whole t = record { version = newest; term = t }

@@ -1,9 +1,9 @@
 -- `reader::judge_rows` meets its contract. Assumes nothing.
 use mathlib.Core.Path.{◌∙◌}
 use Rattle.syntax.specs.Kinds.{newest}
-use Rattle.reader.proofs.RowsJudged.{judged_newest}
+use Rattle.reader.proofs.RowsJudged.{given_newest}
 use Rattle.reader.proofs.judge_rows.Goals as goal
 
 pub returns : goal.returns
 unfolding newest
-returns c = c.judge_in_version.ensures ∙ judged_newest _ _
+returns c = c.judge_in_version.ensures ∙ given_newest _ _
