@@ -8,7 +8,7 @@ proofs/, in the .rt files (where only clauses and `ghost use` items have such na
 In a comment or a page a name with hyphens alone turns only within backticks. Types and modules keep their names, and so do
 the names of functions of src/, of the libraries, and the answers of a Proof.antt, which are named for what Rattle asks.
 A line that begins 'meets:' names a new spelling that a file has already, or that two names would share.
---check writes nothing.
+--check writes nothing, and prints each name with its new spelling.
 """
 
 import collections
@@ -17,7 +17,11 @@ import re
 import sys
 
 WORD = re.compile(r'[^\s(){}.;,@"«»`]+')
-DECLARED = re.compile(r"^[ \t]*((?:(?:pub|abbrev|unfoldable|opaque|private) +)*)([^\s(){}.;,@\"«»]+(?: +[^\s(){}.;,@\"«»:]+)*)(?: \{[^{}\n]*\})* +:(?= |$)", re.M)
+DECLARED = re.compile(
+    r"^[ \t]*((?:(?:pub|abbrev|unfoldable|opaque|private) +)*)"
+    r"([^\s(){}.;,@\"«»]+(?: +[^\s(){}.;,@\"«»:]+)*)(?: \{[^{}\n]*\})* +:(?= |$)",
+    re.M,
+)
 NOT_NAMES = {"module", "use", "record", "data", "where", "unfolding", "let", "in", "field", "constructor", "mod", "of"}
 # Names that the kit's scripts spelled like the new spelling of another name, each with the file (or the end of it, or "" for
 # all) where it stands, and its name from now on.
@@ -128,8 +132,10 @@ def main(argv):
                 return m[0]
             return mine.get(m[0], m[0])
 
-        def prose(m):
-            return re.sub(r"`[^`\n]*`", lambda s: WORD.sub(lambda w: table.get(w[0], w[0]), s[0]), re.sub(WORD, lambda w: table[w[0]] if w[0] in table and re.search("[A-Z]", w[0]) else w[0], m))
+        def prose(text):
+            """Text that is no code: names in camel case anywhere, all names within backticks."""
+            text = WORD.sub(lambda w: table[w[0]] if w[0] in table and re.search("[A-Z]", w[0]) else w[0], text)
+            return re.sub(r"`[^`\n]*`", lambda s: WORD.sub(lambda w: table.get(w[0], w[0]), s[0]), text)
 
         if path.endswith(".antt"):
             lines = []
@@ -157,9 +163,8 @@ def main(argv):
                 f.write(new)
     print(len(table), "names")
     if check:
-        with open("/tmp/table.tsv", "w") as f:
-            for a, b in sorted(table.items()):
-                f.write(f"{a}\t{b}\n")
+        for a, b in sorted(table.items()):
+            print(a, b)
 
 
 if __name__ == "__main__":
