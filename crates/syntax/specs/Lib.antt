@@ -1,5 +1,6 @@
 -- The script form (LANGUAGE 2, 5): trees, their bytes and rows, and reading.
 pub mod Result
+pub mod Refusals
 pub mod Limits
 pub mod Larger
 pub mod Script
@@ -13,6 +14,7 @@ pub mod Undo
 pub mod Length
 pub mod KindOrder
 pub mod Parts
+pub mod KindNumbers
 pub mod ByteParts
 pub mod RowParts
 pub mod RowTrees

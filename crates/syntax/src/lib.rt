@@ -2,6 +2,7 @@
 // limits, versions and kinds, the numbers of a row, and answers in one number.
 #![tactic(auto)]
 
+pub mod refusals; // refusals.rt: why something is refused
 pub mod limits; // limits.rt: limits and refusal numbers
 pub mod kinds; // kinds.rt: the versions, and the kinds of terms
 pub mod fields; // fields.rt: the numbers of a row, and of four bytes
