@@ -5,7 +5,7 @@ use mathlib.Core.Path.{◌≡◌, sym, ap, ◌∙◌}
 use mathlib.Core.Bool.{Bool, true, false}
 use mathlib.Core.List.{List, [], ◌∷◌}
 use lib.ListN.{length, take, drop, length-drop}
-use lib.Seq.{drop-drop, take-length}
+use lib.Seq.{drop-drop}
 use lib.Dec.{ltb, eqb}
 use lib.Bits.{bit_or, and_le_l, and_le_r, or_add_and}
 use borrow.Author.Tests.{lt-ltb, le-ltb, eq-eqb}
@@ -13,10 +13,6 @@ use Rattle.syntax.specs.Result.{ok, err, need, pick, ◌>>=◌}
 use Rattle.syntax.specs.Layout.{in_rows}
 use Rattle.syntax.specs.Reader.{nothing_left}
 use Rattle.syntax.specs.RowParts.{bits_of, first_used}
-
--- All that is left from i on, as the code lends it.
-pub rest_all : (xs : List ℕ) (i : ℕ) → take (length xs - i) (drop i xs) ≡ drop i xs
-rest_all xs i = ap (λ (n : ℕ). take n (drop i xs)) (sym (length-drop i xs)) ∙ take-length (drop i xs)
 
 no_bits : (a b : ℕ) → bit_or a b ≡ 0 → (a ≡ 0) × (b ≡ 0)
 no_bits a b h = omega (arith, or_add_and a b, and_le_l a b, and_le_r a b)

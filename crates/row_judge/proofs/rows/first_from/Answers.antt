@@ -13,7 +13,7 @@ use Rattle.std.specs.List.{position_or_len}
 use Rattle.std.proofs.lemmas.Iterator.{YieldsList-from_slice}
 use Rattle.std.proofs.lemmas.Iterator.Search.{position_from_yields_List}
 use Rattle.std.proofs.lemmas.List.Sums.{prefix_len-le-length}
-use Rattle.row_judge.proofs.LeftOver.{rest_all}
+use Rattle.std.proofs.lemmas.List.{take_rest}
 use Rattle.syntax.specs.Result.{pick}
 use Rattle.syntax.specs.RowParts.{first_used}
 use Rattle.row_judge.proofs.rows.first_from.Goals as goal
@@ -47,10 +47,10 @@ none_found k xs r h e = go (ltb (position_or_len used xs) (length xs)) refl (sym
 pub returns-in-Some : goal.returns-in-Some
 returns-in-Some c =
     let xs = drop c.args.from c.args.rows.now in
-    found _ xs _ (position_from_yields_List used _ _ _ c.position.ensures.ran (YieldsList-from_slice xs (c.iter.ensures.rest ∙ rest_all c.args.rows.now c.args.from)) (λ x b q k. search (rules, tests))) _ c.in-Some.is
+    found _ xs _ (position_from_yields_List used _ _ _ c.position.ensures.ran (YieldsList-from_slice xs (c.iter.ensures.rest ∙ take_rest c.args.rows.now c.args.from)) (λ x b q k. search (rules, tests))) _ c.in-Some.is
 
 pub returns-in-None : goal.returns-in-None
 returns-in-None c =
     let xs = drop c.args.from c.args.rows.now in
-    let q = none_found c.args.from xs c.position.result (position_from_yields_List used _ _ c.position.result c.position.ensures.ran (YieldsList-from_slice xs (c.iter.ensures.rest ∙ rest_all c.args.rows.now c.args.from)) (λ x b q k. search (rules, tests))) c.in-None.is in
+    let q = none_found c.args.from xs c.position.result (position_from_yields_List used _ _ c.position.result c.position.ensures.ran (YieldsList-from_slice xs (c.iter.ensures.rest ∙ take_rest c.args.rows.now c.args.from)) (λ x b q k. search (rules, tests))) c.in-None.is in
     omega (arith, q, length-drop c.args.from c.args.rows.now)

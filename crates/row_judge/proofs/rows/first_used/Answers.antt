@@ -4,7 +4,8 @@ use native.Mathlib.Omega.{arith}
 use mathlib.Core.Path.{◌≡◌, sym, ap, ◌∙◌}
 use lib.ListN.{length, take, drop}
 use Rattle.syntax.specs.RowParts.{bits_of}
-use Rattle.row_judge.proofs.LeftOver.{rest_all, bits_unused, rest_unused}
+use Rattle.std.proofs.lemmas.List.{take_rest}
+use Rattle.row_judge.proofs.LeftOver.{bits_unused, rest_unused}
 use Rattle.row_judge.proofs.rows.first_used.Goals as goal
 
 pub loop-i-preserved : goal.loop-i-preserved
@@ -16,4 +17,4 @@ loop-i-preserved c =
     (m, sym (bits_unused _ _ 32 m z) ∙ l.invariant.1)
 
 pub returns-then-bits_of-eq0 : goal.returns-then-bits_of-eq0
-returns-then-bits_of-eq0 c = rest_unused _ _ c.loop-i.invariant.0 (ap (bits_of 0) (sym (rest_all c.args.rows.now c.loop-i.i)) ∙ sym c.bits_of-2.ensures ∙ c.if-bits_of-eq0.true) ∙ c.loop-i.invariant.1
+returns-then-bits_of-eq0 c = rest_unused _ _ c.loop-i.invariant.0 (ap (bits_of 0) (sym (take_rest c.args.rows.now c.loop-i.i)) ∙ sym c.bits_of-2.ensures ∙ c.if-bits_of-eq0.true) ∙ c.loop-i.invariant.1
