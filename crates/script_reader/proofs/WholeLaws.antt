@@ -18,8 +18,6 @@ use Rattle.syntax.specs.Measures.{size}
 use Rattle.syntax.specs.Within.{Under}
 use Rattle.syntax.specs.ByteParts.{Ready, Got, got_of, RowsAfter, Reading, version_at, lead_judged, read_script, whole_got, ScriptRead}
 use Rattle.script_reader.specs.Lent.{Inside, RowsFor, reached, lead_got, remaining, read_outermost, TermRead, OutermostRead, end_judged, with_version}
-use Rattle.syntax.specs.declared.fields.Fields.{Fields}
-use Rattle.syntax.specs.declared.fields.Fields.TheVariants as fields
 use Rattle.syntax.specs.ByteParts as got
 use Rattle.syntax.proofs.Answers.{then, ran, same, is_done}
 use Rattle.syntax.proofs.Lists.{under_drop}
@@ -39,9 +37,9 @@ pub lead_inside : (t : List ℕ) (lead : Got) → lead ≡ lead_got (version_at 
 unfolding reached lead_got
 lead_inside t lead a h = (subst (λ (l : Got). reached 0 l ≤ length t) (sym a) (go (lead_judged newest t 0) refl), h)
   where
-    go : (f : Fields) → lead_judged newest t 0 ≡ f → reached 0 (lead_got (version_at t 3) f) ≤ length t
-    go (fields.Fine n) e = let r = lead_room t newest 0 n e in omega (arith, r.0, r.1)
-    go (fields.Refused n p) e = omega arith
+    go : (f : Result Refusal ℕ) → lead_judged newest t 0 ≡ f → reached 0 (lead_got (version_at t 3) f) ≤ length t
+    go (ok n) e = let r = lead_room t newest 0 n e in omega (arith, r.0, r.1)
+    go (err (n, p)) e = omega arith
 
 module _ (l : Limits) (k : ℕ) (t : List ℕ) (u : Under 256 t) (rows rows₁ : List ℕ) where
   abbrev v : ℕ
@@ -50,11 +48,11 @@ module _ (l : Limits) (k : ℕ) (t : List ℕ) (u : Under 256 t) (rows rows₁ :
   abbrev Read : Got → Type 0
   Read r = ScriptRead l k t rows rows₁ r
 
-  whole_lead : (n p : ℕ) → lead_judged k t 0 ≡ fields.Refused n p → Read (got.Refused n p)
+  whole_lead : (n p : ℕ) → lead_judged k t 0 ≡ err (n, p) → Read (got.Refused n p)
   unfolding whole_got RowsAfter
   whole_lead n p e = rw (script_lead t l k n p e) (refl, tt)
 
-  module _ (m : ℕ) (e : lead_judged k t 0 ≡ fields.Fine m) (r : Got) (q : Reading (lay in_rows) (read_outermost l v t 5) 0 rows rows₁ r) where
+  module _ (m : ℕ) (e : lead_judged k t 0 ≡ ok m) (r : Got) (q : Reading (lay in_rows) (read_outermost l v t 5) 0 rows rows₁ r) where
     whole_refused : (n p : ℕ) → r ≡ got.Refused n p → Read r
     unfolding whole_got RowsAfter
     whole_refused n p a =
@@ -88,7 +86,7 @@ module _ (l : Limits) (k : ℕ) (t : List ℕ) (u : Under 256 t) (rows rows₁ :
           (ap₂ (λ (x y : ℕ). got.Fine x y v) (sym says.3) (sym says.4), subst (λ (o : Result Refusal (Term × Cursor)). RowsAfter (lay in_rows) o 0 rows rows₁) says.2 q.1)
 
   -- The answer for the outermost term, judged at the offset where the reader then stands.
-  whole_end : (m : ℕ) → lead_judged k t 0 ≡ fields.Fine m → (r r' : Got) → r' ≡ with_version v r → Reading (lay in_rows) (read_outermost l v t 5) 0 rows rows₁ r → Read (end_judged r' t (reached 5 r'))
+  whole_end : (m : ℕ) → lead_judged k t 0 ≡ ok m → (r r' : Got) → r' ≡ with_version v r → Reading (lay in_rows) (read_outermost l v t 5) 0 rows rows₁ r → Read (end_judged r' t (reached 5 r'))
   unfolding end_judged reached with_version
   whole_end m e (got.Refused n p) r' w q = subst (λ (g : Got). Read (end_judged g t (reached 5 g))) (sym w) (whole_refused m e (got.Refused n p) q n p refl)
   whole_end m e (got.Fine a b c) r' w q = subst (λ (g : Got). Read (end_judged g t (reached 5 g))) (sym w) (go (ltb a (length t)) refl)
@@ -102,16 +100,16 @@ module _ (l : Limits) (k : ℕ) (t : List ℕ) (u : Under 256 t) (rows rows₁ :
   unfolding lead_got OutermostRead TermRead reached end_judged narrowed
   whole_read lead r end a b c = subst Read (sym c) (go (lead_judged newest t 0) refl lead a b)
     where
-      term : (n : ℕ) (x : Bool) → lead_judged k t 0 ≡ narrowed x (fields.Fine n) → TermRead x l v t 5 rows rows₁ r → Read (end_judged r t (reached 5 r))
+      term : (n : ℕ) (x : Bool) → lead_judged k t 0 ≡ narrowed x (ok n) → TermRead x l v t 5 rows rows₁ r → Read (end_judged r t (reached 5 r))
       term n true e o = whole_end n e (got_of (read_outermost l v t 5)) r o.0 (refl, o.1)
       term n false e o = subst (λ (g : Got). Read (end_judged g t (reached 5 g))) (sym o) (whole_lead 11 3 e)
 
-      go : (f : Fields) → lead_judged newest t 0 ≡ f → (lead : Got) → lead ≡ lead_got v f → OutermostRead l k lead t (reached 0 lead) rows rows₁ r → Read (end_judged r t (reached (reached 0 lead) r))
-      go (fields.Fine n) e lead a b =
+      go : (f : Result Refusal ℕ) → lead_judged newest t 0 ≡ f → (lead : Got) → lead ≡ lead_got v f → OutermostRead l k lead t (reached 0 lead) rows rows₁ r → Read (end_judged r t (reached (reached 0 lead) r))
+      go (ok n) e lead a b =
           let f : lead ≡ got.Fine 5 0 v = a ∙ ap (λ (m : ℕ). got.Fine m 0 v) (lead_room t newest 0 n e).0 in
           let o = subst (λ (g : Got). OutermostRead l k g t (reached 0 g) rows rows₁ r) f b in
           subst (λ (g : Got). Read (end_judged r t (reached (reached 0 g) r))) (sym f) (term n (leb v k) (lead_narrow t k ∙ ap (narrowed (leb v k)) e) o)
-      go (fields.Refused n p) e lead a b =
+      go (err (n, p)) e lead a b =
           let o : r ≡ got.Refused n p = subst (λ (g : Got). OutermostRead l k g t (reached 0 g) rows rows₁ r) a b in
           subst (λ (g : Got). Read (end_judged g t (reached (reached 0 lead) g))) (sym o) (whole_lead n p (lead_narrow t k ∙ ap (narrowed (leb v k)) e))
 

@@ -10,8 +10,6 @@ use Rattle.syntax.specs.Layout.{lay, in_rows}
 use Rattle.syntax.specs.Reader.{Cursor}
 use Rattle.syntax.specs.Within.{Under}
 use Rattle.syntax.specs.ByteParts.{Got, Fine, Refused, found, got_of, RowsAfter, read_term, version_at, lead_judged}
-use Rattle.syntax.specs.declared.fields.Fields.{Fields}
-use Rattle.syntax.specs.declared.fields.Fields.TheVariants as fields
 use Rattle.script_reader.specs.declared.reader.Reader.{Reader}
 
 abbrev pub begun : Bor (List ℕ) → Reader
@@ -34,9 +32,9 @@ abbrev pub RowsFor : Limits → List ℕ → Type 0
 RowsFor l rows = (in_ranges l ≡ true) × (length rows ≡ row_numbers l)
 
 -- The answer for mark and version v: no term is met in them, and the version is in place of the boxes.
-unfoldable pub lead_got : ℕ → Fields → Got
-lead_got v (fields.Fine next) = Fine next 0 v
-lead_got v (fields.Refused n p) = Refused n p
+unfoldable pub lead_got : ℕ → Result Refusal ℕ → Got
+lead_got v (ok next) = Fine next 0 v
+lead_got v (err (n, p)) = Refused n p
 
 abbrev pub LeadRead : List ℕ → ℕ → ℕ → Type 0
 LeadRead bytes at r = (found r ≡ lead_got (version_at bytes (at + 3)) (lead_judged newest bytes at)) × Under 256 bytes

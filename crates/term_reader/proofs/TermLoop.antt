@@ -13,8 +13,6 @@ use Rattle.syntax.specs.Layout.{in_rows, lay, lays}
 use Rattle.syntax.specs.Parts.{IsKind, fields_of, boxes_with}
 use Rattle.syntax.specs.ByteParts.{opening_number, row_with, values_at, Filled, Ready, Got, Reading, read_term, read_block, read_branches}
 use Rattle.syntax.specs.ByteParts as got
-use Rattle.syntax.specs.declared.fields.Fields.{Fields}
-use Rattle.syntax.specs.declared.fields.Fields.TheVariants as fieldsFound
 use Rattle.syntax.proofs.Ranges.{ranged}
 use Rattle.syntax.proofs.Lists.{part_all, within_list}
 use Rattle.syntax.proofs.ByteLaws.{Clear, opening_clear}
@@ -94,14 +92,14 @@ module _ {l : Limits} {v levels : ℕ} {tail : List ℕ} {at terms boxes : ℕ} 
       filled : Filled (fields_of l (get_or Here 0 0)) (get_or Here 0 0) Here next met rows rows₁ f
       filled = subst (λ (k : ℕ). Filled (fields_of l k) k Here next met rows rows₁ f) kind_is_law q
 
-      pub operand_stops : {n p : ℕ} → f ≡ fieldsFound.Refused n p → Whole rows₁ (got.Refused n p)
+      pub operand_stops : {n p : ℕ} → f ≡ err (n, p) → Whole rows₁ (got.Refused n p)
       operand_stops {n} {p} h = g.gives rows₁ (got.Refused n p) (operand_refused l v left false Here next met boxed n p rows rows₁ clear (sym filled.0 ∙ h))
 
-      pub operand_near : {n p : ℕ} → f ≡ fieldsFound.Refused n p → p ≤ 33000
+      pub operand_near : {n p : ℕ} → f ≡ err (n, p) → p ≤ 33000
       operand_near {n} {p} h = operands_near l (get_or Here 0 0) Here next n p (sym filled.0 ∙ h) g.ready.room
 
       -- The operands are read.
-      module _ {used : ℕ} (h : f ≡ fieldsFound.Fine used) where
+      module _ {used : ℕ} (h : f ≡ ok used) where
         head : Head l v left false Here next met boxed used
         head = head_of l v left false Here next met boxed clear used (sym filled.0 ∙ h)
 
