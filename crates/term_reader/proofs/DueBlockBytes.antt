@@ -7,7 +7,7 @@ use mathlib.Core.List.{List}
 use lib.ListN.{length, get_or, drop}
 use lib.Dec.{ltb, eqb}
 use borrow.Author.Tests.{lt-ltb, ne_eqb, ltb-true, eqb-false}
-use Rattle.syntax.specs.Result.{err, pick}
+use Rattle.syntax.specs.Result.{Result, ok, err, pick, Refusal}
 use Rattle.syntax.specs.Limits.{Limits}
 use Rattle.syntax.specs.Kinds.{Kind, fields}
 use Rattle.syntax.specs.Layout.{in_bytes}

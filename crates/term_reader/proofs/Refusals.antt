@@ -7,7 +7,7 @@ use mathlib.Core.Option.{Option, none, some}
 use mathlib.Core.List.{List, [], ◌∷◌}
 use lib.ListN.{length}
 use lib.Dec.{ltb}
-use Rattle.syntax.specs.Result.{pick}
+use Rattle.syntax.specs.Result.{Result, ok, err, pick, Refusal}
 use Rattle.syntax.specs.Limits.{Limits}
 use Rattle.syntax.specs.Kinds.{Kind, k_number, k_reading, k_copy, k_move, k_shared, k_exclusive, k_box, k_let, k_assign, k_below, k_block, k_choice, k_sum, newest, knows, kind_of, Field, word, until, fields}
 use Rattle.syntax.specs.Parts.{fields_in, fields_of}
@@ -62,5 +62,5 @@ lead_near k t at n p e i h =
     (near_number 33000 (mark_number t at 0x52) at _ (omega arith)
     (near_number 33000 (mark_number t (at + 1) 0x43) (at + 1) _ (omega arith)
     (near_number 33000 (mark_number t (at + 2) 0x53) (at + 2) _ (omega arith)
-    (near_pick 33000 (ltb (length t) (at + 5)) (err (12, (length t))) _ (omega arith)
-    (near_pick 33000 (knows k (version_at t (at + 3))) (ok (at + 5)) (err (11, (at + 3))) tt (omega arith))))))
+    (near_pick 33000 (ltb (length t) (at + 5)) (err (12, length t)) _ (omega arith)
+    (near_pick 33000 (knows k (version_at t (at + 3))) (ok (at + 5)) (err (11, at + 3)) tt (omega arith))))))

@@ -1,7 +1,8 @@
 -- What the operands of a term are read as. No rule of the language is stated here.
-use Rattle.std.specs.Prelude.{ℕ, ◌≡◌, List}
+use Rattle.std.specs.Prelude.{ℕ, ◌≡◌, ◌+◌, List, get_or}
 use Rattle.std.specs.Prelude as prelude
 use Rattle.syntax.specs.Kinds.{Field}
+use Rattle.syntax.specs.Parts.{place_fields}
 use Rattle.syntax.specs.ByteParts.{judged_fields, values_at, row_fields}
 use Rattle.syntax.specs.Refusals.{told}
 use Rattle.syntax.specs.declared.refusals.Refusal as answer

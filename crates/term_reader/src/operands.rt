@@ -26,8 +26,12 @@ pub fn put_row(rows: &mut [u32], n: usize, kind: Kind, fields: &[u32; 4])
     ensures { rows.new ≡ sets rows.old (n * 5) (number_in kind ∷ fields.now) }
 {
     let at = n * 5;
+    let [a, b, c, d] = *fields;
     rows[at] = kind.number();
-    rows[at + 1..at + 5].copy_from_slice(fields);
+    rows[at + 1] = a;
+    rows[at + 2] = b;
+    rows[at + 3] = c;
+    rows[at + 4] = d;
 }
 
 // One operand byte (LANGUAGE 5.11): the one at j, from low to below high; else 12 if there is none, or 14.
@@ -131,18 +135,19 @@ pub fn read_operands(
     requires { at + length tail.now ≤ 32768 }
     ensures { OperandsRead (fields_of limits.now (number_in kind)) tail.now at result }
 {
+    let variables = limits.variables;
     match kind {
         Kind::Number => read_word(tail, at),
         Kind::Reading => read_one(tail, at, 0, limits::READINGS),
-        Kind::Let => read_one(tail, at, 0, limits.variables),
+        Kind::Let => read_one(tail, at, 0, variables),
         Kind::Block => read_one(tail, at, 1, limits::BLOCK),
         Kind::Box => Ok(Operands {
             end: 1,
             fields: [0; 4],
         }),
-        Kind::Below | Kind::Sum => read_two_places(limits.variables, tail, at),
+        Kind::Below | Kind::Sum => read_two_places(variables, tail, at),
         Kind::Copy | Kind::Move | Kind::Shared | Kind::Exclusive | Kind::Assign | Kind::Choice => {
-            read_place(limits.variables, tail, at)
+            read_place(variables, tail, at)
         }
     }
 }
