@@ -73,7 +73,7 @@ module _ (t : List ℕ) where
   on_lead (err (m, p)) = err (m, p)
 
   versioned : ℕ → Result Refusal ℕ
-  versioned n = pick (ltb (length t) 5) (err (12, (length t))) (pick (knows n (version_at t 3)) (ok 5) (err (11, 3)))
+  versioned n = pick (ltb (length t) 5) (err (12, length t)) (pick (knows n (version_at t 3)) (ok 5) (err (11, 3)))
 
   version_is : (n : ℕ) → 3 ≤ length t → version n (here 3) ≡ on_lead (versioned n)
   unfolding version versioned on_lead need ◌&◌
@@ -83,7 +83,7 @@ module _ (t : List ℕ) where
       both h q = go_on (next in_bytes) _ (here 3) (here 4) (get_or t 3 0) _ (next_here 3 (omega arith)) (go_on (next in_bytes) _ (here 4) (here 5) (get_or t 4 0) _ (next_here 4 (omega arith)) q)
 
       go : (x y z : Bool) → ltb (length t) 5 ≡ x → ltb (length t) 4 ≡ y → knows n (version_at t 3) ≡ z
-          → version n (here 3) ≡ on_lead (pick x (err (12, (length t))) (pick z (ok 5) (err (11, 3))))
+          → version n (here 3) ≡ on_lead (pick x (err (12, length t)) (pick z (ok 5) (err (11, 3))))
       go true true z a b e = let l : length t ≡ 3 = omega (arith, ltb-true (length t) 4 b) in rw l (stops (next in_bytes) _ (here 3) _ (next_end 3 (omega arith)))
       go true false z a b e =
           let l : length t ≡ 4 = omega (arith, ltb-true (length t) 5 a, ltb-false (length t) 4 b) in
@@ -91,7 +91,7 @@ module _ (t : List ℕ) where
       go false y true a b e = both (omega (arith, ltb-false (length t) 5 a)) (rw e)
       go false y false a b e = both (omega (arith, ltb-false (length t) 5 a)) (rw e)
 
-  mark_room : (j b : ℕ) → mark_number t j b ≡ 0 → j < length t
+  pub mark_room : (j b : ℕ) → mark_number t j b ≡ 0 → j < length t
   unfolding mark_number
   mark_room j b e = go (leb (length t) j) refl e
     where
@@ -116,7 +116,7 @@ module _ (t : List ℕ) where
   unfolding lead_judged
   lead_room k at n h = go (ltb (length t) (at + 5)) (knows k (version_at t (at + 3))) refl (number_fine _ (at + 2) n _ (number_fine _ (at + 1) n _ (number_fine _ at n _ h).1).1).1
     where
-      go : (x y : Bool) → ltb (length t) (at + 5) ≡ x → pick x (err (12, (length t))) (pick y (ok (at + 5)) (err (11, (at + 3)))) ≡ ok n → (n ≡ at + 5) × (at + 5 ≤ length t) × (y ≡ true)
+      go : (x y : Bool) → ltb (length t) (at + 5) ≡ x → pick {A = Result Refusal ℕ} x (err (12, length t)) (pick y (ok (at + 5)) (err (11, at + 3))) ≡ ok n → (n ≡ at + 5) × (at + 5 ≤ length t) × (y ≡ true)
       go true y l q = let z : ◌≡◌ {A = ℕ} 0 1 = cc in absurd (omega arith)
       go false true l q = (let e : at + 5 ≡ n = cc in omega arith, ltb-false _ _ l, refl)
       go false false l q = let z : ◌≡◌ {A = ℕ} 0 1 = cc in absurd (omega arith)
@@ -140,13 +140,13 @@ module _ (t : List ℕ) where
       sym (on_number_law b (mark_number t 0 0x52) 0 _ ∙ ap (on_number (mark_number t 0 0x52) 0)
       (on_number_law b (mark_number t 1 0x43) 1 _ ∙ ap (on_number (mark_number t 1 0x43) 1)
       (on_number_law b (mark_number t 2 0x53) 2 _ ∙ ap (on_number (mark_number t 2 0x53) 2)
-      (on_end b (ltb (length t) 5) _ ∙ ap (pick (ltb (length t) 5) (err (12, (length t)))) (sym (lead_narrow_at n (version_at t 3)))))))
+      (on_end b (ltb (length t) 5) _ ∙ ap (pick (ltb (length t) 5) (err (12, length t))) (sym (lead_narrow_at n (version_at t 3)))))))
     where
       on_number_law : (b : Bool) (m p : ℕ) (f : Result Refusal ℕ) → narrowed b (on_number m p f) ≡ on_number m p (narrowed b f)
       on_number_law b zero p f = refl
       on_number_law b (suc m) p f = refl
 
-      on_end : (b x : Bool) (f : Result Refusal ℕ) → narrowed b (pick x (err (12, (length t))) f) ≡ pick x (err (12, (length t))) (narrowed b f)
+      on_end : (b x : Bool) (f : Result Refusal ℕ) → narrowed b (pick x (err (12, length t)) f) ≡ pick x (err (12, length t)) (narrowed b f)
       on_end b true f = refl
       on_end b false f = refl
 
