@@ -1,5 +1,4 @@
 -- Laws on whole scripts in bytes.
-pub mod VersionLaws
-pub mod ClearLaws
 pub mod ScriptLaws
+pub mod MarkLaws
 pub mod WholeLaws

@@ -17,16 +17,14 @@ use Rattle.syntax.specs.Reader.{Cursor, Reads, ◌>>=◌, done, place_in, expect
 use Rattle.syntax.specs.Parts.{cursor}
 use Rattle.syntax.specs.ByteParts.{on_number, mark_number, version_at, lead_judged, read_script}
 use Rattle.script_reader.specs.Lent.{read_outermost}
-use Rattle.syntax.specs.declared.fields.Fields.{Fields}
-use Rattle.syntax.specs.declared.fields.Fields.TheVariants as fields
 use Rattle.syntax.proofs.Answers.{go_on, stops, after, stop}
 use Rattle.syntax.proofs.NumberLaws.{number_fine}
 use Rattle.syntax.proofs.TermSteps.{peek_ok, peek_err, expect_ok, expect_err}
 
 -- Mark and version that are fine, of which the version is known or too new.
-unfoldable pub narrowed : Bool → Fields → Fields
-narrowed b (fields.Fine m) = pick b (fields.Fine m) (fields.Refused 11 3)
-narrowed b (fields.Refused n p) = fields.Refused n p
+unfoldable pub narrowed : Bool → Result Refusal ℕ → Result Refusal ℕ
+narrowed b (ok m) = pick b (ok m) (err (11, 3))
+narrowed b (err (n, p)) = err (n, p)
 
 module _ (t : List ℕ) where
   abbrev here : ℕ → Cursor
@@ -70,12 +68,12 @@ module _ (t : List ℕ) where
   next_end j h = stops (peek in_bytes) _ (here j) _ (peek_end j h)
 
   -- What reading mark and version answers where they are judged so.
-  unfoldable pub on_lead : Fields → Result Refusal (ℕ × Cursor)
-  on_lead (fields.Fine m) = ok (version_at t 3, here 5)
-  on_lead (fields.Refused m p) = err (m, p)
+  unfoldable pub on_lead : Result Refusal ℕ → Result Refusal (ℕ × Cursor)
+  on_lead (ok m) = ok (version_at t 3, here 5)
+  on_lead (err (m, p)) = err (m, p)
 
-  versioned : ℕ → Fields
-  versioned n = pick (ltb (length t) 5) (fields.Refused 12 (length t)) (pick (knows n (version_at t 3)) (fields.Fine 5) (fields.Refused 11 3))
+  versioned : ℕ → Result Refusal ℕ
+  versioned n = pick (ltb (length t) 5) (err (12, length t)) (pick (knows n (version_at t 3)) (ok 5) (err (11, 3)))
 
   version_is : (n : ℕ) → 3 ≤ length t → version n (here 3) ≡ on_lead (versioned n)
   unfolding version versioned on_lead need ◌&◌
@@ -85,7 +83,7 @@ module _ (t : List ℕ) where
       both h q = go_on (next in_bytes) _ (here 3) (here 4) (get_or t 3 0) _ (next_here 3 (omega arith)) (go_on (next in_bytes) _ (here 4) (here 5) (get_or t 4 0) _ (next_here 4 (omega arith)) q)
 
       go : (x y z : Bool) → ltb (length t) 5 ≡ x → ltb (length t) 4 ≡ y → knows n (version_at t 3) ≡ z
-          → version n (here 3) ≡ on_lead (pick x (fields.Refused 12 (length t)) (pick z (fields.Fine 5) (fields.Refused 11 3)))
+          → version n (here 3) ≡ on_lead (pick x (err (12, length t)) (pick z (ok 5) (err (11, 3))))
       go true true z a b e = let l : length t ≡ 3 = omega (arith, ltb-true (length t) 4 b) in rw l (stops (next in_bytes) _ (here 3) _ (next_end 3 (omega arith)))
       go true false z a b e =
           let l : length t ≡ 4 = omega (arith, ltb-true (length t) 5 a, ltb-false (length t) 4 b) in
@@ -93,7 +91,7 @@ module _ (t : List ℕ) where
       go false y true a b e = both (omega (arith, ltb-false (length t) 5 a)) (rw e)
       go false y false a b e = both (omega (arith, ltb-false (length t) 5 a)) (rw e)
 
-  mark_room : (j b : ℕ) → mark_number t j b ≡ 0 → j < length t
+  pub mark_room : (j b : ℕ) → mark_number t j b ≡ 0 → j < length t
   unfolding mark_number
   mark_room j b e = go (leb (length t) j) refl e
     where
@@ -101,7 +99,7 @@ module _ (t : List ℕ) where
       go true l q = absurd (omega arith)
       go false l q = leb-false _ _ l
 
-  mark_then : (j b : ℕ) (k : Reads ℕ) (f : Fields) → (mark_number t j b ≡ 0 → k (here (suc j)) ≡ on_lead f) → (mark b >>= λ u. k) (here j) ≡ on_lead (on_number (mark_number t j b) j f)
+  mark_then : (j b : ℕ) (k : Reads ℕ) (f : Result Refusal ℕ) → (mark_number t j b ≡ 0 → k (here (suc j)) ≡ on_lead f) → (mark b >>= λ u. k) (here j) ≡ on_lead (on_number (mark_number t j b) j f)
   unfolding marked on_number on_lead
   mark_then j b k f h = go (mark_number t j b) refl
     where
@@ -114,21 +112,21 @@ module _ (t : List ℕ) where
   lead_is n = mark_then 0 0x52 _ _ (λ a. mark_then 1 0x43 _ _ (λ b. mark_then 2 0x53 (version n) (versioned n) (λ c. version_is n (mark_room 2 0x53 c))))
 
   -- Where mark and version are fine, they are there, five bytes, and the version is known.
-  pub lead_room : (k at n : ℕ) → lead_judged k t at ≡ fields.Fine n → (n ≡ at + 5) × (at + 5 ≤ length t) × (knows k (version_at t (at + 3)) ≡ true)
+  pub lead_room : (k at n : ℕ) → lead_judged k t at ≡ ok n → (n ≡ at + 5) × (at + 5 ≤ length t) × (knows k (version_at t (at + 3)) ≡ true)
   unfolding lead_judged
   lead_room k at n h = go (ltb (length t) (at + 5)) (knows k (version_at t (at + 3))) refl (number_fine _ (at + 2) n _ (number_fine _ (at + 1) n _ (number_fine _ at n _ h).1).1).1
     where
-      go : (x y : Bool) → ltb (length t) (at + 5) ≡ x → pick x (fields.Refused 12 (length t)) (pick y (fields.Fine (at + 5)) (fields.Refused 11 (at + 3))) ≡ fields.Fine n → (n ≡ at + 5) × (at + 5 ≤ length t) × (y ≡ true)
+      go : (x y : Bool) → ltb (length t) (at + 5) ≡ x → pick {A = Result Refusal ℕ} x (err (12, length t)) (pick y (ok (at + 5)) (err (11, at + 3))) ≡ ok n → (n ≡ at + 5) × (at + 5 ≤ length t) × (y ≡ true)
       go true y l q = let z : ◌≡◌ {A = ℕ} 0 1 = cc in absurd (omega arith)
       go false true l q = (let e : at + 5 ≡ n = cc in omega arith, ltb-false _ _ l, refl)
       go false false l q = let z : ◌≡◌ {A = ℕ} 0 1 = cc in absurd (omega arith)
 
   -- A reader that knows fewer versions judges mark and version as one that knows them all, and then whether the version is too new.
-  lead_narrow_at : (n v : ℕ) → pick (knows n v) (fields.Fine 5) (fields.Refused 11 3) ≡ narrowed (leb v n) (pick (knows newest v) (fields.Fine 5) (fields.Refused 11 3))
+  lead_narrow_at : (n v : ℕ) → pick (knows n v) (ok 5) (err (11, 3)) ≡ narrowed (leb v n) (pick (knows newest v) (ok 5) (err (11, 3)))
   unfolding knows narrowed
   lead_narrow_at n v = go (leb 1 v) (leb v n) (leb v newest)
     where
-      go : (a b c : Bool) → pick (a && b && c) (fields.Fine 5) (fields.Refused 11 3) ≡ narrowed b (pick (a && c && c) (fields.Fine 5) (fields.Refused 11 3))
+      go : (a b c : Bool) → pick (a && b && c) (ok 5) (err (11, 3)) ≡ narrowed b (pick (a && c && c) (ok 5) (err (11, 3)))
       go true true true = refl
       go true true false = refl
       go true false true = refl
@@ -142,23 +140,23 @@ module _ (t : List ℕ) where
       sym (on_number_law b (mark_number t 0 0x52) 0 _ ∙ ap (on_number (mark_number t 0 0x52) 0)
       (on_number_law b (mark_number t 1 0x43) 1 _ ∙ ap (on_number (mark_number t 1 0x43) 1)
       (on_number_law b (mark_number t 2 0x53) 2 _ ∙ ap (on_number (mark_number t 2 0x53) 2)
-      (on_end b (ltb (length t) 5) _ ∙ ap (pick (ltb (length t) 5) (fields.Refused 12 (length t))) (sym (lead_narrow_at n (version_at t 3)))))))
+      (on_end b (ltb (length t) 5) _ ∙ ap (pick (ltb (length t) 5) (err (12, length t))) (sym (lead_narrow_at n (version_at t 3)))))))
     where
-      on_number_law : (b : Bool) (m p : ℕ) (f : Fields) → narrowed b (on_number m p f) ≡ on_number m p (narrowed b f)
+      on_number_law : (b : Bool) (m p : ℕ) (f : Result Refusal ℕ) → narrowed b (on_number m p f) ≡ on_number m p (narrowed b f)
       on_number_law b zero p f = refl
       on_number_law b (suc m) p f = refl
 
-      on_end : (b x : Bool) (f : Fields) → narrowed b (pick x (fields.Refused 12 (length t)) f) ≡ pick x (fields.Refused 12 (length t)) (narrowed b f)
+      on_end : (b x : Bool) (f : Result Refusal ℕ) → narrowed b (pick x (err (12, length t)) f) ≡ pick x (err (12, length t)) (narrowed b f)
       on_end b true f = refl
       on_end b false f = refl
 
   -- ---- the whole script
 
-  pub script_lead : (l : Limits) (k n p : ℕ) → lead_judged k t 0 ≡ fields.Refused n p → read_script l k t ≡ err (n, p)
+  pub script_lead : (l : Limits) (k n p : ℕ) → lead_judged k t 0 ≡ err (n, p) → read_script l k t ≡ err (n, p)
   unfolding on_lead whole_script
   script_lead l k n p e = stops (leading k) _ (start t) (n, p) (lead_is k ∙ ap on_lead e)
 
-  module _ (l : Limits) (k n : ℕ) (e : lead_judged k t 0 ≡ fields.Fine n) where
+  module _ (l : Limits) (k n : ℕ) (e : lead_judged k t 0 ≡ ok n) where
     abbrev v : ℕ
     v = version_at t 3
 

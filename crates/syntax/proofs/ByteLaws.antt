@@ -22,8 +22,6 @@ use Rattle.syntax.specs.Within.{Ranges}
 use Rattle.syntax.specs.Parts.{cursor, known_in, IsKind, fields_of}
 use Rattle.syntax.specs.Parts.{place_fields}
 use Rattle.syntax.specs.ByteParts.{opening_number, field_number, word_at, on_number, judged_fields, values_at, one_field}
-use Rattle.syntax.specs.declared.fields.Fields.{Fields}
-use Rattle.syntax.specs.declared.fields.Fields.TheVariants.{Fine, Refused}
 use Rattle.syntax.proofs.Answers.{go_on, stops}
 use Rattle.syntax.proofs.KindBytes.{found}
 use Rattle.syntax.proofs.KnownKinds.{known_is, known_some, known_none, fields_of_law}
@@ -31,9 +29,9 @@ use Rattle.syntax.proofs.NumberLaws.{number_fine}
 use Rattle.syntax.proofs.TermSteps.{peek_ok, peek_err, expect_ok, expect_err, opening_12, opening_13, opening_18, opening_16, opening_ok, term_refused, term_deep, term_boxes, past, term_operands_refused, term_built}
 
 -- What the reader answers where the operands, in the bytes t from offset at on, are judged so.
-unfoldable pub on_fields : Fields → List ℕ → List ℕ → ℕ → ℕ → ℕ → Result Refusal (List ℕ × Cursor)
-on_fields (Fine used) vs t at n b = ok (vs, cursor (drop used t) (at + used) n b)
-on_fields (Refused m p) vs t at n b = err (m, p)
+unfoldable pub on_fields : Result Refusal ℕ → List ℕ → List ℕ → ℕ → ℕ → ℕ → Result Refusal (List ℕ × Cursor)
+on_fields (ok used) vs t at n b = ok (vs, cursor (drop used t) (at + used) n b)
+on_fields (err (m, p)) vs t at n b = err (m, p)
 
 -- The steps of the reader at index j of t.
 module _ (t : List ℕ) (at n b : ℕ) where
@@ -106,11 +104,11 @@ module _ (t : List ℕ) (at n b : ℕ) where
     ranged_end h = stops (peek in_bytes) _ (here j) _ (peek_end j h)
 
   -- One operand and those after it.
-  with_rest : (f : Field) (fs : List Field) (v : ℕ) (vs : List ℕ) (j i : ℕ) (rest : Fields) → field in_bytes f (here j) ≡ ok (v, here i) → operands in_bytes fs (here i) ≡ on_fields rest vs t at n b → operands in_bytes (f ∷ fs) (here j) ≡ on_fields rest (v ∷ vs) t at n b
+  with_rest : (f : Field) (fs : List Field) (v : ℕ) (vs : List ℕ) (j i : ℕ) (rest : Result Refusal ℕ) → field in_bytes f (here j) ≡ ok (v, here i) → operands in_bytes fs (here i) ≡ on_fields rest vs t at n b → operands in_bytes (f ∷ fs) (here j) ≡ on_fields rest (v ∷ vs) t at n b
   unfolding operands on_fields done
-  with_rest f fs v vs j i (Fine used) e q =
+  with_rest f fs v vs j i (ok used) e q =
       go_on (field in_bytes f) _ (here j) (here i) v _ e (go_on (operands in_bytes fs) _ (here i) (here used) vs _ q refl)
-  with_rest f fs v vs j i (Refused m p) e q =
+  with_rest f fs v vs j i (err (m, p)) e q =
       go_on (field in_bytes f) _ (here j) (here i) v _ e (stops (operands in_bytes fs) _ (here i) (m, p) q)
 
   refused_first : (f : Field) (fs : List Field) (j : ℕ) (e : Refusal) → field in_bytes f (here j) ≡ err e → operands in_bytes (f ∷ fs) (here j) ≡ err e
@@ -124,7 +122,7 @@ module _ (t : List ℕ) (at n b : ℕ) where
   unfolding judged_fields values_at on_fields
   word_are fs ih j h = go (ltb (length t) (j + 4)) refl
     where
-      go : (x : Bool) → ltb (length t) (j + 4) ≡ x → operands in_bytes (word ∷ fs) (here j) ≡ on_fields (pick x (Refused 12 (at + length t)) (judged_fields fs t at (j + 4))) (values_at (word ∷ fs) t j) t at n b
+      go : (x : Bool) → ltb (length t) (j + 4) ≡ x → operands in_bytes (word ∷ fs) (here j) ≡ on_fields (pick x (err (12, (at + length t))) (judged_fields fs t at (j + 4))) (values_at (word ∷ fs) t j) t at n b
       go true l = refused_first word fs j _ (word_short j h (ltb-true _ _ l))
       go false l = with_rest word fs _ _ j (j + 4) (judged_fields fs t at (j + 4)) (word_full j (ltb-false _ _ l)) (ih (j + 4) (ltb-false _ _ l))
 
@@ -159,21 +157,21 @@ number_zero t j lo hi = go (leb (length t) j) (leb lo (get_or t j 0)) (ltb (get_
 
 -- What it says of operands that they are judged fine.
 module _ (t : List ℕ) (at : ℕ) where
-  word_fine : (fs : List Field) (j used : ℕ) → judged_fields (word ∷ fs) t at j ≡ Fine used → (j + 4 ≤ length t) × (judged_fields fs t at (j + 4) ≡ Fine used)
+  word_fine : (fs : List Field) (j used : ℕ) → judged_fields (word ∷ fs) t at j ≡ ok used → (j + 4 ≤ length t) × (judged_fields fs t at (j + 4) ≡ ok used)
   unfolding judged_fields
   word_fine fs j used = go (ltb (length t) (j + 4)) refl
     where
-      go : (x : Bool) → ltb (length t) (j + 4) ≡ x → pick x (Refused 12 (at + length t)) (judged_fields fs t at (j + 4)) ≡ Fine used → (j + 4 ≤ length t) × (judged_fields fs t at (j + 4) ≡ Fine used)
+      go : (x : Bool) → ltb (length t) (j + 4) ≡ x → pick x (err (12, (at + length t))) (judged_fields fs t at (j + 4)) ≡ ok used → (j + 4 ≤ length t) × (judged_fields fs t at (j + 4) ≡ ok used)
       go true l e = let z : ◌≡◌ {A = ℕ} 0 1 = cc in absurd (omega arith)
       go false l e = (ltb-false _ _ l, e)
 
-  until_fine : (lo hi : ℕ) (fs : List Field) (j used : ℕ) → judged_fields (until lo hi ∷ fs) t at j ≡ Fine used → (j < length t) × (lo ≤ get_or t j 0) × (get_or t j 0 < hi) × (judged_fields fs t at (j + 1) ≡ Fine used)
+  until_fine : (lo hi : ℕ) (fs : List Field) (j used : ℕ) → judged_fields (until lo hi ∷ fs) t at j ≡ ok used → (j < length t) × (lo ≤ get_or t j 0) × (get_or t j 0 < hi) × (judged_fields fs t at (j + 1) ≡ ok used)
   unfolding judged_fields
   until_fine lo hi fs j used e =
       let q = number_fine _ _ used _ e in
       let r = number_zero t j lo hi q.0 in (r.0, r.1, r.2, q.1)
 
-  pub fields_within : (fs : List Field) (j used : ℕ) → judged_fields fs t at j ≡ Fine used → j ≤ length t → (j ≤ used) × (used ≤ length t)
+  pub fields_within : (fs : List Field) (j used : ℕ) → judged_fields fs t at j ≡ ok used → j ≤ length t → (j ≤ used) × (used ≤ length t)
   unfolding judged_fields
   fields_within [] j used e h = let z : j ≡ used = cc in (omega arith, omega arith)
   fields_within (word ∷ fs) j used e h =
@@ -183,14 +181,14 @@ module _ (t : List ℕ) (at : ℕ) where
       let q = until_fine lo hi fs j used e in
       let r = fields_within fs (j + 1) used q.3 (omega arith) in (omega arith, r.1)
 
-  pub one_range : (lo hi j used : ℕ) → judged_fields (one_field lo hi) t at j ≡ Fine used → (lo ≤ get_or t j 0) × (get_or t j 0 < hi)
+  pub one_range : (lo hi j used : ℕ) → judged_fields (one_field lo hi) t at j ≡ ok used → (lo ≤ get_or t j 0) × (get_or t j 0 < hi)
   one_range lo hi j used e = let q = until_fine lo hi [] j used e in (q.1, q.2)
 
-  pub place_within : (nv j used : ℕ) → judged_fields (place_fields nv) t at j ≡ Fine used → j + 1 < length t
+  pub place_within : (nv j used : ℕ) → judged_fields (place_fields nv) t at j ≡ ok used → j + 1 < length t
   place_within nv j used e = (until_fine 0 9 [] (j + 1) used (until_fine 0 nv _ j used e).3).0
 
   -- Words need the bound of a byte, which the type of a slice gives.
-  pub values_range : ((k : ℕ) → get_or t k 0 < 256) → (fs : List Field) (j used : ℕ) → judged_fields fs t at j ≡ Fine used → Ranges fs (values_at fs t j)
+  pub values_range : ((k : ℕ) → get_or t k 0 < 256) → (fs : List Field) (j used : ℕ) → judged_fields fs t at j ≡ ok used → Ranges fs (values_at fs t j)
   unfolding values_at
   values_range bytes [] j used e = tt
   values_range bytes (word ∷ fs) j used e =
@@ -310,13 +308,13 @@ module _ {l : Limits} {v levels : ℕ} {outer : Bool} {t : List ℕ} {at n b : �
   one_deeper : suc (levels - 1) ≡ levels
   one_deeper = omega (arith, c.deep)
 
-  pub term_stops : (m p : ℕ) → judged_fields (fields_of l (get_or t 0 0)) t at 1 ≡ Refused m p → term l v in_bytes levels outer (cursor t at n b) ≡ err (m, p)
+  pub term_stops : (m p : ℕ) → judged_fields (fields_of l (get_or t 0 0)) t at 1 ≡ err (m, p) → term l v in_bytes levels outer (cursor t at n b) ≡ err (m, p)
   unfolding on_fields
   term_stops m p e =
       subst (λ (d : ℕ). term l v in_bytes d outer (cursor t at n b) ≡ err (m, p)) one_deeper
       (term_operands_refused l v in_bytes outer (cursor t at n b) c.k c.opens (levels - 1) c.few (m, p) (rw e at past_kind))
 
-  pub term_goes : (used : ℕ) → judged_fields (fields_of l (get_or t 0 0)) t at 1 ≡ Fine used → term l v in_bytes levels outer (cursor t at n b) ≡ built c.k n (values_at (fields l c.k) t 1) (term l v in_bytes (levels - 1)) (cursor (drop used t) (at + used) (suc n) (b + boxes_of c.k))
+  pub term_goes : (used : ℕ) → judged_fields (fields_of l (get_or t 0 0)) t at 1 ≡ ok used → term l v in_bytes levels outer (cursor t at n b) ≡ built c.k n (values_at (fields l c.k) t 1) (term l v in_bytes (levels - 1)) (cursor (drop used t) (at + used) (suc n) (b + boxes_of c.k))
   unfolding on_fields rest_of_row done
   term_goes used e =
       subst (λ (d : ℕ). term l v in_bytes d outer (cursor t at n b) ≡ built c.k n (values_at (fields l c.k) t 1) (term l v in_bytes (levels - 1)) (cursor (drop used t) (at + used) (suc n) (b + boxes_of c.k))) one_deeper

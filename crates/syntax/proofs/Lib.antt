@@ -24,6 +24,8 @@ pub mod Lengths
 pub mod MoreLimits
 pub mod RoundTrip
 pub mod View
+pub mod KindTests
+pub mod OpeningLaws
 pub mod NumberLaws
 pub mod KnownKinds
 pub mod ByteLaws

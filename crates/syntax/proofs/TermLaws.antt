@@ -8,16 +8,14 @@ use mathlib.Core.List.{List, [], ◌∷◌, ◌++◌}
 use lib.ListN.{length, get_or, take, drop, length-drop}
 use lib.Seq.{sets}
 use borrow.Author.Tests.{leb-true}
-use Rattle.syntax.specs.Result.{ok}
+use Rattle.syntax.specs.Result.{ok, err}
 use Rattle.syntax.specs.Limits.{Limits, row_numbers}
 use Rattle.syntax.specs.Script.{Term, Terms, number, block, last, more}
 use Rattle.syntax.specs.Kinds.{Kind, k_number, k_reading, k_copy, k_move, k_shared, k_exclusive, k_box, k_let, k_assign, k_below, k_block, k_choice, k_sum, byte_of, Field, fields}
 use Rattle.syntax.specs.Layout.{in_bytes, in_rows, zeros, word_of, unused, head, others, lay, lays}
 use Rattle.syntax.specs.Reader.{Cursor, Reads, is, boxes_of, several, built, term}
 use Rattle.syntax.specs.Parts.{cursor, fields_of, boxes_with}
-use Rattle.syntax.specs.ByteParts.{opening_number, judged_fields, one_field, values_at, row_with, RowAfter, Filled, Ready, Got, got_of, RowsAfter, Reading, read_term, read_block, read_branches}
-use Rattle.syntax.specs.declared.fields.Fields.{Fields}
-use Rattle.syntax.specs.declared.fields.Fields.TheVariants as fieldsFound
+use Rattle.syntax.specs.ByteParts.{opening_number, judged_fields, one_field, values_at, row_with, Ready, Got, got_of, RowsAfter, Reading, read_term, read_block, read_branches}
 use Rattle.syntax.specs.ByteParts as got
 use Rattle.syntax.proofs.TermSteps.{Leaf, leaf_number, leaf_reading, leaf_copy, leaf_move, leaf_shared, leaf_exclusive, leaf_below, leaf_sum, Around, around_box, around_let, around_assign, wrapped, leaf_ok, around_err, around_ok, block_err, block_ok}
 use Rattle.syntax.proofs.Answers.{ran, is_done}
@@ -191,10 +189,6 @@ pub record Head (l : Limits) (v levels : ℕ) (outer : Bool) (t : List ℕ) (at 
   pub several : k ≡ k_block → 1 ≤ get_or t 1 0
   pub is : term l v in_bytes levels outer (cursor t at n b) ≡ built k n (values_at (fields l k) t 1) (term l v in_bytes (levels - 1)) (cursor (drop used t) (at + used) (suc n) (b + boxes_of k))
 
--- The row of operands that are read.
-pub filled_row : (fs : List Field) (kind : ℕ) (t : List ℕ) (at n : ℕ) (before after : List ℕ) {f : Fields} {used : ℕ} → Filled fs kind t at n before after f → f ≡ fieldsFound.Fine used → after ≡ sets before (n * 5) (row_with kind (values_at fs t 1))
-filled_row fs kind t at n before after q e = subst (λ (x : Fields). RowAfter x n (row_with kind (values_at fs t 1)) before after) e q.1
-
 -- The kind byte is refused.
 pub number_refused : (l : Limits) (v levels : ℕ) (outer : Bool) (t : List ℕ) (at n b m : ℕ) (rows : List ℕ) → b ≤ l.boxes → m ≡ opening_number l v levels outer t n b → (m ≡ 0 → ⊥) → Reading (lay in_rows) (read_term l v levels outer t at n b) n rows rows (got.Refused m at)
 unfolding got_of RowsAfter
@@ -202,12 +196,12 @@ number_refused l v levels outer t at n b zero rows h e z = absurd (z refl)
 number_refused l v levels outer t at n b (suc m) rows h e z = rw (opening_refused l v levels outer t at n b h m (sym e)) (refl, tt)
 
 -- The operands are refused.
-pub operand_refused : (l : Limits) (v levels : ℕ) (outer : Bool) (t : List ℕ) (at n b m p : ℕ) (rows rows₁ : List ℕ) → Clear l v levels outer t at n b → judged_fields (fields_of l (get_or t 0 0)) t at 1 ≡ fieldsFound.Refused m p → Reading (lay in_rows) (read_term l v levels outer t at n b) n rows rows₁ (got.Refused m p)
+pub operand_refused : (l : Limits) (v levels : ℕ) (outer : Bool) (t : List ℕ) (at n b m p : ℕ) (rows rows₁ : List ℕ) → Clear l v levels outer t at n b → judged_fields (fields_of l (get_or t 0 0)) t at 1 ≡ err (m, p) → Reading (lay in_rows) (read_term l v levels outer t at n b) n rows rows₁ (got.Refused m p)
 unfolding got_of RowsAfter
 operand_refused l v levels outer t at n b m p rows rows₁ c e = rw (term_stops c m p e) (refl, tt)
 
 -- The head is read where nothing is wrong at the kind byte and in the operands.
-pub head_of : (l : Limits) (v levels : ℕ) (outer : Bool) (t : List ℕ) (at n b : ℕ) → Clear l v levels outer t at n b → (used : ℕ) → judged_fields (fields_of l (get_or t 0 0)) t at 1 ≡ fieldsFound.Fine used → Head l v levels outer t at n b used
+pub head_of : (l : Limits) (v levels : ℕ) (outer : Bool) (t : List ℕ) (at n b : ℕ) → Clear l v levels outer t at n b → (used : ℕ) → judged_fields (fields_of l (get_or t 0 0)) t at 1 ≡ ok used → Head l v levels outer t at n b used
 unfolding fields
 head_of l v levels outer t at n b c used f =
     let w = fields_within t at (fields_of l (get_or t 0 0)) 1 used f c.bytes in

@@ -1,5 +1,6 @@
 -- What the parts of the byte reader's code answer, and the rows that they fill. No rule of the language is stated here.
 use Rattle.std.specs.Prelude.{ℕ, zero, suc, ◌+◌, ◌*◌, ◌-◌, ◌/◌, ◌%◌, ◌≤◌, ◌≡◌, Bool, true, false, not, ◌&&◌, List, [], ◌∷◌, ◌++◌, length, get_or, leb, ltb, eqb}
+use Rattle.std.specs.Prelude as prelude
 use Rattle.std.proofs.lemmas.List.Edits.{sets}
 use Rattle.syntax.specs.Result.{Result, ok, err, Refusal, pick}
 use Rattle.syntax.specs.Limits.{Limits, in_ranges, row_numbers}
@@ -8,9 +9,10 @@ use Rattle.syntax.specs.Kinds.{knows, Field, word, until}
 use Rattle.syntax.specs.Layout.{in_bytes, in_rows, lay, zeros}
 use Rattle.syntax.specs.Reader.{Cursor, term, several, start, whole_script}
 use Rattle.syntax.specs.Within.{Under}
-use Rattle.syntax.specs.Parts.{cursor, known_in}
-use Rattle.syntax.specs.declared.fields.Fields.{Fields}
-use Rattle.syntax.specs.declared.fields.Fields.TheVariants as fields
+use Rattle.syntax.specs.Parts.{cursor, known_in, boxes_with}
+use Rattle.syntax.specs.Refusals.{refusal_of}
+use Rattle.syntax.specs.declared.refusals.Refusal as answer
+use Rattle.syntax.specs.declared.progress.Progress.{Progress}
 
 -- The number of the refusal at the kind byte that begins t; 0 where there is none.
 unfoldable pub opening_number : Limits → ℕ → ℕ → Bool → List ℕ → ℕ → ℕ → ℕ
@@ -34,14 +36,15 @@ field_number t j low high = pick (leb (length t) j) 12 (pick (leb low (get_or t 
 abbrev pub word_at : List ℕ → ℕ → ℕ
 word_at t j = get_or t j 0 * 16777216 + get_or t (j + 1) 0 * 65536 + get_or t (j + 2) 0 * 256 + get_or t (j + 3) 0
 
-unfoldable pub on_number : ℕ → ℕ → Fields → Fields
+-- Refused with a number at p; where it is 0, what follows.
+unfoldable pub on_number : ℕ → ℕ → Result Refusal ℕ → Result Refusal ℕ
 on_number zero p go = go
-on_number (suc n) p go = fields.Refused (suc n) p
+on_number (suc n) p go = err (suc n, p)
 
 -- Operands from j on, of the term whose kind byte stands at offset at and begins t: where they end, or the refusal.
-unfoldable pub judged_fields : List Field → List ℕ → ℕ → ℕ → Fields
-judged_fields [] t at j = fields.Fine j
-judged_fields (word ∷ fs) t at j = pick (ltb (length t) (j + 4)) (fields.Refused 12 (at + length t)) (judged_fields fs t at (j + 4))
+unfoldable pub judged_fields : List Field → List ℕ → ℕ → ℕ → Result Refusal ℕ
+judged_fields [] t at j = ok j
+judged_fields (word ∷ fs) t at j = pick (ltb (length t) (j + 4)) (err (12, at + length t)) (judged_fields fs t at (j + 4))
 judged_fields (until a b ∷ fs) t at j = on_number (field_number t j a b) (at + j) (judged_fields fs t at (j + 1))
 
 unfoldable pub values_at : List Field → List ℕ → ℕ → List ℕ
@@ -58,16 +61,12 @@ one_field low high = until low high ∷ []
 abbrev pub two_place_fields : ℕ → List Field
 two_place_fields nv = until 0 nv ∷ until 0 9 ∷ until 0 nv ∷ until 0 9 ∷ []
 
--- A term's row in place; of a refusal nothing is said.
-abbrev pub RowAfter : Fields → ℕ → List ℕ → List ℕ → List ℕ → Type 0
-RowAfter (fields.Fine used) n row before after = after ≡ sets before (n * 5) row
-RowAfter (fields.Refused m p) n row before after = Unit {0}
+-- The fields of a row after its kind.
+abbrev pub row_fields : List ℕ → List ℕ
+row_fields vs = vs ++ zeros (4 - length vs)
 
 abbrev pub row_with : ℕ → List ℕ → List ℕ
-row_with kind vs = kind ∷ vs ++ zeros (4 - length vs)
-
-abbrev pub Filled : List Field → ℕ → List ℕ → ℕ → ℕ → List ℕ → List ℕ → Fields → Type 0
-Filled fs kind t at n before after r = (r ≡ judged_fields fs t at 1) × RowAfter r n (row_with kind (values_at fs t 1)) before after
+row_with kind vs = kind ∷ row_fields vs
 
 -- ---- terms and blocks in bytes
 
@@ -87,6 +86,15 @@ pub data Got : Type 0 where
 -- What a reader's number stands for.
 unfoldable pub found : ℕ → Got
 found r = pick (ltb r 1099511627776) (Fine (r % 65536) (r / 65536 % 8192) (r / 65536 / 8192)) (Refused ((r - 1099511627776) / 65536 % 4294967296) (r % 65536))
+
+-- What a reader's answer and the progress that it leaves stand for.
+abbrev pub got_read : {A : Type 0} → prelude.Result A answer.Refusal → Progress → Got
+got_read (prelude.Ok u) p = Fine p.at p.terms p.boxes
+got_read (prelude.Err r) p = Refused (refusal_of r).0 (refusal_of r).1
+
+-- Past a kind byte and the operands after it, which take so many bytes.
+abbrev pub passed : Progress → ℕ → ℕ → Progress
+passed p kind bytes = record { at = p.at + bytes; terms = p.terms + 1; boxes = boxes_with kind p.boxes }
 
 unfoldable pub got_of : {A : Type 0} → Result Refusal (A × Cursor) → Got
 got_of (ok o) = Fine o.1.at o.1.terms o.1.boxes
@@ -122,13 +130,13 @@ abbrev pub version_at : List ℕ → ℕ → ℕ
 version_at t j = get_or t j 0 * 256 + get_or t (j + 1) 0
 
 -- Mark and version from offset at on, for a reader whose newest known version is n: where they end, or the refusal.
-unfoldable pub lead_judged : ℕ → List ℕ → ℕ → Fields
+unfoldable pub lead_judged : ℕ → List ℕ → ℕ → Result Refusal ℕ
 lead_judged n t at =
     on_number (mark_number t at 0x52) at
     (on_number (mark_number t (at + 1) 0x43) (at + 1)
     (on_number (mark_number t (at + 2) 0x53) (at + 2)
-    (pick (ltb (length t) (at + 5)) (fields.Refused 12 (length t))
-    (pick (knows n (version_at t (at + 3))) (fields.Fine (at + 5)) (fields.Refused 11 (at + 3))))))
+    (pick (ltb (length t) (at + 5)) (err (12, length t))
+    (pick (knows n (version_at t (at + 3))) (ok (at + 5)) (err (11, at + 3))))))
 
 abbrev pub read_script : Limits → ℕ → List ℕ → Result Refusal (Whole × Cursor)
 read_script l n bytes = whole_script l n (start bytes)

@@ -1,48 +1,57 @@
 // What stands at a kind byte (LANGUAGE 5.10).
-ghost use Rattle.std.specs.Prelude.{◌≡◌, false, ◌≤◌};
-ghost use Rattle.syntax.specs.Limits.{unpacked, version_of};
+ghost use Rattle.std.specs.Prelude.{◌≡◌, false, ◌≤◌, slice_index};
+ghost use Rattle.syntax.specs.Result.{ok};
+ghost use Rattle.syntax.specs.Refusals.{told};
+ghost use Rattle.syntax.specs.KindNumbers.{number_in};
 ghost use Rattle.syntax.specs.Parts.{boxes_with};
-ghost use Rattle.syntax.specs.ByteParts.{opening_number, no_block_byte};
+ghost use Rattle.syntax.specs.ByteParts.{opening_number, no_block_byte, on_number};
 
-use crate::{kinds, limits};
+use crate::kinds;
+use crate::kinds::Kind;
+use crate::limits::Limits;
+use crate::progress::Progress;
+use crate::refusals::{Reason, Refusal};
 
 // 18 (LANGUAGE 5.10): the kind byte is a known kind's, and not a block's. It is asked only where a block must stand. Nothing
 // but 12 and 13 comes before it, so it is asked before the term is read as any other.
 pub fn no_block_byte(version: usize, tail: &[u8]) -> bool
     ensures { result ≡ no_block_byte version tail.now }
 {
-    if tail.len() == 0 {
+    let Some(byte) = tail.first() else {
         return false;
-    }
-    let kind = tail[0] as u32;
-    kinds::known(version, kind) && kind != kinds::BLOCK
+    };
+    let Some(kind) = Kind::in_version(version, u32::from(*byte)) else {
+        return false;
+    };
+    kind != Kind::Block
 }
 
-// The number of the refusal at a kind byte, in the order 12, 13, 16, 15, 17 (LANGUAGE 5.10); 0 where there is none.
-pub fn opening_number(sizes: usize, tail: &[u8], levels: usize, terms: usize, boxes: usize) -> u32
-    ensures { result ≡ opening_number (unpacked sizes) (version_of sizes) levels false tail.now terms boxes }
+// The kind of the kind byte, or its refusal, in the order 12, 13, 16, 15, 17 (LANGUAGE 5.10).
+pub fn opening(
+    limits: &Limits,
+    version: usize,
+    tail: &[u8],
+    levels: usize,
+    progress: &Progress,
+) -> Result<Kind, Refusal>
+    ensures { told number_in result ≡ on_number (opening_number limits.now version levels false tail.now progress.now.terms progress.now.boxes) progress.now.at (ok (slice_index tail.now 0)) }
 {
-    let most_terms = sizes / limits::TERMS_UNIT % limits::TERMS_MODULUS;
-    let most_boxes = sizes / limits::BOXES_UNIT % limits::BOXES_MODULUS;
-    if tail.len() == 0 {
-        return limits::ENDED;
-    }
-    let kind = tail[0] as u32;
-    if !kinds::known(sizes / limits::VERSION_UNIT, kind) {
-        return limits::UNKNOWN_KIND;
-    }
-    if most_terms <= terms {
-        return limits::TOO_MANY_TERMS;
+    let Some(byte) = tail.first() else {
+        return Err(progress.refused(Reason::Ended));
+    };
+    let Some(kind) = Kind::in_version(version, u32::from(*byte)) else {
+        return Err(progress.refused(Reason::UnknownKind));
+    };
+    if limits.terms as usize <= progress.terms {
+        return Err(progress.refused(Reason::TooManyTerms));
     }
     if levels == 0 {
-        return limits::TOO_DEEP;
+        return Err(progress.refused(Reason::TooDeep));
     }
-    if kind == kinds::BOX {
-        if most_boxes <= boxes {
-            return limits::TOO_MANY_BOXES;
-        }
+    if kind == Kind::Box && limits.boxes as usize <= progress.boxes {
+        return Err(progress.refused(Reason::TooManyBoxes));
     }
-    0
+    Ok(kind)
 }
 
 // The box terms met, with a term of this kind. Those before it are at most 128, for every set (LANGUAGE 2.8).

@@ -7,15 +7,13 @@ use mathlib.Core.List.{List}
 use lib.ListN.{length, get_or, drop}
 use lib.Dec.{ltb, eqb}
 use borrow.Author.Tests.{lt-ltb, ne_eqb, ltb-true, eqb-false}
-use Rattle.syntax.specs.Result.{err, pick}
+use Rattle.syntax.specs.Result.{Result, ok, err, pick, Refusal}
 use Rattle.syntax.specs.Limits.{Limits}
 use Rattle.syntax.specs.Kinds.{Kind, fields}
 use Rattle.syntax.specs.Layout.{in_bytes}
 use Rattle.syntax.specs.Reader.{boxes_of, built, term}
 use Rattle.syntax.specs.Parts.{cursor, known_in, fields_of}
 use Rattle.syntax.specs.ByteParts.{opening_number, no_block_byte, judged_fields, values_at, read_term}
-use Rattle.syntax.specs.declared.fields.Fields.{Fields}
-use Rattle.syntax.specs.declared.fields.Fields.TheVariants.{Fine, Refused}
 use Rattle.syntax.proofs.HeadSound.{both}
 use Rattle.syntax.proofs.ByteLaws.{opening_refused, opening_clear, Clear, term_stops, term_goes}
 
@@ -55,12 +53,12 @@ module _ (l : Limits) (v levels : ℕ) (t : List ℕ) (at n b : ℕ) (fits : b �
       k : c.k ≡ d.k
       k = cc (c.kind, d.kind)
 
-      go : (f : Fields) → judged_fields (fields_of l (get_or t 0 0)) t at 1 ≡ f → read_term l v levels true t at n b ≡ read_term l v levels false t at n b
-      go (Fine used) e =
+      go : (f : Result Refusal ℕ) → judged_fields (fields_of l (get_or t 0 0)) t at 1 ≡ f → read_term l v levels true t at n b ≡ read_term l v levels false t at n b
+      go (ok used) e =
           term_goes c used e
           ∙ ap (λ (k : Kind). built k n (values_at (fields l k) t 1) (term l v in_bytes (levels - 1)) (cursor (drop used t) (at + used) (suc n) (b + boxes_of k))) k
           ∙ sym (term_goes d used e)
-      go (Refused m p) e = term_stops c m p e ∙ sym (term_stops d m p e)
+      go (err (m, p)) e = term_stops c m p e ∙ sym (term_stops d m p e)
 
   pub byte_same : no_block_byte v t ≡ false → read_term l v levels true t at n b ≡ read_term l v levels false t at n b
   unfolding opening_number

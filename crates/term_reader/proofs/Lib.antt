@@ -2,5 +2,6 @@
 pub mod Refusals
 pub mod LoopLaws
 pub mod BranchLoop
+pub mod KindGroups
 pub mod TermLoop
 pub mod DueBlockBytes

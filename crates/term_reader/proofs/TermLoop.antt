@@ -1,25 +1,24 @@
 -- The loop of the term reader: its invariant, and what keeps it. Box, let and assign are read as their inner term is, one level deeper.
-use Prim.Native.Nat.{ℕ, ◌+◌, ◌-◌, ◌*◌, ◌≤◌, ◌<◌}
+use Prim.Native.Nat.{ℕ, zero, suc, ◌+◌, ◌-◌, ◌*◌, ◌≤◌, ◌<◌}
 use native.Mathlib.Omega.{arith}
 use mathlib.Core.Path.{◌≡◌, refl, sym, ap, ◌∙◌, subst}
-use mathlib.Core.Logic.{◌⊎◌, ⊎_elim}
 use mathlib.Core.Bool.{false}
-use mathlib.Core.List.{List}
+use mathlib.Core.List.{List, ◌∷◌}
 use lib.ListN.{length, get_or, drop, take, length-drop}
-use lib.Seq.{sets, drop-drop, get_or-drop}
-use Rattle.syntax.specs.Limits.{Limits}
-use Rattle.syntax.specs.Kinds.{byte_of}
+use lib.Seq.{sets, length-sets, drop-drop}
+use borrow.Author.Tests.{ne_eqb}
+use Rattle.syntax.specs.Result.{Result, ok, err, Refusal}
+use Rattle.syntax.specs.Limits.{Limits, row_numbers}
+use Rattle.syntax.specs.Kinds.{byte_of, Field}
 use Rattle.syntax.specs.Layout.{in_rows, lay, lays}
-use Rattle.syntax.specs.Parts.{IsKind, fields_of, boxes_with}
-use Rattle.syntax.specs.ByteParts.{opening_number, row_with, values_at, Filled, Ready, Got, Reading, read_term, read_block, read_branches}
+use Rattle.syntax.specs.Parts.{fields_of, boxes_with}
+use Rattle.syntax.specs.ByteParts.{opening_number, on_number, judged_fields, values_at, row_fields, row_with, Ready, Got, Reading, read_term, read_block, read_branches}
 use Rattle.syntax.specs.ByteParts as got
-use Rattle.syntax.specs.declared.fields.Fields.{Fields}
-use Rattle.syntax.specs.declared.fields.Fields.TheVariants as fieldsFound
-use Rattle.syntax.proofs.Ranges.{ranged}
-use Rattle.syntax.proofs.Lists.{part_all, within_list}
+use Rattle.syntax.proofs.Lists.{part_all}
+use Rattle.syntax.proofs.NumberLaws.{number_says}
+use Rattle.syntax.proofs.KnownKinds.{fields_block}
 use Rattle.syntax.proofs.ByteLaws.{Clear, opening_clear}
-use Rattle.term_reader.proofs.Refusals.{operands_near}
-use Rattle.syntax.proofs.TermLaws.{Head, around_kind, leaf_kind, block_kind, choice_kind, head_of, filled_row, number_refused, operand_refused, leaf_returns, around_returns, block_returns, choice_returns, inner_ready, block_ready}
+use Rattle.syntax.proofs.TermLaws.{Head, around_kind, leaf_kind, leaf_boxes, with_boxes, block_kind, choice_kind, head_of, number_refused, operand_refused, leaf_returns, around_returns, block_returns, choice_returns, inner_ready, block_ready}
 
 -- ---- parts that run to the end, as a callee gets them
 
@@ -28,9 +27,6 @@ part t n = take (length t - n) (drop n t)
 
 part_part : (t : List ℕ) (n m k : ℕ) → k ≡ n + m → part (part t n) m ≡ part t k
 part_part t n m k e = part_all (part t n) m ∙ ap (drop m) (part_all t n) ∙ drop-drop m n t ∙ ap (λ (i : ℕ). drop i t) (sym e) ∙ sym (part_all t k)
-
-part_at : (t : List ℕ) (n j : ℕ) → get_or (part t n) j 0 ≡ get_or t (n + j) 0
-part_at t n j = ap (λ (l : List ℕ). get_or l j 0) (part_all t n) ∙ get_or-drop n t j 0
 
 part_length : (t : List ℕ) (n : ℕ) → length (part t n) ≡ length (drop n t)
 part_length t n = ap length (part_all t n)
@@ -60,126 +56,119 @@ inner_start l v levels tail at terms boxes rows r =
     }
 
 module _ {l : Limits} {v levels : ℕ} {tail : List ℕ} {at terms boxes : ℕ} {rows₀ rows : List ℕ} {next left met boxed : ℕ}
-    (g : Inner l v levels tail at terms boxes rows₀ rows next left met boxed) {m : ℕ} (e : m ≡ opening_number l v left false (part tail (next - at)) met boxed) where
+    (g : Inner l v levels tail at terms boxes rows₀ rows next left met boxed) where
   abbrev Here : List ℕ
   Here = part tail (next - at)
-
-  abbrev kind : ℕ
-  kind = get_or tail (next - at) 0
 
   abbrev Whole : List ℕ → Got → Type 0
   Whole after r = Reading (lay in_rows) (read_term l v levels false tail at terms boxes) terms rows₀ after r
 
-  pub number_stops : (m ≡ 0 → ⊥) → Whole rows (got.Refused m next)
-  number_stops z = g.gives rows (got.Refused m next) (number_refused l v left false Here next met boxed m rows g.ready.few e z)
+  abbrev Opened : Result Refusal ℕ
+  Opened = on_number (opening_number l v left false Here met boxed) next (ok (get_or Here 0 0))
 
-  -- Nothing is wrong at the kind byte.
-  module _ (z : m ≡ 0) where
+  pub opening_stops : (e : Refusal) → err e ≡ Opened → Whole rows (got.Refused e.0 e.1)
+  unfolding on_number
+  opening_stops e h = go (opening_number l v left false Here met boxed) refl h
+    where
+      go : (m : ℕ) → m ≡ opening_number l v left false Here met boxed → err e ≡ on_number m next (ok (get_or Here 0 0)) → Whole rows (got.Refused e.0 e.1)
+      go zero i q = let z : ◌≡◌ {A = ℕ} 0 1 = cc in absurd (omega arith)
+      go (suc m) i q =
+          let n : e.0 ≡ suc m = cc in
+          let p : e.1 ≡ next = cc in
+          rw (n, p) (g.gives rows (got.Refused (suc m) next) (number_refused l v left false Here next met boxed (suc m) rows g.ready.few i (λ z. absurd (omega arith))))
+
+  -- Nothing is wrong at the kind byte, which is b.
+  module _ {b : ℕ} (o : ok b ≡ Opened) where
+    opened : (opening_number l v left false Here met boxed ≡ 0) × (b ≡ get_or Here 0 0)
+    opened = number_says _ next (get_or Here 0 0) b o
+
     pub clear : Clear l v left false Here next met boxed
-    clear = opening_clear l v left false Here next met boxed g.ready.few (sym e ∙ z)
+    clear = opening_clear l v left false Here next met boxed g.ready.few opened.0
 
-    pub kind_within : next - at < length tail
-    kind_within = omega (arith, clear.bytes, part_length tail (next - at), length-drop (next - at) tail)
+    kind_is : get_or Here 0 0 ≡ b
+    kind_is = sym opened.1
 
-    kind_is_law : kind ≡ get_or Here 0 0
-    kind_is_law =
-        let n : next - at ≡ next - at + 0 = omega arith in
-        ap (λ (k : ℕ). get_or tail k 0) n ∙ sym (part_at tail (next - at) 0)
+    pub operand_stops : (e : Refusal) → err e ≡ judged_fields (fields_of l b) Here next 1 → Whole rows (got.Refused e.0 e.1)
+    operand_stops e h = g.gives rows (got.Refused e.0 e.1) (operand_refused l v left false Here next met boxed e.0 e.1 rows rows clear (rw kind_is (sym h)))
 
-    pub kind_known : IsKind kind
-    kind_known = subst IsKind (sym kind_is_law) clear.is_kind
+    -- The operands are read, and their row.
+    module _ {used : ℕ} (h : ok used ≡ judged_fields (fields_of l b) Here next 1) {vs : List ℕ} (f : vs ≡ row_fields (values_at (fields_of l b) Here 1)) where
+      head : Head l v left false Here next met boxed used
+      head = head_of l v left false Here next met boxed clear used (rw kind_is (sym h))
 
-    -- The operands are judged.
-    module _ (rows₁ : List ℕ) {f : Fields} (q : Filled (fields_of l kind) kind Here next met rows rows₁ f) where
-      filled : Filled (fields_of l (get_or Here 0 0)) (get_or Here 0 0) Here next met rows rows₁ f
-      filled = subst (λ (k : ℕ). Filled (fields_of l k) k Here next met rows rows₁ f) kind_is_law q
+      byte : byte_of head.k ≡ b
+      byte = head.byte ∙ kind_is
 
-      pub operand_stops : {n p : ℕ} → f ≡ fieldsFound.Refused n p → Whole rows₁ (got.Refused n p)
-      operand_stops {n} {p} h = g.gives rows₁ (got.Refused n p) (operand_refused l v left false Here next met boxed n p rows rows₁ clear (sym filled.0 ∙ h))
+      abbrev Rest : List ℕ
+      Rest = part Here used
 
-      pub operand_near : {n p : ℕ} → f ≡ fieldsFound.Refused n p → p ≤ 33000
-      operand_near {n} {p} h = operands_near l (get_or Here 0 0) Here next n p (sym filled.0 ∙ h) g.ready.room
+      pub used_within : used ≤ length Here
+      used_within = head.within
 
-      -- The operands are read.
-      module _ {used : ℕ} (h : f ≡ fieldsFound.Fine used) where
-        head : Head l v left false Here next met boxed used
-        head = head_of l v left false Here next met boxed clear used (sym filled.0 ∙ h)
+      pub rest_near : next + used ≤ 32768
+      rest_near = omega (arith, head.within, g.ready.room)
 
+      pub rest_within : next + used - at ≤ length tail
+      rest_within = omega (arith, g.from, head.within, g.within, part_length tail (next - at), length-drop (next - at) tail)
+
+      module _ {rows₁ : List ℕ} (w : rows₁ ≡ sets rows (met * 5) (b ∷ vs)) where
         row : rows₁ ≡ sets rows (met * 5) (row_with (get_or Here 0 0) (values_at (fields_of l (get_or Here 0 0)) Here 1))
-        row = filled_row (fields_of l (get_or Here 0 0)) (get_or Here 0 0) Here next met rows rows₁ filled h
+        row = rw kind_is (w ∙ ap (λ (x : List ℕ). sets rows (met * 5) (b ∷ x)) f)
 
-        byte : byte_of head.k ≡ kind
-        byte = head.byte ∙ sym kind_is_law
+        same_length : length rows₁ ≡ row_numbers l
+        same_length = ap length w ∙ length-sets rows (met * 5) (b ∷ vs) ∙ g.ready.full
 
-        abbrev Rest : List ℕ
-        Rest = part tail (next + used - at)
-
-        rest_is : part Here used ≡ Rest
-        rest_is = part_part tail (next - at) used (next + used - at) (omega (arith, g.from))
-
-        pub rest_within : next + used - at ≤ length tail
-        rest_within = omega (arith, g.from, head.within, g.within, part_length tail (next - at), length-drop (next - at) tail)
-
-        pub rest_near : next + used ≤ 32768
-        rest_near = omega (arith, head.within, g.ready.room)
-
-        met_near : met + 1 < 8192
-        met_near = omega (arith, head.room, (ranged _ g.ready.ranges).terms)
+        pub leaf_stops : (7 ≤ b → 9 < b) → (b ≡ 11 → ⊥) → (b ≡ 12 → ⊥) → Whole rows₁ (got.Fine (next + used) (met + 1) (boxes_with b boxed))
+        leaf_stops x y z =
+            let k = leaf_kind head.k (λ i. omega (arith, byte, x (omega (arith, byte, i)))) (λ i. y (sym byte ∙ i)) (λ i. z (sym byte ∙ i)) in
+            let n : boxed ≡ boxes_with b boxed = omega (arith, ap (λ (n : ℕ). boxes_with n boxed) (sym byte) ∙ with_boxes head.k boxed, leaf_boxes k) in
+            subst (λ (n : ℕ). Whole rows₁ (got.Fine (next + used) (met + 1) n)) n
+            (g.gives rows₁ (got.Fine (next + used) (met + 1) boxed) (leaf_returns l v left false Here next met boxed used head rows rows₁ row k))
 
         -- Where blocks follow, no box is met.
-        blocks_ready : length rows₁ ≡ length rows → Ready l Rest (next + used) boxed rows₁
-        blocks_ready s = subst (λ (x : List ℕ). Ready l x (next + used) boxed rows₁) rest_is (block_ready l v left false Here next met boxed used head rows rows₁ row g.ready (s ∙ g.ready.full))
+        no_box : (b ≡ 7 → ⊥) → boxes_with b boxed ≡ boxed
+        unfolding boxes_with
+        no_box z = rw (ne_eqb b 7 z) refl
 
-        pub leaf_stops : (7 ≤ kind → 9 < kind) → (kind ≡ 11 → ⊥) → (kind ≡ 12 → ⊥) → Whole rows₁ (got.Fine (next + used) (met + 1) boxed)
-        leaf_stops a b d =
-            g.gives rows₁ (got.Fine (next + used) (met + 1) boxed)
-            (leaf_returns l v left false Here next met boxed used head rows rows₁ row (leaf_kind head.k (λ y. omega (arith, byte, a (omega (arith, byte, y)))) (λ y. b (sym byte ∙ y)) (λ y. d (sym byte ∙ y))))
-
-        pub pair_stops : (kind ≡ 10) ⊎ (kind ≡ 13) → Whole rows₁ (got.Fine (next + used) (met + 1) boxed)
-        pair_stops h = ⊎_elim (λ z. leaf_stops (λ y. omega arith) (λ y. omega arith) (λ y. omega arith)) (λ z. leaf_stops (λ y. omega arith) (λ y. omega arith) (λ y. omega arith)) h
+        blocks_ready : Ready l Rest (next + used) boxed rows₁
+        blocks_ready = block_ready l v left false Here next met boxed used head rows rows₁ row g.ready same_length
 
         -- A block's terms follow.
-        module _ (k : kind ≡ 11) where
-          count_is : get_or Here 1 0 ≡ get_or tail (next - at + 1) 0
-          count_is = part_at tail (next - at) 1
+        module _ (k : b ≡ 11) where
+          count_is : get_or vs 0 0 ≡ get_or Here 1 0
+          unfolding values_at
+          count_is = ap (λ (x : List ℕ). get_or x 0 0) (f ∙ ap (λ (fs : List Field). row_fields (values_at fs Here 1)) (ap (fields_of l) k ∙ fields_block l))
 
-          pub some_terms : 0 < get_or tail (next - at + 1) 0
-          some_terms = omega (arith, head.several (block_kind head.k (byte ∙ k)), count_is)
+          pub block_asks : Ready l Rest (next + used) (boxes_with b boxed) rows₁ × (0 < get_or vs 0 0)
+          block_asks = (rw (no_box (omega arith)) blocks_ready, omega (arith, count_is, head.several (block_kind head.k (byte ∙ k))))
 
-          pub count_within : next - at + 1 < length tail
-          count_within = within_list tail (next - at + 1) some_terms
-
-          pub block_asks : length rows₁ ≡ length rows → Ready l Rest (next + used) boxed rows₁ × (0 < get_or tail (next - at + 1) 0) × (met + 1 < 8192)
-          block_asks s = (blocks_ready s, some_terms, met_near)
-
-          pub block_stops : (rows₂ : List ℕ) (r : Got) → Reading (lays in_rows) (read_block l v (left - 1) (get_or tail (next - at + 1) 0) Rest (next + used) (met + 1) boxed) (met + 1) rows₁ rows₂ r → Whole rows₂ r
+          pub block_stops : (rows₂ : List ℕ) (r : Got) → Reading (lays in_rows) (read_block l v (left - 1) (get_or vs 0 0) Rest (next + used) (met + 1) (boxes_with b boxed)) (met + 1) rows₁ rows₂ r → Whole rows₂ r
           block_stops rows₂ r p =
-              let p' = subst (λ (n : ℕ). Reading (lays in_rows) (read_block l v (left - 1) n Rest (next + used) (met + 1) boxed) (met + 1) rows₁ rows₂ r) (sym count_is) p in
               g.gives rows₂ r (block_returns l v left false Here next met boxed used head rows rows₁ row (block_kind head.k (byte ∙ k)) rows₂ r
-              (subst (λ (x : List ℕ). Reading (lays in_rows) (read_block l v (left - 1) (get_or Here 1 0) x (next + used) (met + 1) boxed) (met + 1) rows₁ rows₂ r) (sym rest_is) p'))
+              (rw (count_is, no_box (omega arith)) at p))
 
         -- A choice's two blocks follow.
-        pub choice_asks : length rows₁ ≡ length rows → Ready l Rest (next + used) boxed rows₁ × (met + 1 < 8192)
-        choice_asks s = (blocks_ready s, met_near)
+        module _ (k : b ≡ 12) where
+          pub choice_asks : Ready l Rest (next + used) (boxes_with b boxed) rows₁
+          choice_asks = rw (no_box (omega arith)) blocks_ready
 
-        pub choice_stops : kind ≡ 12 → (rows₂ : List ℕ) (r : Got) → Reading (lays in_rows) (read_branches l v (left - 1) Rest (next + used) (met + 1) boxed) (met + 1) rows₁ rows₂ r → Whole rows₂ r
-        choice_stops k rows₂ r p =
-            g.gives rows₂ r (choice_returns l v left false Here next met boxed used head rows rows₁ row (choice_kind head.k (byte ∙ k)) rows₂ r
-            (subst (λ (x : List ℕ). Reading (lays in_rows) (read_branches l v (left - 1) x (next + used) (met + 1) boxed) (met + 1) rows₁ rows₂ r) (sym rest_is) p))
+          pub choice_stops : (rows₂ : List ℕ) (r : Got) → Reading (lays in_rows) (read_branches l v (left - 1) Rest (next + used) (met + 1) (boxes_with b boxed)) (met + 1) rows₁ rows₂ r → Whole rows₂ r
+          choice_stops rows₂ r p =
+              g.gives rows₂ r (choice_returns l v left false Here next met boxed used head rows rows₁ row (choice_kind head.k (byte ∙ k)) rows₂ r
+              (rw (no_box (omega arith)) at p))
 
         -- One inner term follows.
-        pub inner_on : 7 ≤ kind → (kind ≡ 10 → ⊥) → (kind ≡ 11 → ⊥) → (kind ≡ 12 → ⊥) → (kind ≡ 13 → ⊥) → length rows₁ ≡ length rows → {b : ℕ} → b ≡ boxes_with kind boxed → Inner l v levels tail at terms boxes rows₀ rows₁ (next + used) (left - 1) (met + 1) b
-        inner_on x y w u o s {b} i =
-            let i' : boxes_with (get_or Here 0 0) boxed ≡ b = ap (λ (k : ℕ). boxes_with k boxed) (sym kind_is_law) ∙ sym i in
-            let a = around_kind head.k (omega (arith, byte, x)) (λ z. y (sym byte ∙ z)) (λ z. w (sym byte ∙ z)) (λ z. u (sym byte ∙ z)) (λ z. o (sym byte ∙ z)) in
+        pub inner_on : 7 ≤ b → b ≤ 9 → Inner l v levels tail at terms boxes rows₀ rows₁ (next + used) (left - 1) (met + 1) (boxes_with b boxed)
+        inner_on x y =
+            let a = around_kind head.k (omega (arith, byte, x)) (λ z. omega (arith, byte)) (λ z. omega (arith, byte)) (λ z. omega (arith, byte)) (λ z. omega (arith, byte)) in
+            let e : Rest ≡ part tail (next + used - at) = part_part tail (next - at) used (next + used - at) (omega (arith, g.from)) in
             record {
               from = omega (arith, g.from);
               within = rest_within;
-              ready = subst (λ (n : ℕ). Ready l Rest (next + used) n rows₁) i'
-                  (subst (λ (t : List ℕ). Ready l t (next + used) (boxes_with (get_or Here 0 0) boxed) rows₁) rest_is (inner_ready l v left false Here next met boxed used head rows rows₁ row g.ready (s ∙ g.ready.full)));
+              ready = subst (λ (x : List ℕ). Ready l x (next + used) (boxes_with b boxed) rows₁) e
+                  (rw kind_is at (inner_ready l v left false Here next met boxed used head rows rows₁ row g.ready same_length));
               deep = omega (arith, g.deep);
-              same = s ∙ g.same;
+              same = ap length w ∙ length-sets rows (met * 5) (b ∷ vs) ∙ g.same;
               gives = λ after r p. g.gives after r (around_returns l v left false Here next met boxed used head rows rows₁ row a after r
-                  (subst (λ (t : List ℕ). Reading (lay in_rows) (read_term l v (left - 1) false t (next + used) (met + 1) (boxes_with (get_or Here 0 0) boxed)) (met + 1) rows₁ after r) (sym rest_is)
-                  (subst (λ (n : ℕ). Reading (lay in_rows) (read_term l v (left - 1) false Rest (next + used) (met + 1) n) (met + 1) rows₁ after r) (sym i') p)));
+                  (subst (λ (t : List ℕ). Reading (lay in_rows) (read_term l v (left - 1) false t (next + used) (met + 1) (boxes_with (get_or Here 0 0) boxed)) (met + 1) rows₁ after r) (sym e) (rw (sym kind_is) at p)));
             }

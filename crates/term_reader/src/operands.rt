@@ -1,173 +1,153 @@
 // The operands after a kind byte, judged byte by byte (LANGUAGE 5.11), and the row that they fill (2.9).
-ghost use Rattle.std.specs.Prelude.{◌≡◌, ◌∷◌, [], ◌+◌, ◌*◌, ◌≤◌, length};
+ghost use Rattle.std.specs.Prelude.{◌≡◌, ◌∷◌, ◌+◌, ◌*◌, ◌≤◌, length, slice_index};
 ghost use Rattle.std.proofs.lemmas.List.Edits.{sets};
-ghost use Rattle.syntax.specs.Limits.{unpacked};
-ghost use Rattle.syntax.specs.Parts.{fields_of, IsKind, place_fields};
-ghost use Rattle.syntax.specs.ByteParts.{field_number, judged_fields, word_field, one_field, two_place_fields, Filled};
+ghost use Rattle.syntax.specs.Result.{ok};
+ghost use Rattle.syntax.specs.Refusals.{told};
+ghost use Rattle.syntax.specs.KindNumbers.{number_in};
+ghost use Rattle.syntax.specs.Parts.{fields_of, place_fields};
+ghost use Rattle.syntax.specs.ByteParts.{field_number, on_number, word_field, one_field, two_place_fields};
+ghost use Rattle.term_reader.specs.OperandParts.{OperandsRead, PlaceRead};
 
-use syntax::fields::{Fields, wide, word_at};
-use syntax::{kinds, limits};
+use syntax::kinds::Kind;
+use syntax::limits;
+use syntax::limits::Limits;
+use syntax::refusals::{Reason, Refusal};
+
+// Where a term's operands end, counted from its kind byte, and the fields of its row after the kind (LANGUAGE 2.9).
+#[derive(Clone, Copy)]
+pub struct Operands {
+    pub end: usize,
+    pub fields: [u32; 4],
+}
 
 // The row of term n (LANGUAGE 2.9).
-fn put_row(rows: &mut [u32], n: usize, kind: u32, a: u32, b: u32, c: u32, d: u32)
+pub fn put_row(rows: &mut [u32], n: usize, kind: Kind, fields: &[u32; 4])
     requires { n * 5 + 5 ≤ length rows.old }
-    ensures { rows.new ≡ sets rows.old (n * 5) (kind ∷ a ∷ b ∷ c ∷ d ∷ []) }
+    ensures { rows.new ≡ sets rows.old (n * 5) (number_in kind ∷ fields.now) }
 {
     let at = n * 5;
-    let at1 = at + 1;
-    let at2 = at + 2;
-    let at3 = at + 3;
-    let at4 = at + 4;
-    rows[at] = kind;
-    rows[at1] = a;
-    rows[at2] = b;
-    rows[at3] = c;
-    rows[at4] = d;
+    let [a, b, c, d] = *fields;
+    rows[at] = kind.number();
+    rows[at + 1] = a;
+    rows[at + 2] = b;
+    rows[at + 3] = c;
+    rows[at + 4] = d;
 }
 
-// One operand byte (LANGUAGE 5.11): 0 where the byte at j is from low to below high; else 12 if there is none, or 14.
-fn field_number(tail: &[u8], j: usize, low: u32, high: u32) -> u32
-    ensures { result ≡ field_number tail.now j low high }
+// One operand byte (LANGUAGE 5.11): the one at j, from low to below high; else 12 if there is none, or 14.
+fn read_byte(tail: &[u8], at: usize, j: usize, low: u32, high: u32) -> Result<u32, Refusal>
+    requires { (at + length tail.now ≤ 32768) × (j ≤ 4) }
+    ensures { told (λ v. v) result ≡ on_number (field_number tail.now j low high) (at + j) (ok (slice_index tail.now j)) }
 {
-    if tail.len() <= j {
-        return limits::ENDED;
+    let place = at + j;
+    let Some(byte) = tail.get(j) else {
+        return Err(Refusal {
+            reason: Reason::Ended,
+            place,
+        });
+    };
+    let value = u32::from(*byte);
+    if value < low || high <= value {
+        return Err(Refusal {
+            reason: Reason::Operand,
+            place,
+        });
     }
-    let value = wide(tail[j]);
-    if value < low {
-        return limits::OPERAND;
-    }
-    if high <= value {
-        return limits::OPERAND;
-    }
-    0
+    Ok(value)
 }
 
-// A place (LANGUAGE 2.5): the bytes at j and j + 1.
-fn judge_place(variables: u32, tail: &[u8], at: usize, j: usize) -> Fields
+// A place (LANGUAGE 2.5), its root and its follows: the bytes at j and j + 1.
+fn read_root_and_follows(
+    variables: u32,
+    tail: &[u8],
+    at: usize,
+    j: usize,
+) -> Result<(u32, u32), Refusal>
     requires { (at + length tail.now ≤ 32768) × (j ≤ 3) }
-    ensures { result ≡ judged_fields (place_fields variables) tail.now at j }
+    ensures { PlaceRead variables tail.now at j result }
 {
-    let root = field_number(tail, j, 0, variables);
-    if root != 0 {
-        return Fields::Refused(root, at + j);
-    }
-    let j1 = j + 1;
-    let follows = field_number(tail, j1, 0, limits::FOLLOWS);
-    if follows != 0 {
-        return Fields::Refused(follows, at + j1);
-    }
-    Fields::Fine(j1 + 1)
+    let root = read_byte(tail, at, j, 0, variables)?;
+    let follows = read_byte(tail, at, j + 1, 0, limits::FOLLOWS)?;
+    Ok((root, follows))
 }
 
-// The operand of a number (LANGUAGE 2.3): four bytes after the kind byte, any (2.4).
-fn read_word(tail: &[u8], at: usize, n: usize, rows: &mut [u32]) -> Fields
-    requires { (at + length tail.now ≤ 32768) × (n * 5 + 5 ≤ length rows.old) }
-    ensures { Filled word_field 1 tail.now at n rows.old rows.new result }
+// The operand of a number (LANGUAGE 2.3): four bytes after the kind byte, any (2.4), the high one first (1.4).
+fn read_word(tail: &[u8], at: usize) -> Result<Operands, Refusal>
+    requires { at + length tail.now ≤ 32768 }
+    ensures { OperandsRead word_field tail.now at result }
 {
-    if tail.len() < 5 {
-        return Fields::Refused(limits::ENDED, at + tail.len());
-    }
-    let bits = word_at(tail, 1);
-    put_row(rows, n, kinds::NUMBER, bits, 0, 0, 0);
-    Fields::Fine(5)
+    let [_, a, b, c, d, ..] = tail else {
+        return Err(Refusal {
+            reason: Reason::Ended,
+            place: at + tail.len(),
+        });
+    };
+    Ok(Operands {
+        end: 5,
+        fields: [u32::from_be_bytes([*a, *b, *c, *d]), 0, 0, 0],
+    })
 }
 
 // The operand of a reading, a let and a block (LANGUAGE 2.3): one byte from low to below high (2.4).
-fn read_one(
-    tail: &[u8],
-    at: usize,
-    kind: u32,
-    low: u32,
-    high: u32,
-    n: usize,
-    rows: &mut [u32],
-) -> Fields
-    requires { (at + length tail.now ≤ 32768) × (n * 5 + 5 ≤ length rows.old) }
-    ensures { Filled (one_field low high) kind tail.now at n rows.old rows.new result }
+fn read_one(tail: &[u8], at: usize, low: u32, high: u32) -> Result<Operands, Refusal>
+    requires { at + length tail.now ≤ 32768 }
+    ensures { OperandsRead (one_field low high) tail.now at result }
 {
-    let number = field_number(tail, 1, low, high);
-    if number != 0 {
-        return Fields::Refused(number, at + 1);
-    }
-    put_row(rows, n, kind, wide(tail[1]), 0, 0, 0);
-    Fields::Fine(2)
+    let value = read_byte(tail, at, 1, low, high)?;
+    Ok(Operands {
+        end: 2,
+        fields: [value, 0, 0, 0],
+    })
 }
 
 // The operands of a copy, a move, a borrow, an assign and a choice (LANGUAGE 2.3): one place.
-fn read_place(
-    variables: u32,
-    tail: &[u8],
-    at: usize,
-    kind: u32,
-    n: usize,
-    rows: &mut [u32],
-) -> Fields
-    requires { (at + length tail.now ≤ 32768) × (n * 5 + 5 ≤ length rows.old) }
-    ensures { Filled (place_fields variables) kind tail.now at n rows.old rows.new result }
+fn read_place(variables: u32, tail: &[u8], at: usize) -> Result<Operands, Refusal>
+    requires { at + length tail.now ≤ 32768 }
+    ensures { OperandsRead (place_fields variables) tail.now at result }
 {
-    let place = judge_place(variables, tail, at, 1);
-    let Fields::Fine(used) = place else {
-        return place;
-    };
-    put_row(rows, n, kind, wide(tail[1]), wide(tail[2]), 0, 0);
-    place
+    let (root, follows) = read_root_and_follows(variables, tail, at, 1)?;
+    Ok(Operands {
+        end: 3,
+        fields: [root, follows, 0, 0],
+    })
 }
 
 // The operands of a below and a sum (LANGUAGE 2.3): two places.
-fn read_two_places(
-    variables: u32,
-    tail: &[u8],
-    at: usize,
-    kind: u32,
-    n: usize,
-    rows: &mut [u32],
-) -> Fields
-    requires { (at + length tail.now ≤ 32768) × (n * 5 + 5 ≤ length rows.old) }
-    ensures { Filled (two_place_fields variables) kind tail.now at n rows.old rows.new result }
+fn read_two_places(variables: u32, tail: &[u8], at: usize) -> Result<Operands, Refusal>
+    requires { at + length tail.now ≤ 32768 }
+    ensures { OperandsRead (two_place_fields variables) tail.now at result }
 {
-    let first = judge_place(variables, tail, at, 1);
-    let Fields::Fine(used) = first else {
-        return first;
-    };
-    let second = judge_place(variables, tail, at, 3);
-    let Fields::Fine(end) = second else {
-        return second;
-    };
-    put_row(
-        rows,
-        n,
-        kind,
-        wide(tail[1]),
-        wide(tail[2]),
-        wide(tail[3]),
-        wide(tail[4]),
-    );
-    second
+    let (root, follows) = read_root_and_follows(variables, tail, at, 1)?;
+    let (other_root, other_follows) = read_root_and_follows(variables, tail, at, 3)?;
+    Ok(Operands {
+        end: 5,
+        fields: [root, follows, other_root, other_follows],
+    })
 }
 
-// The operands of a known kind (LANGUAGE 2.3), and its row (2.9).
+// The operands of a kind (LANGUAGE 2.3).
 pub fn read_operands(
-    sizes: usize,
+    limits: &Limits,
     tail: &[u8],
     at: usize,
-    kind: u32,
-    n: usize,
-    rows: &mut [u32],
-) -> Fields
-    requires { (at + length tail.now ≤ 32768) × (n * 5 + 5 ≤ length rows.old) × IsKind kind }
-    ensures { Filled (fields_of (unpacked sizes) kind) kind tail.now at n rows.old rows.new result }
+    kind: Kind,
+) -> Result<Operands, Refusal>
+    requires { at + length tail.now ≤ 32768 }
+    ensures { OperandsRead (fields_of limits.now (number_in kind)) tail.now at result }
 {
-    let variables = (sizes % limits::VARIABLES_MODULUS) as u32;
+    let variables = limits.variables;
     match kind {
-        kinds::NUMBER => read_word(tail, at, n, rows),
-        kinds::READING => read_one(tail, at, kind, 0, limits::READINGS, n, rows),
-        kinds::BOX => {
-            put_row(rows, n, kind, 0, 0, 0, 0);
-            Fields::Fine(1)
+        Kind::Number => read_word(tail, at),
+        Kind::Reading => read_one(tail, at, 0, limits::READINGS),
+        Kind::Let => read_one(tail, at, 0, variables),
+        Kind::Block => read_one(tail, at, 1, limits::BLOCK),
+        Kind::Box => Ok(Operands {
+            end: 1,
+            fields: [0; 4],
+        }),
+        Kind::Below | Kind::Sum => read_two_places(variables, tail, at),
+        Kind::Copy | Kind::Move | Kind::Shared | Kind::Exclusive | Kind::Assign | Kind::Choice => {
+            read_place(variables, tail, at)
         }
-        kinds::LET => read_one(tail, at, kind, 0, variables, n, rows),
-        kinds::BELOW | kinds::SUM => read_two_places(variables, tail, at, kind, n, rows),
-        kinds::BLOCK => read_one(tail, at, kind, 1, limits::BLOCK, n, rows),
-        _ => read_place(variables, tail, at, kind, n, rows),
     }
 }

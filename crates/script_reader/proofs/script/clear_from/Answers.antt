@@ -1,36 +1,26 @@
--- `script_reader::script::clear_from` meets its contract. The invariant: what was passed is 0, the rest as it was. Assumes nothing.
-use Prim.Native.Nat.{ℕ}
+-- `script_reader::script::clear_from` meets its contract. Assumes nothing.
+use Prim.Native.Nat.{ℕ, ◌-◌, ◌≤◌}
+use borrow.Rule.Slice.PartMut.{put_mid}
 use native.Mathlib.Omega.{arith}
-use mathlib.Core.Path.{refl, ◌∙◌, ap}
-use lib.ListN.{length-set, set}
-use mathlib.Core.List.{List}
-use Rattle.script_reader.proofs.ClearLaws.{clear_none, clear_more, clear_all}
+use mathlib.Core.Path.{◌≡◌, sym, ap, ap₂, ◌∙◌}
+use mathlib.Core.List.{List, ◌++◌, append-nil}
+use lib.ListN.{length, take, drop, replicate, length-drop, drop_of_length-le, take-append-drop}
+use Rattle.std.proofs.lemmas.Slice.{take-put_mid, drop-put_mid}
+use Rattle.syntax.specs.Layout.{zeros}
+use Rattle.syntax.proofs.Lists.{part_all}
 use Rattle.script_reader.proofs.script.clear_from.Goals as goal
 
-pub loop-i-init : goal.loop-i-init
-loop-i-init c = (omega arith, c.requires, refl, clear_none _ _ c.requires _ refl)
-
-pub offset_bounds-rows-i : goal.offset_bounds-rows-i
-offset_bounds-rows-i c = omega (arith, c.loop-i.invariant.1)
-
-pub bounds-rows-i : goal.bounds-rows-i
-bounds-rows-i c = omega arith
-
-pub overflow_add-i : goal.overflow_add-i
-overflow_add-i c = omega arith
-
-pub loop-i-smaller : goal.loop-i-smaller
-loop-i-smaller c = omega (arith, c.loop-i.invariant.2)
-
-pub loop-i-preserved : goal.loop-i-preserved
-loop-i-preserved c =
-    let i = c.loop-i.invariant in
-    (omega (arith, i.0), omega (arith, i.2), simp length-set i.2, ap (λ (l : List ℕ). set l c.loop-i.i 0) i.3 ∙ clear_more _ _ c.requires _ i.0 (omega (arith, i.2)))
-
-pub shape_of-rows : goal.shape_of-rows
-shape_of-rows c = c.loop-i.invariant.2
+-- What is written to the end of a list.
+to_the_end : (l ys : List ℕ) (from : ℕ) → from ≤ length l → length ys ≡ length l - from → put_mid from (length l - from) l ys ≡ take from l ++ ys
+to_the_end l ys from h e =
+    let k = length l - from in
+    let n = length l in
+    sym (take-append-drop n (put_mid from k l ys))
+    ∙ ap₂ (λ (x y : List ℕ). x ++ y) (take-put_mid from k l ys n (omega arith) h) (drop-put_mid from k l ys n (omega arith) h e ∙ drop_of_length-le l (omega arith))
+    ∙ append-nil (take from l ++ ys)
 
 pub returns : goal.returns
+unfolding zeros
 returns c =
-    let i = c.loop-i.invariant in
-    i.3 ∙ clear_all _ _ c.requires _ (omega (arith, i.2)) i.1
+    let e : c.fill.new.self ≡ replicate (length c.args.rows.now - c.args.from) 0 = c.fill.ensures.after (λ y h. h) ∙ ap (λ (n : ℕ). replicate n 0) (ap length (part_all c.args.rows.now c.args.from) ∙ length-drop c.args.from c.args.rows.now) in
+    to_the_end c.args.rows.now c.fill.new.self c.args.from c.requires (c.fill.ensures.len ∙ ap length (part_all c.args.rows.now c.args.from) ∙ length-drop c.args.from c.args.rows.now) ∙ ap (λ (z : List ℕ). take c.args.from c.args.rows.now ++ z) e

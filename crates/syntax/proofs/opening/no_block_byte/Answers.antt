@@ -1,21 +1,27 @@
 -- `syntax::opening::no_block_byte` meets its contract. Assumes nothing.
 use native.Mathlib.Omega.{arith}
+use mathlib.Core.Path.{refl, sym, ap, ◌∙◌}
+use mathlib.Core.Bool.{not}
 use lib.ListN.{length}
-use borrow.Author.Tests.{lt-ltb, le-ltb}
+use borrow.Author.Tests.{le-ltb}
 use Rattle.syntax.specs.ByteParts.{no_block_byte}
+use Rattle.syntax.proofs.KindTests.{block_test}
+use Rattle.syntax.proofs.OpeningLaws.{nothing_first, first_within, first_is}
 use Rattle.syntax.proofs.opening.no_block_byte.Goals as goal
 
-pub returns-then-tail-eq0 : goal.returns-then-tail-eq0
+pub returns-in_default : goal.returns-in_default
 unfolding no_block_byte
-returns-then-tail-eq0 c = rw (le-ltb 0 (length c.before.before.args.tail.now) (omega (arith, c.if-tail-eq0.true)))
+returns-in_default c = rw (le-ltb 0 (length c.args.tail.now) (omega (arith, nothing_first c.args.tail.now c.in_default.ensures.value))) refl
 
-pub overflow_cast-kind : goal.overflow_cast-kind
-overflow_cast-kind c = omega (arith, c.shared_slice_known-2-1.given 0)
-
-pub returns-then-known : goal.returns-then-known
+pub returns-in_default-in_version : goal.returns-in_default-in_version
 unfolding no_block_byte
-returns-then-known c = rw (lt-ltb 0 (length c.before.before.before.before.before.args.tail.now) (omega (arith, c.before.before.before.if-tail-eq0.false)), ← c.before.known.ensures, c.if-known.true)
+returns-in_default-in_version c =
+    let f = first_is c.args.tail.now _ c.in-Some.ensures.value _ c.from.ensures in
+    rw (first_within c.args.tail.now _ c.in-Some.ensures.value, f, c.in_default-in_version.ensures) refl
 
-pub returns-else-known : goal.returns-else-known
+pub returns : goal.returns
 unfolding no_block_byte
-returns-else-known c = rw (lt-ltb 0 (length c.before.before.before.before.before.args.tail.now) (omega (arith, c.before.before.before.if-tail-eq0.false)), ← c.before.known.ensures, c.if-known.false)
+returns c =
+    let f = first_is c.args.tail.now _ c.in-Some.ensures.value _ c.from.ensures ∙ sym c.in-Some-in_version.ensures.0 in
+    let known = rw (← c.in-Some-in_version.ensures.0) at c.in-Some-in_version.ensures.1 in
+    rw (first_within c.args.tail.now _ c.in-Some.ensures.value, f, known) (c.ne.ensures ∙ ap not (block_test _))

@@ -1,18 +1,18 @@
--- `term_reader::operands::read_one` meets its contract. The byte is there to be read since it was judged fine. Assumes nothing.
-use mathlib.Core.Path.{sym, ◌∙◌}
+-- `term_reader::operands::read_one` meets its contract. Assumes nothing.
+use mathlib.Core.Path.{refl, ap}
+use mathlib.Core.List.{[], ◌∷◌}
+use Rattle.std.proofs.lemmas.Result.{err_from_is_err_and}
 use Rattle.syntax.specs.Layout.{zeros}
 use Rattle.syntax.specs.ByteParts.{on_number, judged_fields, values_at}
-use Rattle.syntax.proofs.ByteLaws.{number_zero}
-use Rattle.syntax.proofs.NumberLaws.{number_stops}
+use Rattle.syntax.proofs.NumberLaws.{number_passed, number_says}
 use Rattle.term_reader.proofs.operands.read_one.Goals as goal
 
-pub returns-then-number-ne0 : goal.returns-then-number-ne0
+pub returns-in_err-value : goal.returns-in_err-value
 unfolding judged_fields
-returns-then-number-ne0 c = (rw (← c.before.field_number-number.ensures) (sym (number_stops _ _ _ c.if-number-ne0.true)), tt)
-
-pub bounds-tail-1 : goal.bounds-tail-1
-bounds-tail-1 c = (number_zero _ _ _ _ (sym c.before.before.before.field_number-number.ensures ∙ c.before.before.if-number-ne0.false)).0
+returns-in_err-value c =
+    let p = err_from_is_err_and c.from_residual.result c.from_residual.ensures.1 in
+    rw (p.1, p.2) (number_passed _ _ _ _ _ c.in_err-value.ensures, tt)
 
 pub returns : goal.returns
 unfolding judged_fields on_number values_at zeros
-returns c = (rw (← c.before.before.before.before.before.before.before.field_number-number.ensures, c.before.before.before.before.before.before.if-number-ne0.false), rw (← c.before.before.before.wide.ensures.0) c.before.before.put_row.ensures)
+returns c = let q = number_says _ _ _ _ c.in_ok-value.ensures in rw (q.0, q.1) (refl, refl)

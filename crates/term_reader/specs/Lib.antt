@@ -1,0 +1,2 @@
+-- What the readers of operands and terms answer.
+pub mod OperandParts
