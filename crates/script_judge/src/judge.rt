@@ -14,7 +14,7 @@ ghost use Rattle.uses.specs.RowUses.{NamesBelow, later_at, later_in};
 ghost use Rattle.term_judge.specs.JudgeRows.{ended, judge_at, Ready, rest_at, branches_at, EndsAt, script_at};
 ghost use Rattle.uses.specs.RowPlaces.{AllWrap};
 
-use choices::choice::{KEPT, exchange, join, judge_either, keep, numbers_taken};
+use choices::choice::{KeptState, exchange, join, judge_either, keep, numbers_taken};
 use paths::environment::in_scope;
 use rules::rules::{Readable, Requirement, judge_answer, judge_block_end, judge_number};
 use syntax::fields::{field_at, index_at, index_of};
@@ -87,10 +87,10 @@ fn judge_branches(
     level: u64,
     uses: &[u32],
     named: Roots,
-    kept: &mut [u64],
+    kept: &mut [KeptState],
     count: usize,
 ) -> JudgedTerm
-    requires { IsTree (tree_at variables levels rows.now i) × (field_at rows.now i 0 ≡ 12) × Ready variables level levels rows.now env.old uses.now × (count ≡ note_at env.old (suc variables)) × (count * 3 ≤ length kept.old) }
+    requires { IsTree (tree_at variables levels rows.now i) × (field_at rows.now i 0 ≡ 12) × Ready variables level levels rows.now env.old uses.now × (count ≡ note_at env.old (suc variables)) × (count ≤ length kept.old) }
     ensures { (ended env.new result ≡ branches_at variables levels rows.now i level (later_at variables uses.now (has named)) (environment_of env.old)) × TableFor env.new variables }
 {
     keep(env, variables, kept, count);
@@ -145,7 +145,7 @@ fn judge_few_kept(
     requires { IsTree (tree_at variables levels rows.now i) × (field_at rows.now i 0 ≡ 12) × Ready variables level levels rows.now env.old uses.now × (count ≡ note_at env.old (suc variables)) × (count ≤ 16) }
     ensures { (ended env.new result ≡ branches_at variables levels rows.now i level (later_at variables uses.now (has named)) (environment_of env.old)) × TableFor env.new variables }
 {
-    let mut kept: [u64; FEW * KEPT] = [0; FEW * KEPT];
+    let mut kept = [KeptState::default(); FEW];
     judge_branches(
         rows, i, levels, env, variables, level, uses, named, &mut kept, count,
     )
@@ -167,7 +167,7 @@ fn judge_many_kept(
     requires { IsTree (tree_at variables levels rows.now i) × (field_at rows.now i 0 ≡ 12) × Ready variables level levels rows.now env.old uses.now × (count ≡ note_at env.old (suc variables)) }
     ensures { (ended env.new result ≡ branches_at variables levels rows.now i level (later_at variables uses.now (has named)) (environment_of env.old)) × TableFor env.new variables }
 {
-    let mut kept: [u64; MANY * KEPT] = [0; MANY * KEPT];
+    let mut kept = [KeptState::default(); MANY];
     judge_branches(
         rows, i, levels, env, variables, level, uses, named, &mut kept, count,
     )
