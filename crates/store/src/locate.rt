@@ -8,6 +8,13 @@ use crate::store::{Row, Value, load};
 use syntax::limits::Limits;
 use syntax::refusals::Reason;
 
+// A place (LANGUAGE 2.5): a variable, and the follows from it.
+#[derive(Clone, Copy)]
+pub struct Place {
+    pub root: usize,
+    pub follows: usize,
+}
+
 // One follow (LANGUAGE 4.6): the row that an owner or a reference leads to; 60 at a row without value, 61 at a number.
 fn follow(limits: &Limits, store: &[u32], row: usize) -> Result<usize, Reason>
     requires { Tidy limits.now store.now × (row < store_rows limits.now) }
@@ -22,12 +29,12 @@ fn follow(limits: &Limits, store: &[u32], row: usize) -> Result<usize, Reason>
 }
 
 // Locating (LANGUAGE 4.6): from the variable's own row, by each follow, to a row that must be open (60).
-pub fn locate(limits: &Limits, store: &[u32], root: usize, follows: usize) -> Result<usize, Reason>
-    requires { Tidy limits.now store.now × (root < limits.now.variables) }
-    ensures { Located limits.now store.now root follows result }
+pub fn locate(limits: &Limits, store: &[u32], place: Place) -> Result<usize, Reason>
+    requires { Tidy limits.now store.now × (place.root < limits.now.variables) }
+    ensures { Located limits.now store.now place.root place.follows result }
 {
-    let mut row = root;
-    for _ in 0..follows {
+    let mut row = place.root;
+    for _ in 0..place.follows {
         row = follow(limits, store, row)?;
     }
     match load(limits, store, row) {
