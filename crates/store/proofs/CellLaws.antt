@@ -2,26 +2,30 @@
 use Prim.Native.Nat.{ℕ, suc, ◌+◌, ◌-◌, ◌≤◌, ◌<◌}
 use native.Mathlib.Omega.{arith}
 use mathlib.Core.Path.{◌≡◌, refl, sym, ap, subst, ◌∙◌}
-use mathlib.Core.Bool.{Bool, true, false}
 use mathlib.Core.List.{List, [], ◌∷◌}
-use lib.Dec.{eqb}
 use lib.ListN.{get_or}
-use borrow.Author.Tests.{eq-eqb, ne_eqb}
+use Rattle.std.specs.Prelude as prelude
+use Rattle.std.specs.Prelude.{Ok, Err}
 use Rattle.syntax.specs.Limits.{Limits}
-use Rattle.syntax.specs.Result.{Result, ok, err, pick, ◌>>=◌}
-use Rattle.dynamics.specs.Values.{Location, variable, cell, Value, empty, num, reference, closed, given_back, open_with}
-use Rattle.dynamics.specs.Store.{Store, put, is_open, value_in, State, with_store, Ran, fault}
+use Rattle.syntax.specs.Result.{Result, ok, err, ◌>>=◌}
+use Rattle.syntax.specs.declared.refusals.Reason.{Reason}
+use Rattle.syntax.specs.declared.refusals.Reason.TheVariants.{BackAlready}
+use Rattle.dynamics.specs.Values.{Location, variable, cell, Value, closed, given_back, open_with}
+use Rattle.dynamics.specs.Store.{Store, put, is_open, value_in, State, with_store, Ran}
 use Rattle.dynamics.specs.Drop.{cells_left, InOrder, drop_value, close_all}
 use Rattle.dynamics.specs.Encode.{location_of}
-use Rattle.store.specs.Words.{value_of, row_from, store_of, Tidy, Loaded, Written}
+use Rattle.store.specs.Words.{store_of, Tidy, as_value, as_row, value_held, Sound, SoundRow, Loaded, Written}
 use Rattle.store.specs.StoreParts.{state_at, left, Dropped, ClosedOne, since, ClosedAll}
-use Rattle.store.specs.declared.store.Entry.{Entry}
+use Rattle.store.specs.declared.store.Value as held
+use Rattle.store.specs.declared.store.Value.TheVariants as value
+use Rattle.store.specs.declared.store.Row as stored
+use Rattle.store.specs.declared.store.Row.TheVariants as entry
 use Rattle.dynamics.proofs.DropLaws.{without, without_in_order, one_fewer, drop_owner, drop_not_open, drop_empty, drop_num, drop_reference}
 use Rattle.dynamics.proofs.Kept.{keeps_ok, drop_keeps, close_keeps}
 use Rattle.dynamics.proofs.RunOrder.{variable_kept, lasting}
 use Rattle.dynamics.proofs.EncodeLaws.{variable_location, cell_location}
-use Rattle.store.proofs.WordLaws.{back_is, closed_is, out_cell}
-use Rattle.store.proofs.LocateLaws.{loaded_shut, loaded_open, value_owner}
+use Rattle.store.proofs.WordLaws.{held_is, out_cell}
+use Rattle.store.proofs.LocateLaws.{shut}
 
 -- ---- closing, in any state
 
@@ -52,80 +56,75 @@ close_cons i s x xs = go (drop_value i (with_store s (put s.store (variable x) c
     go (err e) = refl
 
 module _ (set : Limits) where
-  pub left_stops : (w : List ℕ) (taken : ℕ) (opened : List ℕ) (i n : ℕ) → (n ≡ 0 → ⊥) → left set w taken opened i n ≡ fault n i (state_at set w taken opened)
-  unfolding left
-  left_stops w taken opened i n h = rw (ne_eqb n 0 h)
-
-  pub left_goes : (w : List ℕ) (taken : ℕ) (opened : List ℕ) (i n : ℕ) → n ≡ 0 → left set w taken opened i n ≡ ok (state_at set w taken opened)
-  unfolding left
-  left_goes w taken opened i n h = rw (eq-eqb n 0 h)
-
   -- ---- one step of dropping
 
-  pub drop_other : (w : List ℕ) (k p : ℕ) → (k ≡ 2 → ⊥) → Tidy set w → Dropped set w k p w 0
-  unfolding left value_of
-  drop_other w k p n t = record { tidy = t; is = λ i taken opened h. sym (rw (ne_eqb k 2 n) (go (eqb k 1) (eqb k 3) i (state_at set w taken opened))) }
+  pub drop_other : (w : List ℕ) (v : held.Value) → ((c : ℕ) → v ≡ value.Owner c → ⊥) → Tidy set w → Dropped set w v w (Ok tt)
+  drop_other w v n t = record { tidy = t; is = λ i taken opened h. sym (go v n i (state_at set w taken opened)) }
     where
-      go : (a b : Bool) (i : ℕ) (s : State) → drop_value i s (pick a (num p) (pick b (reference (location_of set.variables p)) empty)) ≡ ok s
-      go true b i s = drop_num i s p
-      go false true i s = drop_reference i s (location_of set.variables p)
-      go false false i s = drop_empty i s
+      go : (v : held.Value) → ((c : ℕ) → v ≡ value.Owner c → ⊥) → (i : ℕ) (s : State) → drop_value i s (as_value set v) ≡ ok s
+      go value.Empty n i s = drop_empty i s
+      go (value.Number p) n i s = drop_num i s p
+      go (value.Owner c) n i s = absurd (n c refl)
+      go (value.Reference r) n i s = drop_reference i s (location_of set.variables r)
 
-  module _ (w : List ℕ) (k p : ℕ) (o : k ≡ 2) (e : Entry) (l : Loaded set w (set.variables + p) e) where
-    cell_row : store_of set w (cell p) ≡ store_of set w (location_of set.variables (set.variables + p))
-    cell_row = ap (store_of set w) (sym (cell_location set.variables p))
+  module _ (w : List ℕ) (v : held.Value) (p : ℕ) (o : v ≡ value.Owner p) (e : stored.Row) (l : Loaded set w (set.variables + p) e) where
+    cell_row : store_of set w (cell p) ≡ as_row set e
+    cell_row = ap (store_of set w) (sym (cell_location set.variables p)) ∙ l.is
 
-    pub drop_shut : (e.state ≡ 1 → ⊥) → Tidy set w → Dropped set w k p w 63
-    unfolding left
+    pub drop_shut : ((u : held.Value) → e ≡ entry.Open u → ⊥) → Tidy set w → Dropped set w v w (Err BackAlready)
     drop_shut n t = record {
       tidy = t;
       is = λ i taken opened h.
-          sym (ap (drop_value i (state_at set w taken opened)) (value_owner set k p o) ∙ drop_not_open i (state_at set w taken opened) p (ap is_open cell_row ∙ loaded_shut set w (set.variables + p) e l n));
+          sym (ap (λ (x : held.Value). drop_value i (state_at set w taken opened) (as_value set x)) o ∙ drop_not_open i (state_at set w taken opened) p (ap is_open cell_row ∙ shut set e n));
     }
 
-    module _ (n : e.state ≡ 1) (w₁ : List ℕ) (q : Written set w (set.variables + p) 2 0 0 w₁) where
-      cell_open : store_of set w (cell p) ≡ open_with (value_of set e.kind e.payload)
-      cell_open = cell_row ∙ loaded_open set w (set.variables + p) e l n
+    module _ (u : held.Value) (n : e ≡ entry.Open u) (w₁ : List ℕ) (q : Written set w (set.variables + p) entry.GivenBack w₁) where
+      cell_open : store_of set w (cell p) ≡ open_with (as_value set u)
+      cell_open = cell_row ∙ ap (as_row set) n
+
+      pub held_sound : Sound set u
+      held_sound = subst (SoundRow set) n l.sound
 
       given_back_law : store_of set w₁ ≡ put (store_of set w) (cell p) given_back
-      given_back_law = q.is ∙ ap (λ (m : Location). put (store_of set w) m (row_from set 2 0 0)) (cell_location set.variables p) ∙ ap (put (store_of set w) (cell p)) (back_is set)
+      given_back_law = q.is ∙ ap (λ (m : Location). put (store_of set w) m given_back) (cell_location set.variables p)
 
       back_state : (taken : ℕ) (opened : List ℕ) → state_at set w₁ taken opened ≡ without (state_at set w taken opened) p
       back_state taken opened = ap (λ (S : Store). record { store = S; taken = taken; opened = opened }) given_back_law
 
-      pub drop_goes : (w₂ : List ℕ) (m : ℕ) → Dropped set w₁ e.kind e.payload w₂ m → Dropped set w k p w₂ m
-      drop_goes w₂ m d = record {
+      pub drop_goes : (w₂ : List ℕ) (r : prelude.Result (Unit {0}) Reason) → Dropped set w₁ u w₂ r → Dropped set w v w₂ r
+      drop_goes w₂ r d = record {
         tidy = d.tidy;
         is = λ i taken opened h.
-            d.is i taken opened (subst InOrder (sym (back_state taken opened)) (without_in_order (state_at set w taken opened) h p (value_of set e.kind e.payload) cell_open))
-            ∙ ap (λ (s : State). drop_value i s (value_of set e.kind e.payload)) (back_state taken opened)
-            ∙ sym (ap (drop_value i (state_at set w taken opened)) (value_owner set k p o) ∙ drop_owner (state_at set w taken opened) h i p (value_of set e.kind e.payload) cell_open);
+            d.is i taken opened (subst InOrder (sym (back_state taken opened)) (without_in_order (state_at set w taken opened) h p (as_value set u) cell_open))
+            ∙ ap (λ (s : State). drop_value i s (as_value set u)) (back_state taken opened)
+            ∙ sym (ap (λ (x : held.Value). drop_value i (state_at set w taken opened) (as_value set x)) o ∙ drop_owner (state_at set w taken opened) h i p (as_value set u) cell_open);
       }
 
       -- One cell fewer is not given back.
       pub drop_falls : cells_left (state_at set w₁ set.boxes []) < cells_left (state_at set w set.boxes [])
       drop_falls =
-          let f = one_fewer (state_at set w set.boxes []) (λ c h. out_cell set w c h) p (value_of set e.kind e.payload) cell_open in
+          let f = one_fewer (state_at set w set.boxes []) (λ c h. out_cell set w c h) p (as_value set u) cell_open in
           let g = ap cells_left (back_state set.boxes []) in
           omega arith
 
   -- ---- closing
 
-  pub close_one_law : (w : List ℕ) (x : ℕ) → x < set.variables → (e : Entry) → Loaded set w x e → (w₁ : List ℕ) → Written set w x 0 0 0 w₁ → (w₂ : List ℕ) (n : ℕ) → Dropped set w₁ e.kind e.payload w₂ n → ClosedOne set w x w₂ n
+  pub close_one_law : (w : List ℕ) (x : ℕ) → x < set.variables → (e : stored.Row) → Loaded set w x e → (w₁ : List ℕ) → Written set w x entry.Closed w₁ → (w₂ : List ℕ) (r : prelude.Result (Unit {0}) Reason) → Dropped set w₁ (value_held e) w₂ r → ClosedOne set w x w₂ r
   unfolding close_all
-  close_one_law w x h e l w₁ q w₂ n d = record {
+  close_one_law w x h e l w₁ q w₂ r d = record {
     tidy = d.tidy;
     is = λ i taken opened o.
-        d.is i taken opened (subst InOrder (sym (shut taken opened)) (variable_kept (state_at set w taken opened) x closed o))
-        ∙ ap (λ (s : State). drop_value i s (value_of set e.kind e.payload)) (shut taken opened)
-        ∙ ap (drop_value i (with_store (state_at set w taken opened) (put (store_of set w) (variable x) closed))) (sym l.value ∙ ap (λ (m : Location). value_in (store_of set w m)) (variable_location set.variables x h))
+        d.is i taken opened (subst InOrder (sym (shut_one taken opened)) (variable_kept (state_at set w taken opened) x closed o))
+        ∙ ap (λ (s : State). drop_value i s (as_value set (value_held e))) (shut_one taken opened)
+        ∙ ap (drop_value i (with_store (state_at set w taken opened) (put (store_of set w) (variable x) closed)))
+        (sym (held_is set e) ∙ ap value_in (sym l.is ∙ ap (store_of set w) (variable_location set.variables x h)))
         ∙ sym (bind_ok _);
   }
     where
-      shut : (taken : ℕ) (opened : List ℕ) → state_at set w₁ taken opened ≡ with_store (state_at set w taken opened) (put (store_of set w) (variable x) closed)
-      shut taken opened =
+      shut_one : (taken : ℕ) (opened : List ℕ) → state_at set w₁ taken opened ≡ with_store (state_at set w taken opened) (put (store_of set w) (variable x) closed)
+      shut_one taken opened =
           ap (λ (S : Store). record { store = S; taken = taken; opened = opened })
-          (q.is ∙ ap (λ (m : Location). put (store_of set w) m (row_from set 0 0 0)) (variable_location set.variables x h) ∙ ap (put (store_of set w) (variable x)) (closed_is set))
+          (q.is ∙ ap (λ (m : Location). put (store_of set w) m closed) (variable_location set.variables x h))
 
   -- What is left to close, and has been from the start.
   pub record Closing (w₀ opened : List ℕ) (begin end : ℕ) (w : List ℕ) (left : ℕ) : Type 0 where
@@ -140,41 +139,33 @@ module _ (set : Limits) where
   closing_starts w opened begin end t h = record { tidy = t; more = h; few = omega arith; ordered = λ taken around o. o; is = λ i taken around o. refl }
 
   module _ (w₀ opened : List ℕ) (begin end : ℕ) (w : List ℕ) (left₁ : ℕ) (g : Closing w₀ opened begin end w left₁) where
-    module _ (some : begin < left₁) (x : ℕ) (ex : x ≡ get_or opened (left₁ - 1) 0) (w₁ : List ℕ) (n : ℕ) (d : ClosedOne set w x w₁ n) where
-      turn : (i taken : ℕ) (around : List ℕ) → InOrder (state_at set w₀ taken around)
-          → (left set w₁ taken around i n >>= λ s. close_all i s (since opened begin (left₁ - 1 - begin))) ≡ close_all i (state_at set w₀ taken around) (since opened begin (end - begin))
-      turn i taken around o =
+    module _ (some : begin < left₁) (x : ℕ) (ex : x ≡ get_or opened (left₁ - 1) 0) (w₁ : List ℕ) where
+      turn : (r : prelude.Result (Unit {0}) Reason) → ClosedOne set w x w₁ r → (i taken : ℕ) (around : List ℕ) → InOrder (state_at set w₀ taken around)
+          → (left set w₁ taken around i r >>= λ s. close_all i s (since opened begin (left₁ - 1 - begin))) ≡ close_all i (state_at set w₀ taken around) (since opened begin (end - begin))
+      turn r d i taken around o =
           ap (λ (m : Ran State). m >>= λ s. close_all i s (since opened begin (left₁ - 1 - begin))) (d.is i taken around (g.ordered taken around o))
           ∙ sym (close_cons i (state_at set w taken around) x (since opened begin (left₁ - 1 - begin)))
           ∙ ap (λ (y : ℕ). close_all i (state_at set w taken around) (y ∷ since opened begin (left₁ - 1 - begin))) ex
           ∙ ap (close_all i (state_at set w taken around)) (sym (since_last opened begin left₁ some))
           ∙ g.is i taken around o
 
-      pub closing_stops : (n ≡ 0 → ⊥) → ClosedAll set w₀ opened begin end w₁ n
+      pub closing_stops : (e : Reason) → ClosedOne set w x w₁ (Err e) → ClosedAll set w₀ opened begin end w₁ (Err e)
       unfolding ◌>>=◌
-      closing_stops z = record {
-        tidy = d.tidy;
-        is = λ i taken around o.
-            left_stops w₁ taken around i n z
-            ∙ sym (ap (λ (m : Ran State). m >>= λ s. close_all i s (since opened begin (left₁ - 1 - begin))) (left_stops w₁ taken around i n z))
-            ∙ turn i taken around o;
-      }
+      closing_stops e d = record { tidy = d.tidy; is = turn (Err e) d }
 
-      pub closing_goes : n ≡ 0 → Closing w₀ opened begin end w₁ (left₁ - 1)
+      pub closing_goes : (u : Unit {0}) → ClosedOne set w x w₁ (Ok u) → Closing w₀ opened begin end w₁ (left₁ - 1)
       unfolding ◌>>=◌
-      closing_goes z = record {
+      closing_goes u d = record {
         tidy = d.tidy;
         more = omega arith;
         few = let y = g.few in omega arith;
         ordered = λ taken around o.
-            close_ordered 0 (state_at set w taken around) (x ∷ []) (g.ordered taken around o) (state_at set w₁ taken around) (sym (d.is 0 taken around (g.ordered taken around o)) ∙ left_goes w₁ taken around 0 n z);
-        is = λ i taken around o.
-            sym (ap (λ (m : Ran State). m >>= λ s. close_all i s (since opened begin (left₁ - 1 - begin))) (left_goes w₁ taken around i n z))
-            ∙ turn i taken around o;
+            close_ordered 0 (state_at set w taken around) (x ∷ []) (g.ordered taken around o) (state_at set w₁ taken around) (sym (d.is 0 taken around (g.ordered taken around o)));
+        is = turn (Ok u) d;
       }
 
-    pub closing_ends : left₁ ≤ begin → ClosedAll set w₀ opened begin end w 0
-    unfolding left close_all since
+    pub closing_ends : left₁ ≤ begin → ClosedAll set w₀ opened begin end w (Ok tt)
+    unfolding close_all since
     closing_ends h = record {
       tidy = g.tidy;
       is = λ i taken around o.

@@ -3,214 +3,130 @@ use Prim.Native.Nat.{ℕ, zero, suc, ◌+◌, ◌-◌, ◌≤◌, ◌<◌}
 use native.Mathlib.Omega.{arith}
 use native.Mathlib.Numerals.{sub-one}
 use mathlib.Core.Path.{◌≡◌, refl, sym, ap, subst, ◌∙◌}
-use mathlib.Core.Bool.{Bool, true, false}
+use mathlib.Core.Bool.{false}
 use mathlib.Core.List.{List}
-use lib.Dec.{ltb, eqb}
-use borrow.Author.Tests.{eq-eqb, ne_eqb}
+use Rattle.std.specs.Prelude.{Result, Ok, Err}
 use Rattle.syntax.specs.Limits.{Limits, store_rows}
-use Rattle.syntax.specs.Result.{ok, pick, need, ◌>>=◌}
-use Rattle.dynamics.specs.Values.{Location, variable, cell, Value, empty, num, owner, reference, Row, closed, given_back, open_with}
+use Rattle.syntax.specs.Result.{ok, need, ◌>>=◌}
+use Rattle.syntax.specs.declared.refusals.Reason.{Reason}
+use Rattle.syntax.specs.declared.refusals.Reason.TheVariants.{NotThere, WrongKind}
+use Rattle.dynamics.specs.Values.{Location, variable, open_with}
 use Rattle.dynamics.specs.Store.{Store, is_open, State, Ran, fault}
 use Rattle.dynamics.specs.Locate.{followed, locate_from, filled}
-use Rattle.dynamics.specs.Encode.{kind_number, location_of}
-use Rattle.store.specs.Words.{value_of, row_from, store_of, Inside, Leads, Sound, Loaded}
-use Rattle.store.specs.StoreParts.{state_at, found, Followed, Located, held, Filled}
-use Rattle.store.specs.declared.store.Entry.{Entry}
-use Rattle.store.specs.declared.locate.Found.{Found}
+use Rattle.dynamics.specs.Encode.{location_of}
+use Rattle.store.specs.Words.{store_of, as_value, as_row, value_held, Sound, Loaded}
+use Rattle.store.specs.StoreParts.{state_at, told_at, Followed, Located, Filled}
+use Rattle.store.specs.declared.store.Value as held
+use Rattle.store.specs.declared.store.Value.TheVariants as value
+use Rattle.store.specs.declared.store.Row as stored
+use Rattle.store.specs.declared.store.Row.TheVariants as entry
 use Rattle.dynamics.proofs.EncodeLaws.{variable_location, cell_location}
-use Rattle.store.proofs.WordLaws.{empty_sound}
-
-true≢false : true ≡ false → ⊥
-true≢false e = let z : ◌≡◌ {A = ℕ} 0 1 = cc in omega arith
-
-kind_few : (v : Value) → kind_number v < 4
-unfolding kind_number
-kind_few empty = omega arith
-kind_few (num n) = omega arith
-kind_few (owner c) = omega arith
-kind_few (reference l) = omega arith
-
--- ---- rows that are not open
-
-shut_followed : (s : State) (i : ℕ) (q : Row) → is_open q ≡ false → followed s i q ≡ fault 60 i s
-unfolding followed is_open
-shut_followed s i closed h = refl
-shut_followed s i given_back h = refl
-shut_followed s i (open_with v) h = absurd (true≢false h)
-
-shut_filled : (s : State) (i : ℕ) (q : Row) → is_open q ≡ false → filled s i q ≡ fault 60 i s
-unfolding filled is_open
-shut_filled s i closed h = refl
-shut_filled s i given_back h = refl
-shut_filled s i (open_with v) h = absurd (true≢false h)
 
 module _ (set : Limits) where
-  -- ---- rows and kinds
+  -- ---- rows of the code
 
-  row_shut : (s k p : ℕ) → (s ≡ 1 → ⊥) → is_open (row_from set s k p) ≡ false
-  unfolding row_from is_open
-  row_shut s k p h = rw (ne_eqb s 1 h) (go (eqb s 2))
-    where
-      go : (b : Bool) → is_open (pick b given_back closed) ≡ false
-      go true = refl
-      go false = refl
+  -- A row without a value leads nowhere, and cannot be read.
+  none_followed : (s : State) (i : ℕ) (e : stored.Row) → value_held e ≡ value.Empty → followed s i (as_row set e) ≡ fault 60 i s
+  unfolding followed
+  none_followed s i entry.Closed h = refl
+  none_followed s i entry.GivenBack h = refl
+  none_followed s i (entry.Open v) h = rw h
 
-  module _ (w : List ℕ) (r : ℕ) (e : Entry) (l : Loaded set w r e) where
-    pub loaded_shut : (e.state ≡ 1 → ⊥) → is_open (store_of set w (location_of set.variables r)) ≡ false
-    loaded_shut h = ap is_open l.is ∙ row_shut e.state e.kind e.payload h
+  none_filled : (s : State) (i : ℕ) (e : stored.Row) → value_held e ≡ value.Empty → filled s i (as_row set e) ≡ fault 60 i s
+  unfolding filled
+  none_filled s i entry.Closed h = refl
+  none_filled s i entry.GivenBack h = refl
+  none_filled s i (entry.Open v) h = rw h
 
-    pub loaded_open : e.state ≡ 1 → store_of set w (location_of set.variables r) ≡ open_with (value_of set e.kind e.payload)
-    unfolding row_from
-    loaded_open h = l.is ∙ rw h
+  -- A row with one is open.
+  pub held_open : (e : stored.Row) (v : held.Value) → value_held e ≡ v → (v ≡ value.Empty → ⊥) → as_row set e ≡ open_with (as_value set v)
+  held_open entry.Closed v h n = absurd (n (sym h))
+  held_open entry.GivenBack v h n = absurd (n (sym h))
+  held_open (entry.Open u) v h n = ap (λ (x : held.Value). open_with (as_value set x)) h
 
-  sound_few : (k p : ℕ) → Sound set k p → k < 4
-  sound_few k p s = subst (λ (n : ℕ). n < 4) s.kind_is (kind_few (value_of set k p))
+  pub shut : (e : stored.Row) → ((v : held.Value) → e ≡ entry.Open v → ⊥) → is_open (as_row set e) ≡ false
+  unfolding is_open
+  shut entry.Closed n = refl
+  shut entry.GivenBack n = refl
+  shut (entry.Open v) n = absurd (n v refl)
 
-  -- A kind that is none of 0, 2 and 3.
-  sound_number : (k p : ℕ) → Sound set k p → (k ≡ 0 → ⊥) → (k ≡ 2 → ⊥) → (k ≡ 3 → ⊥) → k ≡ 1
-  sound_number k p s a b c = let z = sound_few k p s in omega arith
-
-  pub value_number : (k p : ℕ) → k ≡ 1 → value_of set k p ≡ num p
-  unfolding value_of
-  value_number k p e = rw e
-
-  pub value_owner : (k p : ℕ) → k ≡ 2 → value_of set k p ≡ owner p
-  unfolding value_of
-  value_owner k p e = rw e
-
-  pub value_reference : (k p : ℕ) → k ≡ 3 → value_of set k p ≡ reference (location_of set.variables p)
-  unfolding value_of
-  value_reference k p e = rw e
-
-  value_empty : (k p : ℕ) → k ≡ 0 → value_of set k p ≡ empty
-  unfolding value_of
-  value_empty k p e = rw e
-
-  -- A value of a kind that is not 0 is there.
-  value_filled : (k p : ℕ) (s : State) (i : ℕ) → Sound set k p → (k ≡ 0 → ⊥) → filled s i (open_with (value_of set k p)) ≡ ok (value_of set k p)
-  unfolding filled kind_number
-  value_filled k p s i h n = go (value_of set k p) h.kind_is
-    where
-      go : (v : Value) → kind_number v ≡ k → filled s i (open_with v) ≡ ok v
-      go empty e = absurd (n (sym e))
-      go (num m) e = refl
-      go (owner c) e = refl
-      go (reference l) e = refl
-
-  inside_back : (r : ℕ) → Inside set (location_of set.variables r) → r < store_rows set
-  unfolding location_of
-  inside_back r h = go (ltb r set.variables) refl h
-    where
-      go : (b : Bool) → ltb r set.variables ≡ b → Inside set (pick b (variable r) (cell (r - set.variables))) → r < store_rows set
-      go true e i = omega arith
-      go false e i = omega arith
-
-  pub owner_inside : (k p : ℕ) → Sound set k p → k ≡ 2 → p < set.boxes
-  owner_inside k p s e = subst (Leads set) (value_owner k p e) s.leads
-
-  reference_inside : (k p : ℕ) → Sound set k p → k ≡ 3 → p < store_rows set
-  reference_inside k p s e = inside_back p (subst (Leads set) (value_reference k p e) s.leads)
+  value_filled : (s : State) (i : ℕ) (v : held.Value) → (v ≡ value.Empty → ⊥) → filled s i (open_with (as_value set v)) ≡ ok (as_value set v)
+  unfolding filled
+  value_filled s i value.Empty n = absurd (n refl)
+  value_filled s i (value.Number p) n = refl
+  value_filled s i (value.Owner c) n = refl
+  value_filled s i (value.Reference r) n = refl
 
   -- ---- following
 
-  module _ (w : List ℕ) (r : ℕ) (e : Entry) (l : Loaded set w r e) where
-    pub follow_shut : r < store_rows set → (e.state ≡ 1 → ⊥) → Followed set w r (record { fault = 60; row = r })
-    unfolding found
-    follow_shut h n = record { inside = h; is = λ s i. sym (shut_followed s i _ (loaded_shut w r e l n)) }
+  module _ (w : List ℕ) (r : ℕ) (e : stored.Row) (l : Loaded set w r e) where
+    pub follow_none : value_held e ≡ value.Empty → Followed set w r (Err NotThere)
+    follow_none h = record { inside = tt; is = λ s i. sym (ap (followed s i) l.is ∙ none_followed s i e h) }
 
-    module _ (o : e.state ≡ 1) where
-      pub follow_owner : e.kind ≡ 2 → Followed set w r (record { fault = 0; row = set.variables + e.payload })
-      unfolding found followed
-      follow_owner k = record {
-        inside = let z = owner_inside e.kind e.payload l.sound k in omega arith;
-        is = λ s i. ap ok (cell_location set.variables e.payload) ∙ sym (ap (followed s i) (loaded_open w r e l o ∙ ap open_with (value_owner e.kind e.payload k)));
-      }
+    pub follow_owner : (c : ℕ) → value_held e ≡ value.Owner c → Followed set w r (Ok (set.variables + c))
+    unfolding followed
+    follow_owner c h = record {
+      inside = let z : c < set.boxes = subst (Sound set) h l.sound in omega arith;
+      is = λ s i. ap ok (cell_location set.variables c) ∙ sym (ap (followed s i) (l.is ∙ held_open e (value.Owner c) h (λ z. cc)));
+    }
 
-      pub follow_reference : e.kind ≡ 3 → Followed set w r (record { fault = 0; row = e.payload })
-      unfolding found followed
-      follow_reference k = record {
-        inside = reference_inside e.kind e.payload l.sound k;
-        is = λ s i. sym (ap (followed s i) (loaded_open w r e l o ∙ ap open_with (value_reference e.kind e.payload k)));
-      }
+    pub follow_reference : (n : ℕ) → value_held e ≡ value.Reference n → Followed set w r (Ok n)
+    unfolding followed
+    follow_reference n h = record {
+      inside = subst (Sound set) h l.sound;
+      is = λ s i. sym (ap (followed s i) (l.is ∙ held_open e (value.Reference n) h (λ z. cc)));
+    }
 
-      pub follow_empty : r < store_rows set → e.kind ≡ 0 → Followed set w r (record { fault = 60; row = r })
-      unfolding found followed
-      follow_empty h k = record {
-        inside = h;
-        is = λ s i. sym (ap (followed s i) (loaded_open w r e l o ∙ ap open_with (value_empty e.kind e.payload k)));
-      }
-
-      pub follow_number : r < store_rows set → (e.kind ≡ 0 → ⊥) → (e.kind ≡ 2 → ⊥) → (e.kind ≡ 3 → ⊥) → Followed set w r (record { fault = 61; row = r })
-      unfolding found followed
-      follow_number h a b c = record {
-        inside = h;
-        is = λ s i. sym (ap (followed s i) (loaded_open w r e l o ∙ ap open_with (value_number e.kind e.payload (sound_number _ _ l.sound a b c))));
-      }
+    pub follow_number : (n : ℕ) → value_held e ≡ value.Number n → Followed set w r (Err WrongKind)
+    unfolding followed
+    follow_number n h = record { inside = tt; is = λ s i. sym (ap (followed s i) (l.is ∙ held_open e (value.Number n) h (λ z. cc))) }
 
     -- ---- reading
 
-    pub read_shut : (e.state ≡ 1 → ⊥) → Filled set w r (record { fault = 60; kind = 0; payload = 0 })
-    unfolding held
-    read_shut n = record { sound = (empty_sound set); is = λ s i. sym (shut_filled s i _ (loaded_shut w r e l n)) }
+    pub read_none : value_held e ≡ value.Empty → Filled set w r (Err NotThere)
+    read_none h = record { sound = tt; is = λ s i. sym (ap (filled s i) l.is ∙ none_filled s i e h) }
 
-    pub read_empty : e.state ≡ 1 → e.kind ≡ 0 → Filled set w r (record { fault = 60; kind = 0; payload = 0 })
-    unfolding held filled
-    read_empty o k = record {
-      sound = (empty_sound set);
-      is = λ s i. sym (ap (filled s i) (loaded_open w r e l o ∙ ap open_with (value_empty e.kind e.payload k)));
-    }
-
-    pub read_filled : e.state ≡ 1 → (e.kind ≡ 0 → ⊥) → Filled set w r (record { fault = 0; kind = e.kind; payload = e.payload })
-    unfolding held
-    read_filled o n = record {
-      sound = l.sound;
-      is = λ s i. sym (ap (filled s i) (loaded_open w r e l o) ∙ value_filled e.kind e.payload s i l.sound n);
+    pub read_filled : (v : held.Value) → value_held e ≡ v → (v ≡ value.Empty → ⊥) → Filled set w r (Ok v)
+    read_filled v h n = record {
+      sound = subst (Sound set) h l.sound;
+      is = λ s i. sym (ap (filled s i) (l.is ∙ held_open e v h n) ∙ value_filled s i v n);
     }
 
   -- ---- locating
 
-  -- So many follows from a row on.
-  abbrev pub Leading : List ℕ → ℕ → ℕ → ℕ → ℕ → Type 0
-  Leading w root follows row left =
-      (i taken : ℕ) (opened : List ℕ) → locate_from (state_at set w taken opened) i (location_of set.variables row) left ≡ locate_from (state_at set w taken opened) i (variable root) follows
+  -- Where so many follows from a row on lead, the place leads.
+  pub record Leading (w : List ℕ) (root follows row left : ℕ) : Type 0 where
+    pub inside : row < store_rows set
+    pub is : (i taken : ℕ) (opened : List ℕ) → locate_from (state_at set w taken opened) i (location_of set.variables row) left ≡ locate_from (state_at set w taken opened) i (variable root) follows
 
-  pub leading_starts : (w : List ℕ) (root follows : ℕ) → root < set.variables → Leading w root follows root follows
-  leading_starts w root follows h i taken opened = rw (variable_location set.variables root h)
+  pub leading_starts : (w : List ℕ) (root follows left : ℕ) → root < set.variables → left ≡ follows → Leading w root follows root left
+  leading_starts w root follows left h e = record { inside = omega arith; is = λ i taken opened. rw (variable_location set.variables root h, e) }
 
   module _ (w : List ℕ) (root follows row left : ℕ) (h : Leading w root follows row left) where
-    module _ (some : 0 < left) (f : Found) (g : Followed set w row f) where
-      one_more : (n i : ℕ) (s : State) → 0 < n → s.store ≡ store_of set w → locate_from s i (location_of set.variables row) n ≡ (found set s i f >>= λ m. locate_from s i m (n - 1))
+    module _ (some : 0 < left) where
+      one_more : (f : Result ℕ Reason) → Followed set w row f → (n i : ℕ) (s : State) → 0 < n → s.store ≡ store_of set w → locate_from s i (location_of set.variables row) n ≡ (told_at s i (location_of set.variables) f >>= λ m. locate_from s i m (n - 1))
       unfolding locate_from
-      one_more zero i s z q = absurd (omega arith)
-      one_more (suc n) i s z q = simp sub-one (ap (λ (m : Ran Location). m >>= λ k. locate_from s i k n) (ap (λ (S : Store). followed s i (S (location_of set.variables row))) q ∙ sym (g.is s i)))
+      one_more f g zero i s z q = absurd (omega arith)
+      one_more f g (suc n) i s z q = simp sub-one (ap (λ (m : Ran Location). m >>= λ k. locate_from s i k n) (ap (λ (S : Store). followed s i (S (location_of set.variables row))) q ∙ sym (g.is s i)))
 
-      pub leading_stops : (f.fault ≡ 0 → ⊥) → Located set w root follows f
-      unfolding found ◌>>=◌
-      leading_stops n = record {
-        inside = g.inside;
-        is = λ i taken opened. rw (ne_eqb f.fault 0 n) (sym (one_more left i (state_at set w taken opened) some refl ∙ rw (ne_eqb f.fault 0 n))) ∙ h i taken opened;
-      }
+      pub leading_stops : (r : Reason) → Followed set w row (Err r) → Located set w root follows (Err r)
+      unfolding ◌>>=◌
+      leading_stops r g = record { inside = tt; is = λ i taken opened. sym (one_more (Err r) g left i (state_at set w taken opened) some refl) ∙ h.is i taken opened }
 
-      pub leading_goes : f.fault ≡ 0 → Leading w root follows f.row (left - 1)
-      unfolding found ◌>>=◌
-      leading_goes n i taken opened = sym (one_more left i (state_at set w taken opened) some refl ∙ rw (eq-eqb f.fault 0 n)) ∙ h i taken opened
+      pub leading_goes : (after : ℕ) → after ≡ left - 1 → (n : ℕ) → Followed set w row (Ok n) → Leading w root follows n after
+      unfolding ◌>>=◌
+      leading_goes after e n g = record { inside = g.inside; is = λ i taken opened. rw e (sym (one_more (Ok n) g left i (state_at set w taken opened) some refl) ∙ h.is i taken opened) }
 
-    module _ (none : left ≤ 0) (e : Entry) (l : Loaded set w row e) where
+    module _ (none : left ≤ 0) (e : stored.Row) (l : Loaded set w row e) where
       ends : (n i : ℕ) (s : State) → n ≤ 0 → locate_from s i (location_of set.variables row) n ≡ (need (is_open (s.store (location_of set.variables row))) (record { number = 60; term = i; state = s }) >>= λ _. ok (location_of set.variables row))
       unfolding locate_from
       ends zero i s z = refl
       ends (suc n) i s z = absurd (omega arith)
 
-      pub leading_shut : row < store_rows set → (e.state ≡ 1 → ⊥) → Located set w root follows (record { fault = 60; row = row })
-      unfolding found need ◌>>=◌
-      leading_shut k n = record {
-        inside = k;
-        is = λ i taken opened. sym (ends left i (state_at set w taken opened) none ∙ rw (loaded_shut w row e l n)) ∙ h i taken opened;
-      }
+      pub leading_shut : ((v : held.Value) → e ≡ entry.Open v → ⊥) → Located set w root follows (Err NotThere)
+      unfolding need ◌>>=◌
+      leading_shut n = record { inside = tt; is = λ i taken opened. sym (ends left i (state_at set w taken opened) none ∙ rw (l.is, shut e n)) ∙ h.is i taken opened }
 
-      pub leading_ends : row < store_rows set → e.state ≡ 1 → Located set w root follows (record { fault = 0; row = row })
-      unfolding found need is_open ◌>>=◌
-      leading_ends k n = record {
-        inside = k;
-        is = λ i taken opened. sym (ends left i (state_at set w taken opened) none ∙ rw (loaded_open w row e l n)) ∙ h i taken opened;
-      }
+      pub leading_ends : (v : held.Value) → e ≡ entry.Open v → Located set w root follows (Ok row)
+      unfolding need is_open ◌>>=◌
+      leading_ends v n = record { inside = h.inside; is = λ i taken opened. sym (ends left i (state_at set w taken opened) none ∙ rw (l.is, n)) ∙ h.is i taken opened }

@@ -4,7 +4,7 @@ use native.Mathlib.Omega.{arith}
 use native.Mathlib.Nat.{add-zero}
 use mathlib.Core.Path.{◌≡◌, refl, sym, ap, subst, ◌∙◌, fun_ext}
 use mathlib.Core.Bool.{Bool, true, false}
-use mathlib.Core.List.{List, ◌∷◌}
+use mathlib.Core.List.{List, [], ◌∷◌}
 use lib.Dec.{ltb}
 use lib.ListN.{length, get_or, replicate}
 use lib.ListN as lists
@@ -14,13 +14,17 @@ use borrow.Author.Tests.{ltb-true, ltb-false, lt-ltb, le-ltb}
 use Rattle.syntax.specs.Result.{pick}
 use Rattle.syntax.specs.Limits.{Limits, in_ranges, store_rows, store_numbers}
 use Rattle.syntax.specs.Layout.{zeros}
+use Rattle.syntax.proofs.Ranges.{ranged}
 use Rattle.dynamics.specs.Values.{Location, variable, cell, Value, empty, num, owner, reference, Row, closed, given_back, open_with}
 use Rattle.dynamics.specs.Store.{Store, same_location, put, value_in}
 use Rattle.dynamics.specs.Encode.{state_number, kind_number, row_of, location_of, payload, triple, encode_from, encode}
-use Rattle.store.specs.Words.{value_of, row_from, row_at, store_of, Inside, Leads, Sound, IsRow, Tidy, Loaded, Written}
-use Rattle.store.specs.declared.store.Entry.{Entry}
+use Rattle.store.specs.Words.{value_of, row_from, row_at, store_of, Inside, Leads, Tidy, as_value, as_row, value_held, row_words, Sound, SoundRow, Loaded, Written}
+use Rattle.store.specs.declared.store.Value as held
+use Rattle.store.specs.declared.store.Value.TheVariants as value
+use Rattle.store.specs.declared.store.Row as stored
+use Rattle.store.specs.declared.store.Row.TheVariants as entry
 use Rattle.dynamics.proofs.StoreLaws.{same_location_law}
-use Rattle.dynamics.proofs.EncodeLaws.{variable_location, cell_location, length_encode, read_field, write_row_law}
+use Rattle.dynamics.proofs.EncodeLaws.{variable_location, cell_location, length_encode, read_field, location_row, write_row_law}
 
 -- ---- numbers that are all 0
 
@@ -69,6 +73,18 @@ module _ (set : Limits) where
       go true e = ltb-true r set.variables e
       go false e = let l = ltb-false r set.variables e in let z : r - set.variables < set.boxes = omega arith in z
 
+  -- A row's number is small, whatever the set.
+  pub row_small : (w : List ℕ) (r : ℕ) → Tidy set w → r < store_rows set → r < 256
+  row_small w r t h = let b = ranged set t.ranges in omega arith
+
+  inside_back : (r : ℕ) → Inside set (location_of set.variables r) → r < store_rows set
+  unfolding location_of
+  inside_back r h = go (ltb r set.variables) refl h
+    where
+      go : (b : Bool) → ltb r set.variables ≡ b → Inside set (pick b (variable r) (cell (r - set.variables))) → r < store_rows set
+      go true e i = omega arith
+      go false e i = omega arith
+
   at_row : (w : List ℕ) (r : ℕ) → r < store_rows set → store_of set w (location_of set.variables r) ≡ row_at set w r
   unfolding location_of store_of
   at_row w r h = go (ltb r set.variables) refl
@@ -95,16 +111,50 @@ module _ (set : Limits) where
   value_back (owner c) h = refl
   value_back (reference l) h = ap reference (location_back l h)
 
-  pub sound_of : (v : Value) → Leads set v → Sound set (kind_number v) (payload set.variables v)
-  sound_of v h =
-      let e = value_back v h in
-      record { kind_is = ap kind_number e; payload_is = ap (payload set.variables) e; leads = subst (Leads set) (sym e) h }
-
   row_back : (q : Row) → Leads set (value_in q) → row_from set (state_number q) (kind_number (value_in q)) (payload set.variables (value_in q)) ≡ q
   unfolding row_from state_number
   row_back closed h = refl
   row_back given_back h = refl
   row_back (open_with v) h = ap open_with (value_back v h)
+
+  -- ---- the code's values and rows
+
+  value_sound : (v : held.Value) → Leads set (as_value set v) → Sound set v
+  value_sound value.Empty h = tt
+  value_sound (value.Number n) h = tt
+  value_sound (value.Owner c) h = h
+  value_sound (value.Reference r) h = inside_back r h
+
+  row_sound : (e : stored.Row) → Leads set (value_in (as_row set e)) → SoundRow set e
+  row_sound entry.Closed h = tt
+  row_sound entry.GivenBack h = tt
+  row_sound (entry.Open v) h = value_sound v h
+
+  pub value_leads : (v : held.Value) → Sound set v → Leads set (as_value set v)
+  value_leads value.Empty h = tt
+  value_leads (value.Number n) h = tt
+  value_leads (value.Owner c) h = h
+  value_leads (value.Reference r) h = inside_row r h
+
+  row_leads : (e : stored.Row) → SoundRow set e → Leads set (value_in (as_row set e))
+  row_leads entry.Closed h = tt
+  row_leads entry.GivenBack h = tt
+  row_leads (entry.Open v) h = value_leads v h
+
+  -- The three numbers that a row of the code is written as are those of the row that it is.
+  row_triple : (e : stored.Row) → triple set.variables (as_row set e) ≡ (row_words e).0 ∷ (row_words e).1 ∷ (row_words e).2 ∷ []
+  unfolding triple state_number kind_number payload
+  row_triple entry.Closed = refl
+  row_triple entry.GivenBack = refl
+  row_triple (entry.Open value.Empty) = refl
+  row_triple (entry.Open (value.Number n)) = refl
+  row_triple (entry.Open (value.Owner c)) = refl
+  row_triple (entry.Open (value.Reference r)) = ap (λ (p : ℕ). 1 ∷ 3 ∷ p ∷ []) (location_row set.variables r)
+
+  pub held_is : (e : stored.Row) → value_in (as_row set e) ≡ as_value set (value_held e)
+  held_is entry.Closed = refl
+  held_is entry.GivenBack = refl
+  held_is (entry.Open v) = refl
 
   -- ---- reading
 
@@ -112,17 +162,10 @@ module _ (set : Limits) where
     field_is : (j : ℕ) → j < 3 → get_or w (3 * r + j) 0 ≡ get_or (triple set.variables (store_of set w (location_of set.variables r))) j 0
     field_is j l = ap (λ (x : List ℕ). get_or x (3 * r + j) 0) (sym t.words) ∙ read_field set.variables (store_rows set) (store_of set w) r j h l
 
-    pub loaded : (e : Entry) → e.state ≡ get_or w (3 * r) 0 → e.kind ≡ get_or w (3 * r + 1) 0 → e.payload ≡ get_or w (3 * r + 2) 0 → Loaded set w r e
-    unfolding triple
-    loaded e a b c =
-        let l = t.leads (location_of set.variables r) in
-        let k : e.kind ≡ kind_number (value_in (store_of set w (location_of set.variables r))) = b ∙ field_is 1 (omega arith) in
-        let p : e.payload ≡ payload set.variables (value_in (store_of set w (location_of set.variables r))) = c ∙ field_is 2 (omega arith) in
-        record {
-          is = at_row w r h ∙ rw (a, b, c);
-          value = sym (rw (k, p) (value_back (value_in (store_of set w (location_of set.variables r))) l));
-          sound = rw (k, p) (sound_of (value_in (store_of set w (location_of set.variables r))) l);
-        }
+    pub loaded : (e : stored.Row) → ((l : Limits) → as_row l e ≡ row_from l (get_or w (3 * r) 0) (get_or w (3 * r + 1) 0) (get_or w (3 * r + 2) 0)) → Loaded set w r e
+    loaded e f =
+        let q : store_of set w (location_of set.variables r) ≡ as_row set e = at_row w r h ∙ sym (f set) in
+        record { is = q; sound = row_sound e (subst (λ (q : Row). Leads set (value_in q)) q (t.leads (location_of set.variables r))) }
 
   -- ---- writing
 
@@ -190,56 +233,24 @@ module _ (set : Limits) where
       leads = λ l. subst (λ (q : Row). Leads set (value_in q)) (sym (store_at l)) (f.leads l);
     }
 
-  pub written : (w : List ℕ) (r s k p : ℕ) (w' : List ℕ) → Tidy set w → r < store_rows set → IsRow set s k p → w' ≡ lists.set (lists.set (lists.set w (3 * r) s) (3 * r + 1) k) (3 * r + 2) p → Written set w r s k p w'
-  written w r s k p w' t h i e =
-      let q : Row = row_from set s k p in
-      let S : Store = put (store_of set w) (location_of set.variables r) (row_from set s k p) in
-      let f : Fits (put (store_of set w) (location_of set.variables r) (row_from set s k p)) = fits_put (store_of set w) (location_of set.variables r) (row_from set s k p) (fits_tidy w t) (inside_row r h) i.leads in
-      let z : w' ≡ encode set.variables (store_rows set) (put (store_of set w) (location_of set.variables r) (row_from set s k p)) =
-      e ∙ sym (rw (i.state_is, i.kind_is, i.payload_is, t.words)) ∙ write_row_law set.variables (store_rows set) (store_of set w) r (row_from set s k p) h in
-      record {
-        tidy = subst (Tidy set) (sym z) (tidy_encoded (put (store_of set w) (location_of set.variables r) (row_from set s k p)) f t.ranges);
-        is = ap (store_of set) z ∙ store_back (put (store_of set w) (location_of set.variables r) (row_from set s k p)) f;
-      }
-
-  -- ---- the rows that the code writes
-
-  pub open_row : (k p : ℕ) → Sound set k p → IsRow set 1 k p
-  unfolding row_from state_number
-  open_row k p s = record { state_is = refl; kind_is = s.kind_is; payload_is = s.payload_is; leads = s.leads }
-
-  pub open_is : (k p : ℕ) → row_from set 1 k p ≡ open_with (value_of set k p)
-  unfolding row_from
-  open_is k p = refl
-
-  pub empty_sound : Sound set 0 0
-  unfolding value_of kind_number payload
-  empty_sound = record { kind_is = refl; payload_is = refl; leads = tt }
-
-  pub empty_is : value_of set 0 0 ≡ empty
-  unfolding value_of
-  empty_is = refl
-
-  pub back_row : IsRow set 2 0 0
-  unfolding row_from state_number kind_number payload
-  back_row = record { state_is = refl; kind_is = refl; payload_is = refl; leads = tt }
-
-  pub back_is : row_from set 2 0 0 ≡ given_back
-  unfolding row_from
-  back_is = refl
-
-  pub closed_row : IsRow set 0 0 0
-  unfolding row_from state_number kind_number payload
-  closed_row = record { state_is = refl; kind_is = refl; payload_is = refl; leads = tt }
-
-  pub closed_is : row_from set 0 0 0 ≡ closed
-  unfolding row_from
-  closed_is = refl
+  pub written : (w : List ℕ) (r : ℕ) (e : stored.Row) (w' : List ℕ) → Tidy set w → r < store_rows set → SoundRow set e → w' ≡ lists.set (lists.set (lists.set w (3 * r) (row_words e).0) (3 * r + 1) (row_words e).1) (3 * r + 2) (row_words e).2 → Written set w r e w'
+  unfolding triple
+  written w r e w' t h i q =
+      let S : Store = put (store_of set w) (location_of set.variables r) (as_row set e) in
+      let f : Fits S = fits_put (store_of set w) (location_of set.variables r) (as_row set e) (fits_tidy w t) (inside_row r h) (row_leads e i) in
+      let x = row_triple e in
+      let a : state_number (as_row set e) ≡ (row_words e).0 = cc in
+      let b : kind_number (value_in (as_row set e)) ≡ (row_words e).1 = cc in
+      let c : payload set.variables (value_in (as_row set e)) ≡ (row_words e).2 = cc in
+      let z : w' ≡ encode set.variables (store_rows set) S =
+      q ∙ sym (rw (a, b, c, t.words)) ∙ write_row_law set.variables (store_rows set) (store_of set w) r (as_row set e) h in
+      record { tidy = subst (Tidy set) (sym z) (tidy_encoded S f t.ranges); is = ap (store_of set) z ∙ store_back S f }
 
   -- ---- a cleared store
 
   zero_row : (n r : ℕ) → row_at set (zeros n) r ≡ closed
-  zero_row n r = rw (zero_at n (3 * r), zero_at n (3 * r + 1), zero_at n (3 * r + 2)) closed_is
+  unfolding row_from
+  zero_row n r = ap (λ (m : ℕ). row_from set m (get_or (zeros n) (3 * r + 1) 0) (get_or (zeros n) (3 * r + 2) 0)) (zero_at n (3 * r))
 
   zero_store : (n : ℕ) (l : Location) → store_of set (zeros n) l ≡ closed
   unfolding store_of

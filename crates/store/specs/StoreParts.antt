@@ -1,17 +1,18 @@
 -- What the code answers that locates places, reads rows, drops values and closes variables: each the run rule it is for, on the store that
--- the lent numbers stand for. No rule of the language is stated here. `set` is the set of limits (LANGUAGE 2.8). A fault number 0 is no fault.
-use Rattle.std.specs.Prelude.{ℕ, zero, suc, ◌+◌, ◌-◌, ◌<◌, ◌≡◌, List, [], ◌∷◌, eqb, get_or}
-use Rattle.syntax.specs.Result.{ok, pick}
+-- the lent numbers stand for. No rule of the language is stated here. `set` is the set of limits (LANGUAGE 2.8).
+use Rattle.std.specs.Prelude.{ℕ, zero, suc, ◌+◌, ◌-◌, ◌<◌, ◌≡◌, List, [], ◌∷◌, get_or, Result, Ok, Err, IfOk}
+use Rattle.syntax.specs.Result.{ok}
+use Rattle.syntax.specs.Refusals.{number_of}
+use Rattle.syntax.specs.declared.refusals.Reason.{Reason}
 use Rattle.syntax.specs.Limits.{Limits, store_rows}
 use Rattle.syntax.specs.Script.{Place}
-use Rattle.dynamics.specs.Values.{Location, variable, Value}
+use Rattle.dynamics.specs.Values.{variable}
 use Rattle.dynamics.specs.Store.{State, Ran, fault}
 use Rattle.dynamics.specs.Locate.{followed, locate_from, filled}
 use Rattle.dynamics.specs.Drop.{InOrder, drop_value, close_all}
 use Rattle.dynamics.specs.Encode.{location_of}
-use Rattle.store.specs.Words.{value_of, store_of, Sound, Tidy}
-use Rattle.store.specs.declared.locate.Found.{Found}
-use Rattle.store.specs.declared.locate.Gave.{Gave}
+use Rattle.store.specs.declared.store.Value.{Value}
+use Rattle.store.specs.Words.{as_value, store_of, Sound, Tidy}
 
 -- The state in the lent numbers.
 abbrev pub state_at : Limits → List ℕ → ℕ → List ℕ → State
@@ -20,43 +21,42 @@ state_at set w taken opened = record { store = store_of set w; taken = taken; op
 abbrev pub place_of : ℕ → ℕ → Place
 place_of root follows = record { root = root; follows = follows }
 
+-- What an answer of the code says at term i in the state s: what `f` makes of its value, or the fault.
+abbrev pub told_at : {A B : Type 0} → State → ℕ → (A → B) → Result A Reason → Ran B
+told_at s i f (Ok a) = ok (f a)
+told_at s i f (Err r) = fault (number_of r) i s
+
 -- ---- locating and reading
 
--- What an answer of the code says: the row, or the fault of term i in the state s.
-unfoldable pub found : Limits → State → ℕ → Found → Ran Location
-found set s i f = pick (eqb f.fault 0) (ok (location_of set.variables f.row)) (fault f.fault i s)
+pub record Followed (set : Limits) (w : List ℕ) (row : ℕ) (r : Result ℕ Reason) : Type 0 where
+  pub inside : IfOk r (λ n. n < store_rows set)
+  pub is : (s : State) (i : ℕ) → told_at s i (location_of set.variables) r ≡ followed s i (store_of set w (location_of set.variables row))
 
-pub record Followed (set : Limits) (w : List ℕ) (row : ℕ) (f : Found) : Type 0 where
-  pub inside : f.row < store_rows set
-  pub is : (s : State) (i : ℕ) → found set s i f ≡ followed s i (store_of set w (location_of set.variables row))
+pub record Located (set : Limits) (w : List ℕ) (root follows : ℕ) (r : Result ℕ Reason) : Type 0 where
+  pub inside : IfOk r (λ n. n < store_rows set)
+  pub is : (i taken : ℕ) (opened : List ℕ) → told_at (state_at set w taken opened) i (location_of set.variables) r ≡ locate_from (state_at set w taken opened) i (variable root) follows
 
-pub record Located (set : Limits) (w : List ℕ) (root follows : ℕ) (f : Found) : Type 0 where
-  pub inside : f.row < store_rows set
-  pub is : (i taken : ℕ) (opened : List ℕ) → found set (state_at set w taken opened) i f ≡ locate_from (state_at set w taken opened) i (variable root) follows
+pub record Filled (set : Limits) (w : List ℕ) (row : ℕ) (r : Result Value Reason) : Type 0 where
+  pub sound : IfOk r (Sound set)
+  pub is : (s : State) (i : ℕ) → told_at s i (as_value set) r ≡ filled s i (store_of set w (location_of set.variables row))
 
--- Likewise: the value read.
-unfoldable pub held : Limits → State → ℕ → Gave → Ran Value
-held set s i g = pick (eqb g.fault 0) (ok (value_of set g.kind g.payload)) (fault g.fault i s)
+-- ---- dropping and closing
 
-pub record Filled (set : Limits) (w : List ℕ) (row : ℕ) (g : Gave) : Type 0 where
-  pub sound : Sound set g.kind g.payload
-  pub is : (s : State) (i : ℕ) → held set s i g ≡ filled s i (store_of set w (location_of set.variables row))
+-- The state that dropping or closing leaves, or its fault.
+abbrev pub left : Limits → List ℕ → ℕ → List ℕ → ℕ → Result (Unit {0}) Reason → Ran State
+left set w taken opened i r = told_at (state_at set w taken opened) i (λ u. state_at set w taken opened) r
 
--- Likewise: the state that dropping or closing leaves, or its fault n.
-unfoldable pub left : Limits → List ℕ → ℕ → List ℕ → ℕ → ℕ → Ran State
-left set w taken opened i n = pick (eqb n 0) (ok (state_at set w taken opened)) (fault n i (state_at set w taken opened))
-
-pub record Dropped (set : Limits) (w : List ℕ) (k p : ℕ) (w' : List ℕ) (n : ℕ) : Type 0 where
+pub record Dropped (set : Limits) (w : List ℕ) (v : Value) (w' : List ℕ) (r : Result (Unit {0}) Reason) : Type 0 where
   pub tidy : Tidy set w'
-  pub is : (i taken : ℕ) (opened : List ℕ) → InOrder (state_at set w taken opened) → left set w' taken opened i n ≡ drop_value i (state_at set w taken opened) (value_of set k p)
+  pub is : (i taken : ℕ) (opened : List ℕ) → InOrder (state_at set w taken opened) → left set w' taken opened i r ≡ drop_value i (state_at set w taken opened) (as_value set v)
 
 -- The variable x closed.
 abbrev pub close_one : ℕ → State → ℕ → Ran State
 close_one i s x = close_all i s (x ∷ [])
 
-pub record ClosedOne (set : Limits) (w : List ℕ) (x : ℕ) (w' : List ℕ) (n : ℕ) : Type 0 where
+pub record ClosedOne (set : Limits) (w : List ℕ) (x : ℕ) (w' : List ℕ) (r : Result (Unit {0}) Reason) : Type 0 where
   pub tidy : Tidy set w'
-  pub is : (i taken : ℕ) (opened : List ℕ) → InOrder (state_at set w taken opened) → left set w' taken opened i n ≡ close_one i (state_at set w taken opened) x
+  pub is : (i taken : ℕ) (opened : List ℕ) → InOrder (state_at set w taken opened) → left set w' taken opened i r ≡ close_one i (state_at set w taken opened) x
 
 -- The variables that were opened from `begin` on, n of them, last opened first.
 unfoldable pub since : List ℕ → ℕ → ℕ → List ℕ
@@ -67,6 +67,6 @@ since opened begin (suc n) = get_or opened (begin + n) 0 ∷ since opened begin 
 abbrev pub Listed : Limits → List ℕ → ℕ → Type 0
 Listed set opened n = (k : ℕ) → k < n → get_or opened k 0 < set.variables
 
-pub record ClosedAll (set : Limits) (w opened : List ℕ) (begin end : ℕ) (w' : List ℕ) (n : ℕ) : Type 0 where
+pub record ClosedAll (set : Limits) (w opened : List ℕ) (begin end : ℕ) (w' : List ℕ) (r : Result (Unit {0}) Reason) : Type 0 where
   pub tidy : Tidy set w'
-  pub is : (i taken : ℕ) (around : List ℕ) → InOrder (state_at set w taken around) → left set w' taken around i n ≡ close_all i (state_at set w taken around) (since opened begin (end - begin))
+  pub is : (i taken : ℕ) (around : List ℕ) → InOrder (state_at set w taken around) → left set w' taken around i r ≡ close_all i (state_at set w taken around) (since opened begin (end - begin))

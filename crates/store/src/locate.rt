@@ -1,115 +1,55 @@
 // Locating a place (LANGUAGE 4.6), and reading the row that it leads to (4.7).
 ghost use Rattle.std.specs.Prelude.{◌<◌};
-ghost use Rattle.syntax.specs.Limits.{store_rows, unpacked};
+ghost use Rattle.syntax.specs.Limits.{store_rows};
 ghost use Rattle.store.specs.Words.{Tidy};
 ghost use Rattle.store.specs.StoreParts.{Followed, Located, Filled};
 
-use crate::numbers;
-use crate::store::load;
-use syntax::limits;
+use crate::store::{Row, Value, load};
+use syntax::limits::Limits;
+use syntax::refusals::Reason;
 
-// A row, or a fault: 0 for none.
+// A place (LANGUAGE 2.5): a variable, and the follows from it.
 #[derive(Clone, Copy)]
-pub struct Found {
-    pub fault: u32,
-    pub row: usize,
-}
-
-// A value, or a fault: 0 for none.
-#[derive(Clone, Copy)]
-pub struct Gave {
-    pub fault: u32,
-    pub kind: u32,
-    pub payload: u32,
+pub struct Place {
+    pub root: usize,
+    pub follows: usize,
 }
 
 // One follow (LANGUAGE 4.6): the row that an owner or a reference leads to; 60 at a row without value, 61 at a number.
-fn follow(sizes: usize, store: &[u32], row: usize) -> Found
-    requires { Tidy (unpacked sizes) store.now × (row < store_rows (unpacked sizes)) }
-    ensures { Followed (unpacked sizes) store.now row result }
+fn follow(limits: &Limits, store: &[u32], row: usize) -> Result<usize, Reason>
+    requires { Tidy limits.now store.now × (row < store_rows limits.now) }
+    ensures { Followed limits.now store.now row result }
 {
-    let here = load(sizes, store, row);
-    if here.state != numbers::OPEN {
-        return Found {
-            fault: numbers::NOT_THERE,
-            row: row,
-        };
-    }
-    if here.kind == numbers::OWNER {
-        return Found {
-            fault: numbers::NO_FAULT,
-            row: sizes % limits::VARIABLES_MODULUS + here.payload as usize,
-        };
-    }
-    if here.kind == numbers::REFERENCE {
-        return Found {
-            fault: numbers::NO_FAULT,
-            row: here.payload as usize,
-        };
-    }
-    if here.kind == numbers::EMPTY {
-        return Found {
-            fault: numbers::NOT_THERE,
-            row: row,
-        };
-    }
-    Found {
-        fault: numbers::WRONG_KIND,
-        row: row,
+    match load(limits, store, row).value() {
+        Value::Owner(cell) => Ok(limits.variables as usize + cell as usize),
+        Value::Reference(next) => Ok(next as usize),
+        Value::Empty => Err(Reason::NotThere),
+        Value::Number(_) => Err(Reason::WrongKind),
     }
 }
 
 // Locating (LANGUAGE 4.6): from the variable's own row, by each follow, to a row that must be open (60).
-pub fn locate(sizes: usize, store: &[u32], root: usize, follows: usize) -> Found
-    requires { Tidy (unpacked sizes) store.now × (root < (unpacked sizes).variables) }
-    ensures { Located (unpacked sizes) store.now root follows result }
+pub fn locate(limits: &Limits, store: &[u32], place: Place) -> Result<usize, Reason>
+    requires { Tidy limits.now store.now × (place.root < limits.now.variables) }
+    ensures { Located limits.now store.now place.root place.follows result }
 {
-    let mut row = root;
-    let mut left = follows;
-    while 0 < left {
-        let found = follow(sizes, store, row);
-        if found.fault != numbers::NO_FAULT {
-            return found;
-        }
-        row = found.row;
-        left -= 1;
+    let mut row = place.root;
+    for _ in 0..place.follows {
+        row = follow(limits, store, row)?;
     }
-    let here = load(sizes, store, row);
-    if here.state != numbers::OPEN {
-        return Found {
-            fault: numbers::NOT_THERE,
-            row: row,
-        };
-    }
-    Found {
-        fault: numbers::NO_FAULT,
-        row: row,
+    match load(limits, store, row) {
+        Row::Open(_) => Ok(row),
+        _ => Err(Reason::NotThere),
     }
 }
 
 // Reading a row (LANGUAGE 4.7): it must be filled (60).
-pub fn read_row(sizes: usize, store: &[u32], row: usize) -> Gave
-    requires { Tidy (unpacked sizes) store.now × (row < store_rows (unpacked sizes)) }
-    ensures { Filled (unpacked sizes) store.now row result }
+pub fn read_row(limits: &Limits, store: &[u32], row: usize) -> Result<Value, Reason>
+    requires { Tidy limits.now store.now × (row < store_rows limits.now) }
+    ensures { Filled limits.now store.now row result }
 {
-    let here = load(sizes, store, row);
-    if here.state != numbers::OPEN {
-        return Gave {
-            fault: numbers::NOT_THERE,
-            kind: numbers::EMPTY,
-            payload: 0,
-        };
-    }
-    if here.kind == numbers::EMPTY {
-        return Gave {
-            fault: numbers::NOT_THERE,
-            kind: numbers::EMPTY,
-            payload: 0,
-        };
-    }
-    Gave {
-        fault: numbers::NO_FAULT,
-        kind: here.kind,
-        payload: here.payload,
+    match load(limits, store, row).value() {
+        Value::Empty => Err(Reason::NotThere),
+        value => Ok(value),
     }
 }

@@ -1,4 +1,5 @@
-// The numbers in the store's rows (LANGUAGE 4.2, 4.3), and the faults (5.6).
+// The numbers in the store's rows (LANGUAGE 4.2, 4.3). The store is lent memory, so its rows keep them: `store.rt` alone
+// reads and writes them.
 
 // The states (LANGUAGE 4.2).
 pub const CLOSED: u32 = 0;
@@ -15,14 +16,3 @@ pub const NUMBER: u32 = 1;
 pub const OWNER: u32 = 2;
 
 pub const REFERENCE: u32 = 3;
-
-// By running what was not accepted (LANGUAGE 5.6).
-pub const NO_FAULT: u32 = 0;
-
-pub const NOT_THERE: u32 = 60;
-
-pub const WRONG_KIND: u32 = 61;
-
-pub const OPEN_ALREADY: u32 = 62;
-
-pub const BACK_ALREADY: u32 = 63;

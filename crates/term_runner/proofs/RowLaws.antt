@@ -1,31 +1,81 @@
 -- The terms without an inner term, in their rows: what each kind's row says, and what its run is then.
 use Prim.Native.Nat.{ℕ, zero, suc, ◌+◌, ◌-◌, ◌<◌}
 use native.Mathlib.Omega.{arith}
-use mathlib.Core.Path.{◌≡◌, refl, sym, ap, ◌∙◌}
-use mathlib.Core.Logic.{◌⊎◌, inl, inr, ⊎_elim}
+use mathlib.Core.Path.{◌≡◌, refl, sym, ap, subst, ◌∙◌}
+use mathlib.Core.Logic.{◌⊎◌, ⊎_elim}
 use mathlib.Core.Bool.{Bool, true, false}
 use mathlib.Core.Option.{Option, none, some}
 use mathlib.Core.List.{List}
 use lib.Dec.{ltb, eqb}
 use lib.IntN.{ℤ}
 use borrow.Author.Tests.{ltb-true}
+use Rattle.std.specs.Prelude.{Result, Ok}
 use Rattle.syntax.specs.Limits.{Limits}
-use Rattle.syntax.specs.Script.{Term, reading, copy, move, below, block, sum}
+use Rattle.syntax.specs.Parts.{IsKind}
+use Rattle.syntax.specs.declared.kinds.Kind as code
+use Rattle.syntax.specs.declared.kinds.Kind.TheVariants as kind
+use Rattle.syntax.specs.KindNumbers.{number_in}
+use Rattle.syntax.specs.declared.refusals.Reason.{Reason}
+use Rattle.store.specs.declared.store.Value.{Value}
+use Rattle.store.specs.declared.store.Value.TheVariants as value
+use Rattle.syntax.specs.Script.{Term, reading, copy, move, borrow_shared, borrow_exclusive, below, block, sum}
 use Rattle.syntax.specs.Kinds.{Kind, k_number, k_reading, k_copy, k_move, k_shared, k_exclusive, k_box, k_let, k_assign, k_below, k_block, k_choice, k_sum, newest, byte_of, kind_of}
 use Rattle.syntax.specs.Reader.{branch}
 use Rattle.syntax.specs.RowParts.{field_at}
 use Rattle.syntax.specs.RowTrees.{place_at, RowTree, IsTree, only_if, around, several_at, terms_at, block_at, then_block, choice_of, kind_at, tree_at}
 use Rattle.syntax.proofs.KindBytes.{has, added_most, found}
 use Rattle.syntax.proofs.RowTreeLaws.{only_if_law, only_in, only_is, around_inner, rest_first, tree_kind}
+use Rattle.dynamics.specs.Signed.{compared, held_sum}
 use Rattle.dynamics.specs.Store.{State}
+use mir.Val.{bool_byte}
+use Rattle.syntax.specs.Result.{pick}
 use Rattle.dynamics.specs.Run.{run_borrow, run_pair, run}
 use Rattle.dynamics.specs.Readings.{bits_of}
 use Rattle.store.specs.Words.{Tidy}
 use Rattle.store.specs.StoreParts.{state_at}
 use Rattle.term_runner.specs.LeafParts.{Copied, Moved, Borrowed, Paired, pair_of, ran_on, run_on, leaf_at, LeafRan}
 use Rattle.term_runner.specs.Parts.{end_of}
-use Rattle.store.specs.declared.locate.Gave.{Gave}
-use Rattle.term_runner.proofs.LeafLaws.{Numbers, numbers_sound, numbers_gave}
+
+kind_byte : (k : Kind) → IsKind (byte_of k)
+unfolding byte_of
+kind_byte k_number = omega arith
+kind_byte k_reading = omega arith
+kind_byte k_copy = omega arith
+kind_byte k_move = omega arith
+kind_byte k_shared = omega arith
+kind_byte k_exclusive = omega arith
+kind_byte k_box = omega arith
+kind_byte k_let = omega arith
+kind_byte k_assign = omega arith
+kind_byte k_below = omega arith
+kind_byte k_block = omega arith
+kind_byte k_choice = omega arith
+kind_byte k_sum = omega arith
+
+-- What the kinds with two places make of two numbers.
+pub pair_sum : (k : code.Kind) → k ≡ kind.Sum → pair_of (number_in k) ≡ held_sum
+unfolding pair_of
+pair_sum k e = rw e
+
+pub pair_below : (k : code.Kind) → (k ≡ kind.Sum → ⊥) → pair_of (number_in k) ≡ compared
+unfolding pair_of
+pair_below kind.Number n = refl
+pair_below kind.Reading n = refl
+pair_below kind.Copy n = refl
+pair_below kind.Move n = refl
+pair_below kind.Shared n = refl
+pair_below kind.Exclusive n = refl
+pair_below kind.Box n = refl
+pair_below kind.Let n = refl
+pair_below kind.Assign n = refl
+pair_below kind.Below n = refl
+pair_below kind.Block n = refl
+pair_below kind.Choice n = refl
+pair_below kind.Sum n = absurd (n refl)
+
+pub as_byte : (b : Bool) → bool_byte b ≡ pick b 1 0
+as_byte true = refl
+as_byte false = refl
 
 -- No block stands where no term does.
 no_block : (i n j : ℕ) → IsTree (around (block i) (terms_at (λ k. none) n j)) → ⊥
@@ -135,85 +185,83 @@ module _ (set : Limits) where
     unfolding kind_at byte_of
     sum_leaf e = two_tested _ (by_kind k_sum e)
 
-    pub pair_roots : (k : ℕ) → k ≡ field_at rows i 0 → (k ≡ 10) ⊎ (k ≡ 13) → (field_at rows i 1 < set.variables) × (field_at rows i 3 < set.variables)
-    unfolding Two
-    pair_roots k ek h = ⊎_elim (λ e. let b = below_leaf (sym ek ∙ e) in (b.0, b.1)) (λ e. let b = sum_leaf (sym ek ∙ e) in (b.0, b.1)) h
+    shared_leaf : field_at rows i 0 ≡ 5 → (field_at rows i 1 < set.variables) × (leaf_at set rows i ≡ some (borrow_shared i (place_at rows i 1), i + 1))
+    unfolding kind_at byte_of
+    shared_leaf e = tested (field_at rows i 1) set.variables _ (by_kind k_shared e)
 
-    -- ---- borrows, which are the kinds left
+    exclusive_leaf : field_at rows i 0 ≡ 6 → (field_at rows i 1 < set.variables) × (leaf_at set rows i ≡ some (borrow_exclusive i (place_at rows i 1), i + 1))
+    unfolding kind_at byte_of
+    exclusive_leaf e = tested (field_at rows i 1) set.variables _ (by_kind k_exclusive e)
 
-    module _ (k : ℕ) (ek : k ≡ field_at rows i 0) (a : k ≡ 1 → ⊥) (b : k ≡ 2 → ⊥) (c : k ≡ 3 → ⊥) (d : k ≡ 4 → ⊥) (e : (k ≡ 10) ⊎ (k ≡ 13) → ⊥) where
-      pub borrow_leaf : (field_at rows i 1 < set.variables) × ((readings : List ℤ) (s : State) → run_on readings (leaf_at set rows i) s ≡ run_borrow s i (place_at rows i 1))
-      unfolding leaf_at kind_at byte_of ran_on run
-      borrow_leaf = go (kind_of newest (field_at rows i 0)) (ap (kind_of newest) ek) good
-        where
-          go : (o : Option Kind) → kind_of newest k ≡ o → IsTree (kind_at o set.variables (λ j. none) rows i) → (field_at rows i 1 < set.variables) × ((readings : List ℤ) (s : State) → run_on readings (kind_at o set.variables (λ j. none) rows i) s ≡ run_borrow s i (place_at rows i 1))
-          go none h t = absurd t
-          go (some k_number) h t = absurd (a (sym (found newest k k_number h)))
-          go (some k_reading) h t = absurd (b (sym (found newest k k_reading h)))
-          go (some k_copy) h t = absurd (c (sym (found newest k k_copy h)))
-          go (some k_move) h t = absurd (d (sym (found newest k k_move h)))
-          go (some k_shared) h t = let v = only_if_law (ltb (field_at rows i 1) set.variables) _ t in (ltb-true _ _ v, λ readings s. rw v)
-          go (some k_exclusive) h t = let v = only_if_law (ltb (field_at rows i 1) set.variables) _ t in (ltb-true _ _ v, λ readings s. rw v)
-          go (some k_box) h t = absurd t
-          go (some k_let) h t = absurd (only_in (ltb (field_at rows i 1) set.variables) none t)
-          go (some k_assign) h t = absurd (only_in (ltb (field_at rows i 1) set.variables) none t)
-          go (some k_below) h t = absurd (e (inl (sym (found newest k k_below h))))
-          go (some k_sum) h t = absurd (e (inr (sym (found newest k k_sum h))))
-          go (some k_block) h t = absurd (no_block i (field_at rows i 1) (i + 1) t)
-          go (some k_choice) h t = absurd (no_choice set rows i t)
+    -- A kind is known where a term stands, and it is none of the kinds with inner terms.
+    pub leaf_known : (IsKind (field_at rows i 0) → ⊥) → ⊥
+    unfolding leaf_at kind_at
+    leaf_known n = go (kind_of newest (field_at rows i 0)) refl good
+      where
+        go : (o : Option Kind) → kind_of newest (field_at rows i 0) ≡ o → IsTree (kind_at o set.variables (λ j. none) rows i) → ⊥
+        go none h t = t
+        go (some k) h t = n (subst IsKind (found newest (field_at rows i 0) k h) (kind_byte k))
+
+    module _ (k : code.Kind) (ek : number_in k ≡ field_at rows i 0) where
+      number_is : (j : code.Kind) → k ≡ j → field_at rows i 0 ≡ number_in j
+      number_is j e = sym ek ∙ ap number_in e
+
+      pub leaf_only : (k ≡ kind.Box) ⊎ ((k ≡ kind.Let) ⊎ ((k ≡ kind.Assign) ⊎ ((k ≡ kind.Block) ⊎ (k ≡ kind.Choice)))) → ⊥
+      unfolding kind_at byte_of
+      leaf_only h =
+          ⊎_elim (λ e. subst IsTree (by_kind k_box (number_is kind.Box e)) good)
+          (⊎_elim (λ e. only_in (ltb (field_at rows i 1) set.variables) none (subst IsTree (by_kind k_let (number_is kind.Let e)) good))
+          (⊎_elim (λ e. only_in (ltb (field_at rows i 1) set.variables) none (subst IsTree (by_kind k_assign (number_is kind.Assign e)) good))
+          (⊎_elim (λ e. no_block i (field_at rows i 1) (i + 1) (subst IsTree (by_kind k_block (number_is kind.Block e)) good))
+          (λ e. no_choice set rows i (subst IsTree (by_kind k_choice (number_is kind.Choice e)) good))))) h
+
+      pub pair_roots : (k ≡ kind.Below) ⊎ (k ≡ kind.Sum) → (field_at rows i 1 < set.variables) × (field_at rows i 3 < set.variables)
+      unfolding Two
+      pair_roots h = ⊎_elim (λ e. let b = below_leaf (number_is kind.Below e) in (b.0, b.1)) (λ e. let b = sum_leaf (number_is kind.Sum e) in (b.0, b.1)) h
+
+      pub borrow_leaf : (k ≡ kind.Shared) ⊎ (k ≡ kind.Exclusive) → (field_at rows i 1 < set.variables) × ((readings : List ℤ) (s : State) → run_on readings (leaf_at set rows i) s ≡ run_borrow s i (place_at rows i 1))
+      unfolding ran_on run
+      borrow_leaf h = ⊎_elim
+          (λ e. let b = shared_leaf (number_is kind.Shared e) in (b.0, λ readings s. rw b.1))
+          (λ e. let b = exclusive_leaf (number_is kind.Exclusive e) in (b.0, λ readings s. rw b.1)) h
 
     -- ---- the run of each
 
     module _ (readings : List ℤ) (w : List ℕ) where
-      pub leaf_number_law : field_at rows i 0 ≡ 1 → Tidy set w → (n : ℕ) → n ≡ field_at rows i 1 → (g : Gave) → Numbers n g → LeafRan set rows i readings w w g
+      pub leaf_number_law : field_at rows i 0 ≡ 1 → Tidy set w → (n : ℕ) → n ≡ field_at rows i 1 → LeafRan set rows i readings w w (Ok (value.Number n))
       unfolding kind_at byte_of ran_on run
-      leaf_number_law e t n q g s = record {
-        tidy = t;
-        sound = numbers_sound set n g s;
-        is = λ taken opened. numbers_gave set n g s w taken opened i ∙ rw q (sym (rw (by_kind k_number e)));
-      }
+      leaf_number_law e t n q = record { tidy = t; sound = tt; is = λ taken opened. rw q (sym (rw (by_kind k_number e))) }
 
-      pub leaf_reading_law : field_at rows i 0 ≡ 2 → Tidy set w → (x n : ℕ) → x ≡ field_at rows i 1 → n ≡ bits_of readings x → (g : Gave) → Numbers n g → LeafRan set rows i readings w w g
+      pub leaf_reading_law : field_at rows i 0 ≡ 2 → Tidy set w → (x n : ℕ) → x ≡ field_at rows i 1 → n ≡ bits_of readings x → LeafRan set rows i readings w w (Ok (value.Number n))
       unfolding ran_on run
-      leaf_reading_law e t x n p q g s = record {
-        tidy = t;
-        sound = numbers_sound set n g s;
-        is = λ taken opened. numbers_gave set n g s w taken opened i ∙ rw (q, p) (sym (rw (reading_leaf e).1));
-      }
+      leaf_reading_law e t x n p q = record { tidy = t; sound = tt; is = λ taken opened. rw (q, p) (sym (rw (reading_leaf e).1)) }
 
-      module _ (root follows : ℕ) (p : root ≡ field_at rows i 1) (q : follows ≡ field_at rows i 2) where
-        pub leaf_copy_law : field_at rows i 0 ≡ 3 → Tidy set w → (g : Gave) → Copied set w root follows g → LeafRan set rows i readings w w g
+      module _ (root follows : ℕ) (p : (root ≡ field_at rows i 1) × (follows ≡ field_at rows i 2)) where
+        pub leaf_copy_law : field_at rows i 0 ≡ 3 → Tidy set w → (r : Result Value Reason) → Copied set w root follows r → LeafRan set rows i readings w w r
         unfolding ran_on run
-        leaf_copy_law e t g c = record {
-          tidy = t;
-          sound = c.sound;
-          is = λ taken opened. c.is i taken opened ∙ rw (p, q) (sym (rw (copy_leaf e).1));
-        }
+        leaf_copy_law e t r c = record { tidy = t; sound = c.sound; is = λ taken opened. c.is i taken opened ∙ rw (p.0, p.1) (sym (rw (copy_leaf e).1)) }
 
-        pub leaf_move_law : field_at rows i 0 ≡ 4 → (w' : List ℕ) (g : Gave) → Moved set w root follows w' g → LeafRan set rows i readings w w' g
+        pub leaf_move_law : field_at rows i 0 ≡ 4 → (w' : List ℕ) (r : Result Value Reason) → Moved set w root follows w' r → LeafRan set rows i readings w w' r
         unfolding ran_on run
-        leaf_move_law e w' g c = record {
-          tidy = c.tidy;
-          sound = c.sound;
-          is = λ taken opened. c.is i taken opened ∙ rw (p, q) (sym (rw (move_leaf e).1));
-        }
+        leaf_move_law e w' r c = record { tidy = c.tidy; sound = c.sound; is = λ taken opened. c.is i taken opened ∙ rw (p.0, p.1) (sym (rw (move_leaf e).1)) }
 
         -- Of the kinds with two places: t is the row's term, and f what its run makes of the numbers.
-        leaf_pair : (t : Term) (f : ℕ → ℕ → ℕ) → leaf_at set rows i ≡ some (t, i + 1) → ((s : State) → run (bits_of readings) t s ≡ run_pair f s i (place_at rows i 1) (place_at rows i 3)) → Tidy set w → (other others : ℕ) → other ≡ field_at rows i 3 → others ≡ field_at rows i 4 → (g : Gave) → Paired set f w root follows other others g → LeafRan set rows i readings w w g
-        unfolding ran_on
-        leaf_pair t f e d h other others r s g c = record {
-          tidy = h;
-          sound = c.sound;
-          is = λ taken opened. c.is i taken opened ∙ rw (p, q, r, s) (sym (rw e (d (state_at set w taken opened))));
-        }
+        module _ (other others : ℕ) (q : (other ≡ field_at rows i 3) × (others ≡ field_at rows i 4)) where
+          leaf_pair : (t : Term) (f : ℕ → ℕ → ℕ) → leaf_at set rows i ≡ some (t, i + 1) → ((s : State) → run (bits_of readings) t s ≡ run_pair f s i (place_at rows i 1) (place_at rows i 3)) → Tidy set w → (r : Result Value Reason) → Paired set f w root follows other others r → LeafRan set rows i readings w w r
+          unfolding ran_on
+          leaf_pair t f e d h r c = record {
+            tidy = h;
+            sound = c.sound;
+            is = λ taken opened. c.is i taken opened ∙ rw (p.0, p.1, q.0, q.1) (sym (rw e (d (state_at set w taken opened))));
+          }
 
-        pub leaf_two : (k : ℕ) → k ≡ field_at rows i 0 → (k ≡ 10) ⊎ (k ≡ 13) → Tidy set w → (other others : ℕ) → other ≡ field_at rows i 3 → others ≡ field_at rows i 4 → (g : Gave) → Paired set (pair_of k) w root follows other others g → LeafRan set rows i readings w w g
-        unfolding run pair_of Two
-        leaf_two k ek h = ⊎_elim (λ e. leaf_pair _ (pair_of k) (below_leaf (sym ek ∙ e)).2 (λ s. rw e)) (λ e. leaf_pair _ (pair_of k) (sum_leaf (sym ek ∙ e)).2 (λ s. rw e)) h
+          pub leaf_two : (k : code.Kind) → number_in k ≡ field_at rows i 0 → (k ≡ kind.Below) ⊎ (k ≡ kind.Sum) → Tidy set w → (r : Result Value Reason) → Paired set (pair_of (number_in k)) w root follows other others r → LeafRan set rows i readings w w r
+          unfolding run pair_of Two
+          leaf_two k ek h = ⊎_elim (λ e. leaf_pair _ (pair_of (number_in k)) (below_leaf (number_is k ek kind.Below e)).2 (λ s. rw e)) (λ e. leaf_pair _ (pair_of (number_in k)) (sum_leaf (number_is k ek kind.Sum e)).2 (λ s. rw e)) h
 
-        pub leaf_borrow : (k : ℕ) → k ≡ field_at rows i 0 → (k ≡ 1 → ⊥) → (k ≡ 2 → ⊥) → (k ≡ 3 → ⊥) → (k ≡ 4 → ⊥) → ((k ≡ 10) ⊎ (k ≡ 13) → ⊥) → Tidy set w → (g : Gave) → Borrowed set w root follows g → LeafRan set rows i readings w w g
-        leaf_borrow k ek a b c d e t g x = record {
+        pub leaf_borrow : (k : code.Kind) → number_in k ≡ field_at rows i 0 → (k ≡ kind.Shared) ⊎ (k ≡ kind.Exclusive) → Tidy set w → (r : Result Value Reason) → Borrowed set w root follows r → LeafRan set rows i readings w w r
+        leaf_borrow k ek h t r x = record {
           tidy = t;
           sound = x.sound;
-          is = λ taken opened. x.is i taken opened ∙ rw (p, q) (sym ((borrow_leaf k ek a b c d e).1 readings (state_at set w taken opened)));
+          is = λ taken opened. x.is i taken opened ∙ rw (p.0, p.1) (sym ((borrow_leaf k ek h).1 readings (state_at set w taken opened)));
         }

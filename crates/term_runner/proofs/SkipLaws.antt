@@ -5,12 +5,16 @@ use native.Mathlib.Omega.{arith}
 use native.Mathlib.Decide.{ℕ_discrete}
 use mathlib.Core.Path.{◌≡◌, refl, ap, subst, ◌∙◌}
 use mathlib.Core.Bool.{Bool, true, false}
-use mathlib.Core.Logic.{⊎_elim}
+use mathlib.Core.Logic.{◌⊎◌, ⊎_elim}
 use mathlib.Core.Option.{none, some}
 use mathlib.Core.List.{List}
 use lib.ListN.{length}
 use borrow.Author.Tests.{eq-eqb, ne_eqb}
-use Rattle.syntax.specs.Kinds.{wraps_of}
+use Rattle.syntax.specs.Kinds.{wraps_of, byte_of}
+use Rattle.syntax.specs.Parts.{IsKind}
+use Rattle.syntax.specs.declared.kinds.Kind as code
+use Rattle.syntax.specs.declared.kinds.Kind.TheVariants as kind
+use Rattle.syntax.specs.KindNumbers.{number_in}
 use Rattle.syntax.specs.Limits.{Limits}
 use Rattle.syntax.specs.Script.{Term, Terms, box, declare, assign, block, last, more}
 use Rattle.syntax.specs.RowParts.{field_at}
@@ -22,6 +26,42 @@ use Rattle.syntax.proofs.ChoiceRows.{tree_some, choice_rows, tree_rows}
 use Rattle.term_runner.specs.Parts.{end_of}
 use Rattle.term_runner.specs.Skip.{inside_at, Passable, Passed}
 use Rattle.term_runner.proofs.RowLaws.{leaf_is, leaf_end}
+
+-- ---- the terms inside a term, by its kind
+
+module _ (rows : List ℕ) (i : ℕ) where
+  pub inside_unknown : (IsKind (field_at rows i 0) → ⊥) → 0 ≡ inside_at rows i
+  unfolding inside_at wraps_of byte_of
+  inside_unknown n = rw (ne_eqb (field_at rows i 0) 7 (λ e. n (omega arith)), ne_eqb (field_at rows i 0) 8 (λ e. n (omega arith)), ne_eqb (field_at rows i 0) 9 (λ e. n (omega arith)), ne_eqb (field_at rows i 0) 11 (λ e. n (omega arith)), ne_eqb (field_at rows i 0) 12 (λ e. n (omega arith)))
+
+  module _ (k : code.Kind) (ek : number_in k ≡ field_at rows i 0) where
+    pub inside_one : (k ≡ kind.Box) ⊎ ((k ≡ kind.Let) ⊎ (k ≡ kind.Assign)) → 1 ≡ inside_at rows i
+    unfolding inside_at wraps_of byte_of
+    inside_one h = rw (← ek) (⊎_elim (λ e. rw e) (⊎_elim (λ e. rw e) (λ e. rw e)) h)
+
+    pub inside_block : k ≡ kind.Block → field_at rows i 1 ≡ inside_at rows i
+    unfolding inside_at wraps_of byte_of
+    inside_block e = rw (← ek, e)
+
+    pub inside_choice : k ≡ kind.Choice → 2 ≡ inside_at rows i
+    unfolding inside_at wraps_of byte_of
+    inside_choice e = rw (← ek, e)
+
+  pub inside_none : (k : code.Kind) → number_in k ≡ field_at rows i 0 → (k ≡ kind.Box → ⊥) → (k ≡ kind.Let → ⊥) → (k ≡ kind.Assign → ⊥) → (k ≡ kind.Block → ⊥) → (k ≡ kind.Choice → ⊥) → 0 ≡ inside_at rows i
+  unfolding inside_at wraps_of byte_of
+  inside_none kind.Number e a b c d f = rw (← e)
+  inside_none kind.Reading e a b c d f = rw (← e)
+  inside_none kind.Copy e a b c d f = rw (← e)
+  inside_none kind.Move e a b c d f = rw (← e)
+  inside_none kind.Shared e a b c d f = rw (← e)
+  inside_none kind.Exclusive e a b c d f = rw (← e)
+  inside_none kind.Box e a b c d f = absurd (a refl)
+  inside_none kind.Let e a b c d f = absurd (b refl)
+  inside_none kind.Assign e a b c d f = absurd (c refl)
+  inside_none kind.Below e a b c d f = rw (← e)
+  inside_none kind.Block e a b c d f = absurd (d refl)
+  inside_none kind.Choice e a b c d f = absurd (f refl)
+  inside_none kind.Sum e a b c d f = rw (← e)
 
 -- ---- the row after what stands around something
 

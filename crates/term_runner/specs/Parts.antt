@@ -1,6 +1,10 @@
 -- What the parts of the machine's code answer: each the run rule it is for, on the store that the lent numbers stand for. No rule of the
--- language is stated here. `set` is the set of limits (LANGUAGE 2.8). A fault number 0 is no fault.
-use Rattle.std.specs.Prelude.{ℕ, zero, suc, ◌+◌, ◌-◌, ◌*◌, ◌≤◌, ◌<◌, ◌≡◌, true, List, [], eqb, ℤ, length, get_or, set as replaced}
+-- language is stated here. `set` is the set of limits (LANGUAGE 2.8).
+use Rattle.std.specs.Prelude.{ℕ, zero, suc, ◌+◌, ◌-◌, ◌*◌, ◌≤◌, ◌<◌, ◌≡◌, true, List, [], ℤ, length, get_or, set as replaced, Ok, Err, IfOk}
+use Rattle.std.specs.Prelude as prelude
+use Rattle.syntax.specs.Refusals.{number_of}
+use Rattle.syntax.specs.declared.refusals.Reason.{Reason}
+use Rattle.syntax.specs.declared.refusals.Refusal.{Refusal}
 use Rattle.std.proofs.Math.Option.{none, some}
 use Rattle.syntax.specs.Kinds.{wraps_of}
 use Rattle.syntax.specs.Result.{Result, ok, err, pick, ◌>>=◌}
@@ -10,30 +14,31 @@ use Rattle.syntax.specs.Measures.{boxes_in, boxes_all}
 use Rattle.syntax.specs.RowParts.{field_at}
 use Rattle.syntax.specs.RowTrees.{RowTree, IsTree, IsRest, several_at, terms_at, tree_at}
 use Rattle.dynamics.specs.Values.{empty, open_with}
-use Rattle.dynamics.specs.Store.{Store, put, is_open, State, Ran, fault}
+use Rattle.dynamics.specs.Store.{Store, put, is_open, State, Ran}
 use Rattle.dynamics.specs.Drop.{InOrder, drop_value}
 use Rattle.dynamics.specs.Run.{Outcome, run_box, run_let, run_assign, run_block_end, run, runs}
 use Rattle.dynamics.specs.Encode.{location_of}
 use Rattle.dynamics.specs.Readings.{bits_of}
-use Rattle.store.specs.Words.{value_of, store_of, Sound, Tidy}
-use Rattle.store.specs.declared.locate.Gave.{Gave}
+use Rattle.store.specs.declared.store.Value.{Value}
+use Rattle.store.specs.declared.store.Value.TheVariants.{Empty}
+use Rattle.store.specs.Words.{as_value, store_of, Sound, Tidy}
 use Rattle.term_runner.specs.declared.around.Standing.{Standing}
-use Rattle.store.specs.StoreParts.{state_at, place_of, since, Listed}
+use Rattle.store.specs.StoreParts.{state_at, place_of, told_at, since, Listed}
 use Rattle.term_runner.specs.LeafParts.{ran_on, LeafRan}
 
 -- ---- dropping and closing
 
-pub record Wrote (set : Limits) (w : List ℕ) (row k p : ℕ) (w' : List ℕ) : Type 0 where
+pub record Wrote (set : Limits) (w : List ℕ) (row : ℕ) (v : Value) (w' : List ℕ) : Type 0 where
   pub tidy : Tidy set w'
-  pub is : store_of set w' ≡ pick (is_open (store_of set w (location_of set.variables row))) (put (store_of set w) (location_of set.variables row) (open_with (value_of set k p))) (store_of set w)
+  pub is : store_of set w' ≡ pick (is_open (store_of set w (location_of set.variables row))) (put (store_of set w) (location_of set.variables row) (open_with (as_value set v))) (store_of set w)
 
--- Likewise: the state that an assign leaves, or its fault n.
-unfoldable pub assigned : Limits → List ℕ → ℕ → List ℕ → ℕ → ℕ → Ran Outcome
-assigned set w taken opened i n = pick (eqb n 0) (ok (state_at set w taken opened, empty)) (fault n i (state_at set w taken opened))
+-- What an answer of the code says: the state that an assign leaves.
+abbrev pub assigned : Limits → List ℕ → ℕ → List ℕ → ℕ → prelude.Result (Unit {0}) Reason → Ran Outcome
+assigned set w taken opened i r = told_at (state_at set w taken opened) i (λ u. (state_at set w taken opened, empty)) r
 
-pub record PlaceAssigned (set : Limits) (w : List ℕ) (root follows k p : ℕ) (w' : List ℕ) (n : ℕ) : Type 0 where
+pub record PlaceAssigned (set : Limits) (w : List ℕ) (root follows : ℕ) (v : Value) (w' : List ℕ) (r : prelude.Result (Unit {0}) Reason) : Type 0 where
   pub tidy : Tidy set w'
-  pub is : (i taken : ℕ) (opened : List ℕ) → InOrder (state_at set w taken opened) → assigned set w' taken opened i n ≡ run_assign (state_at set w taken opened) i (place_of root follows) (value_of set k p)
+  pub is : (i taken : ℕ) (opened : List ℕ) → InOrder (state_at set w taken opened) → assigned set w' taken opened i r ≡ run_assign (state_at set w taken opened) i (place_of root follows) (as_value set v)
 
 -- ---- where a run stands
 
@@ -56,86 +61,85 @@ at_row j (ok o) = ok (o, j)
 at_row j (err e) = err e
 
 abbrev pub outcome : Limits → List ℕ → List ℕ → ℕ → Standing → Outcome
-outcome set w opened begin r = (state_at set w r.taken (since opened begin (r.opened - begin)), value_of set r.kind r.payload)
+outcome set w opened begin r = (state_at set w r.taken (since opened begin (r.opened - begin)), as_value set r.value)
 
--- What is known where a run stands: the outcome and the next row, or the fault.
-unfoldable pub stood : Limits → List ℕ → List ℕ → ℕ → Standing → Stood
-stood set w opened begin r =
-    pick (eqb r.fault 0) (ok (outcome set w opened begin r, r.next)) (err (record { number = r.fault; term = r.term; store = store_of set w }))
+-- What the code answers of where a run stands, or of a fault with its term.
+abbrev pub Stands : Type 0
+Stands = prelude.Result Standing Refusal
+
+-- What is known of it: the outcome and the next row, or the fault.
+abbrev pub stood : Limits → List ℕ → List ℕ → ℕ → Stands → Stood
+stood set w opened begin (Ok r) = ok (outcome set w opened begin r, r.next)
+stood set w opened begin (Err e) = err (record { number = number_of e.reason; term = e.place; store = store_of set w })
 
 -- What follows an inner term: the row after it stays.
 unfoldable pub sequel : Stood → (Outcome → Ran Outcome) → Stood
 sequel (ok o) rule = at_row o.1 (seen (rule o.0))
 sequel (err e) rule = err e
 
--- The same with no value, and with the fault n of term i.
-unfoldable pub without_value : Standing → ℕ → ℕ → Standing
-without_value r n i = record { fault = n; term = i; kind = 0; payload = 0; taken = r.taken; opened = r.opened; next = r.next }
-
--- Before the first term of a block, which stands in the next row.
-unfoldable pub entered_at : ℕ → ℕ → ℕ → Standing
-entered_at block n taken = record { fault = 0; term = block; kind = 0; payload = 0; taken = taken; opened = n; next = block + 1 }
+-- Before the first term of a block, which stands in row `next`: no value yet.
+abbrev pub entered_at : ℕ → ℕ → ℕ → Standing
+entered_at next n taken = record { value = Empty; taken = taken; opened = n; next = next }
 
 -- What holds after an inner term that meets no fault.
 pub record Fine (set : Limits) (w : List ℕ) (r : Standing) : Type 0 where
-  pub sound : Sound set r.kind r.payload
+  pub sound : Sound set r.value
   pub ordered : InOrder (state_at set w r.taken [])
 
 -- What a rule after an inner term asks.
 pub record InnerReady (set : Limits) (w : List ℕ) (inner : Standing) : Type 0 where
   pub tidy : Tidy set w
-  pub fine : inner.fault ≡ 0 → Fine set w inner
+  pub fine : Fine set w inner
 
 -- What a rule after an inner term passes on.
 pub record Went (set : Limits) (inner r : Standing) : Type 0 where
-  pub fine : inner.fault ≡ 0
-  pub sound : Sound set r.kind r.payload
+  pub sound : Sound set r.value
   pub next : r.next ≡ inner.next
 
 pub record BoxReady (set : Limits) (w : List ℕ) (inner : Standing) : Type 0 where
   pub ready : InnerReady set w inner
-  pub few : inner.fault ≡ 0 → inner.taken < set.boxes
+  pub few : inner.taken < set.boxes
 
-pub record Boxed (set : Limits) (w : List ℕ) (inner : Standing) (w' : List ℕ) (r : Standing) : Type 0 where
+pub record Boxed (set : Limits) (w : List ℕ) (inner : Standing) (w' : List ℕ) (r : Stands) : Type 0 where
   pub tidy : Tidy set w'
-  pub is : (opened : List ℕ) (begin : ℕ) → stood set w' opened begin r ≡ sequel (stood set w opened begin inner) (λ o. run_box o.0 o.1)
-  pub went : r.fault ≡ 0 → Went set inner r
-  pub count : r.fault ≡ 0 → r.opened ≡ inner.opened
+  pub is : (opened : List ℕ) (begin : ℕ) → stood set w' opened begin r ≡ sequel (stood set w opened begin (Ok inner)) (λ o. run_box o.0 o.1)
+  pub went : IfOk r (λ s. Went set inner s)
+  pub count : IfOk r (λ s. s.opened ≡ inner.opened)
 
 pub record LetReady (set : Limits) (w opened : List ℕ) (x : ℕ) (inner : Standing) : Type 0 where
   pub ready : InnerReady set w inner
   pub variable : x < set.variables
-  pub few : inner.fault ≡ 0 → inner.opened < length opened
+  pub few : inner.opened < length opened
 
 -- The variable x, opened last.
 pub record Pushed (opened : List ℕ) (x : ℕ) (inner : Standing) (opened' : List ℕ) (r : Standing) : Type 0 where
   pub count : r.opened ≡ suc inner.opened
   pub is : opened' ≡ replaced opened inner.opened x
 
-pub record Declared (set : Limits) (w opened : List ℕ) (i x : ℕ) (inner : Standing) (w' opened' : List ℕ) (r : Standing) : Type 0 where
+pub record Declared (set : Limits) (w opened : List ℕ) (i x : ℕ) (inner : Standing) (w' opened' : List ℕ) (r : Stands) : Type 0 where
   pub tidy : Tidy set w'
-  pub is : (begin : ℕ) → (inner.fault ≡ 0 → begin ≤ inner.opened) → stood set w' opened' begin r ≡ sequel (stood set w opened begin inner) (λ o. run_let o.0 i x o.1)
-  pub went : r.fault ≡ 0 → Went set inner r
-  pub pushed : r.fault ≡ 0 → Pushed opened x inner opened' r
+  pub is : (begin : ℕ) → begin ≤ inner.opened → stood set w' opened' begin r ≡ sequel (stood set w opened begin (Ok inner)) (λ o. run_let o.0 i x o.1)
+  pub went : IfOk r (λ s. Went set inner s)
+  pub pushed : IfOk r (λ s. Pushed opened x inner opened' s)
 
-pub record Assigned (set : Limits) (w : List ℕ) (i root follows : ℕ) (inner : Standing) (w' : List ℕ) (r : Standing) : Type 0 where
+pub record Assigned (set : Limits) (w : List ℕ) (i root follows : ℕ) (inner : Standing) (w' : List ℕ) (r : Stands) : Type 0 where
   pub tidy : Tidy set w'
-  pub is : (opened : List ℕ) (begin : ℕ) → stood set w' opened begin r ≡ sequel (stood set w opened begin inner) (λ o. run_assign o.0 i (place_of root follows) o.1)
-  pub went : r.fault ≡ 0 → Went set inner r
-  pub count : r.fault ≡ 0 → r.opened ≡ inner.opened
+  pub is : (opened : List ℕ) (begin : ℕ) → stood set w' opened begin r ≡ sequel (stood set w opened begin (Ok inner)) (λ o. run_assign o.0 i (place_of root follows) o.1)
+  pub went : IfOk r (λ s. Went set inner s)
+  pub count : IfOk r (λ s. s.opened ≡ inner.opened)
 
 pub record EndReady (set : Limits) (w opened : List ℕ) (begin : ℕ) (inner : Standing) : Type 0 where
   pub ready : InnerReady set w inner
-  pub listed : inner.fault ≡ 0 → Listed set opened inner.opened
-  pub begun : inner.fault ≡ 0 → begin ≤ inner.opened
-  pub few : inner.fault ≡ 0 → inner.opened ≤ length opened
+  pub listed : Listed set opened inner.opened
+  pub begun : begin ≤ inner.opened
+  pub few : inner.opened ≤ length opened
 
 -- `around` is where the block around this one began.
-pub record BlockClosed (set : Limits) (w opened : List ℕ) (i begin : ℕ) (inner : Standing) (w' : List ℕ) (r : Standing) : Type 0 where
+pub record BlockClosed (set : Limits) (w opened : List ℕ) (i begin : ℕ) (inner : Standing) (w' : List ℕ) (r : Stands) : Type 0 where
   pub tidy : Tidy set w'
-  pub is : (around : ℕ) → stood set w' opened around r ≡ sequel (stood set w opened begin inner) (λ o. run_block_end i (since opened around (begin - around)) o)
-  pub went : r.fault ≡ 0 → Went set inner r
-  pub count : r.fault ≡ 0 → r.opened ≡ begin
+  pub is : (around : ℕ) → stood set w' opened around r ≡ sequel (stood set w opened begin (Ok inner)) (λ o. run_block_end i (since opened around (begin - around)) o)
+  pub went : IfOk r (λ s. Went set inner s)
+  pub count : IfOk r (λ s. s.opened ≡ begin)
 
 -- What follows the inner term of a term around one, which is at row i, by its kind.
 pub record AfterReady (set : Limits) (rows : List ℕ) (i : ℕ) (w opened : List ℕ) (inner : Standing) : Type 0 where
@@ -145,18 +149,23 @@ pub record AfterReady (set : Limits) (rows : List ℕ) (i : ℕ) (w opened : Lis
   pub bind : field_at rows i 0 ≡ 8 → LetReady set w opened (field_at rows i 1) inner
   pub assign : field_at rows i 0 ≡ 9 → InnerReady set w inner × (field_at rows i 1 < set.variables)
 
-pub record AfterRan (set : Limits) (rows : List ℕ) (i : ℕ) (w opened : List ℕ) (inner : Standing) (w' opened' : List ℕ) (r : Standing) : Type 0 where
+pub record AfterRan (set : Limits) (rows : List ℕ) (i : ℕ) (w opened : List ℕ) (inner : Standing) (w' opened' : List ℕ) (r : Stands) : Type 0 where
   pub box : field_at rows i 0 ≡ 7 → Boxed set w inner w' r × (opened' ≡ opened)
   pub bind : field_at rows i 0 ≡ 8 → Declared set w opened i (field_at rows i 1) inner w' opened' r
   pub assign : field_at rows i 0 ≡ 9 → Assigned set w i (field_at rows i 1) (field_at rows i 2) inner w' r × (opened' ≡ opened)
 
 -- ---- terms and blocks
 
+-- A value, or a fault, of term i, which is one row.
+abbrev pub plain_stands : ℕ → ℕ → ℕ → prelude.Result Value Reason → Stands
+plain_stands i n taken (Ok v) = Ok (record { value = v; taken = taken; opened = n; next = i + 1 })
+plain_stands i n taken (Err e) = Err (record { reason = e; place = i })
+
 -- A term without an inner term, after n variables opened and so many cells taken.
-pub record PlainRan (set : Limits) (rows : List ℕ) (i : ℕ) (readings : List ℤ) (w : List ℕ) (n taken : ℕ) (w' : List ℕ) (r : Standing) : Type 0 where
-  pub gives : Gave
+pub record PlainRan (set : Limits) (rows : List ℕ) (i : ℕ) (readings : List ℤ) (w : List ℕ) (n taken : ℕ) (w' : List ℕ) (r : Stands) : Type 0 where
+  pub gives : prelude.Result Value Reason
   pub ran : LeafRan set rows i readings w w' gives
-  pub is : r ≡ record { fault = gives.fault; term = i; kind = gives.kind; payload = gives.payload; taken = taken; opened = n; next = i + 1 }
+  pub is : r ≡ plain_stands i n taken gives
 
 -- The variables opened, n before and m after rows i to j: those before stay, and each row opened one at most.
 pub record Opened (set : Limits) (before after : List ℕ) (n m i j : ℕ) : Type 0 where
@@ -204,11 +213,11 @@ pub record TermReady (set : Limits) (rows : List ℕ) (i levels : ℕ) (readings
   pub is : IsTree (tree_at set.variables levels rows i)
   pub cells : taken + boxes_at (tree_at set.variables levels rows i) ≤ set.boxes
 
-pub record TermRan (set : Limits) (rows : List ℕ) (i levels : ℕ) (readings : List ℤ) (w opened : List ℕ) (n taken : ℕ) (w' opened' : List ℕ) (r : Standing) : Type 0 where
+pub record TermRan (set : Limits) (rows : List ℕ) (i levels : ℕ) (readings : List ℤ) (w opened : List ℕ) (n taken : ℕ) (w' opened' : List ℕ) (r : Stands) : Type 0 where
   pub tidy : Tidy set w'
   pub is : (begin : ℕ) → begin ≤ n → stood set w' opened' begin r ≡ run_at readings (tree_at set.variables levels rows i) (state_at set w taken (since opened begin (n - begin)))
-  pub sound : r.fault ≡ 0 → Sound set r.kind r.payload
-  pub opens : r.fault ≡ 0 → Opened set opened opened' n r.opened i r.next
+  pub sound : IfOk r (λ s. Sound set s.value)
+  pub opens : IfOk r (λ s. Opened set opened opened' n s.opened i s.next)
 
 -- Likewise of block i's terms.
 abbrev pub runs_at : List ℤ → ℕ → RowTree Terms → State → Stood
@@ -226,8 +235,8 @@ pub record BlockReady (set : Limits) (rows : List ℕ) (i levels : ℕ) (reading
   pub is : IsRest (tree_at set.variables levels rows) (field_at rows i 1) (i + 1)
   pub cells : taken + boxes_rest (tree_at set.variables levels rows) (field_at rows i 1) (i + 1) ≤ set.boxes
 
-pub record BlockRan (set : Limits) (rows : List ℕ) (i levels : ℕ) (readings : List ℤ) (w opened : List ℕ) (n taken : ℕ) (w' opened' : List ℕ) (r : Standing) : Type 0 where
+pub record BlockRan (set : Limits) (rows : List ℕ) (i levels : ℕ) (readings : List ℤ) (w opened : List ℕ) (n taken : ℕ) (w' opened' : List ℕ) (r : Stands) : Type 0 where
   pub tidy : Tidy set w'
   pub is : stood set w' opened' n r ≡ rest_run readings (tree_at set.variables levels rows) i (field_at rows i 1) (i + 1) (state_at set w taken [], empty)
-  pub sound : r.fault ≡ 0 → Sound set r.kind r.payload
-  pub opens : r.fault ≡ 0 → Opened set opened opened' n r.opened (i + 1) r.next
+  pub sound : IfOk r (λ s. Sound set s.value)
+  pub opens : IfOk r (λ s. Opened set opened opened' n s.opened (i + 1) s.next)

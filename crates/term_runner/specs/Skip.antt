@@ -32,13 +32,13 @@ pub record Chosen (rows : List ℕ) (i n j : ℕ) : Type 0 where
 
 -- The same standing, before another row.
 abbrev pub onwards : Standing → ℕ → Standing
-onwards r j = record { fault = r.fault; term = r.term; kind = r.kind; payload = r.payload; taken = r.taken; opened = r.opened; next = j }
+onwards r j = record { value = r.value; taken = r.taken; opened = r.opened; next = j }
 
--- What is asked and answered after that block ran: the second block is passed over if the first one ran, unless it met a fault.
+-- What is asked and answered after that block ran: the second block is passed over if the first one ran.
 abbrev pub PastReady : List ℕ → ℕ → Standing → Type 0
-PastReady rows n ran = (n ≡ 0 → ⊥) → ran.fault ≡ 0 → Passable rows ran.next
+PastReady rows n ran = (n ≡ 0 → ⊥) → Passable rows ran.next
 
 pub record Past (rows : List ℕ) (n : ℕ) (ran r : Standing) : Type 0 where
   pub is : r ≡ onwards ran r.next
-  pub first : (n ≡ 0 → ⊥) → ran.fault ≡ 0 → Passed rows ran.next r.next
+  pub first : (n ≡ 0 → ⊥) → Passed rows ran.next r.next
   pub second : n ≡ 0 → r.next ≡ ran.next

@@ -1,36 +1,27 @@
 // The terms without an inner term: one function for each run rule (LANGUAGE 4.9 to 4.12, 4.16).
-ghost use Rattle.std.specs.Prelude.{◌≡◌, ◌<◌, length};
-ghost use Rattle.syntax.specs.Limits.{unpacked};
+ghost use Rattle.std.specs.Prelude.{◌≡◌, ◌+◌, ◌*◌, ◌≤◌, ◌<◌, length};
+ghost use Rattle.syntax.specs.KindNumbers.{number_in};
+ghost use Rattle.syntax.specs.RowParts.{field_at};
 ghost use Rattle.dynamics.specs.Readings.{bits_of};
 ghost use Rattle.store.specs.Words.{Tidy};
 ghost use Rattle.term_runner.specs.LeafParts.{Copied, Moved, Borrowed, Numbered, Paired, pair_of, LeafReady, LeafRan};
 
 use signed::signed::{bits_of, raised, sum_bits};
-use store::locate::{Gave, locate, read_row};
-use store::numbers;
-use store::store::put_row;
-use syntax::fields::{field_at, index_of};
-use syntax::kinds;
+use store::locate::{Place, locate, read_row};
+use store::store::{Row, Value, put_row};
+use syntax::fields::{field_at, index_at};
+use syntax::kinds::Kind;
+use syntax::limits::Limits;
+use syntax::refusals::Reason;
 
-// A fault (LANGUAGE 4.5), and no value.
-fn failed(fault: u32) -> Gave
-    ensures { (result.fault ≡ fault) × (result.kind ≡ 0) × (result.payload ≡ 0) }
+// The place in fields k and k + 1 of row i (LANGUAGE 2.9).
+pub fn place_at(rows: &[u32], i: usize, k: usize) -> Place
+    requires { (5 * i + 5 ≤ length rows.now) × (k < 4) }
+    ensures { (result.root ≡ field_at rows.now i k) × (result.follows ≡ field_at rows.now i (k + 1)) }
 {
-    Gave {
-        fault: fault,
-        kind: numbers::EMPTY,
-        payload: 0,
-    }
-}
-
-// A number for a value (LANGUAGE 4.3), and no fault.
-fn numbered(bits: u32) -> Gave
-    ensures { (result.fault ≡ 0) × (result.kind ≡ 1) × (result.payload ≡ bits) }
-{
-    Gave {
-        fault: numbers::NO_FAULT,
-        kind: numbers::NUMBER,
-        payload: bits,
+    Place {
+        root: index_at(rows, i, k),
+        follows: index_at(rows, i, k + 1),
     }
 }
 
@@ -44,123 +35,102 @@ fn reading_bits(readings: &[i32], n: usize) -> u32
 }
 
 // Copy (LANGUAGE 4.10): locate, read; the row stays.
-fn run_copy(sizes: usize, store: &[u32], root: usize, follows: usize) -> Gave
-    requires { Tidy (unpacked sizes) store.now × (root < (unpacked sizes).variables) }
-    ensures { Copied (unpacked sizes) store.now root follows result }
+fn run_copy(limits: &Limits, store: &[u32], place: Place) -> Result<Value, Reason>
+    requires { Tidy limits.now store.now × (place.root < limits.now.variables) }
+    ensures { Copied limits.now store.now place.root place.follows result }
 {
-    let found = locate(sizes, store, root, follows);
-    if found.fault != numbers::NO_FAULT {
-        return failed(found.fault);
-    }
-    read_row(sizes, store, found.row)
+    let row = locate(limits, store, place)?;
+    read_row(limits, store, row)
 }
 
 // Move (LANGUAGE 4.11): locate, read; the row becomes empty.
-fn run_move(sizes: usize, store: &mut [u32], root: usize, follows: usize) -> Gave
-    requires { Tidy (unpacked sizes) store.old × (root < (unpacked sizes).variables) }
-    ensures { Moved (unpacked sizes) store.old root follows store.new result }
+fn run_move(limits: &Limits, store: &mut [u32], place: Place) -> Result<Value, Reason>
+    requires { Tidy limits.now store.old × (place.root < limits.now.variables) }
+    ensures { Moved limits.now store.old place.root place.follows store.new result }
 {
-    let found = locate(sizes, store, root, follows);
-    if found.fault != numbers::NO_FAULT {
-        return failed(found.fault);
-    }
-    let held = read_row(sizes, store, found.row);
-    if held.fault != numbers::NO_FAULT {
-        return held;
-    }
-    put_row(sizes, store, found.row, numbers::OPEN, numbers::EMPTY, 0);
-    held
+    let row = locate(limits, store, place)?;
+    let value = read_row(limits, store, row)?;
+    put_row(limits, store, row, Row::Open(Value::Empty));
+    Ok(value)
 }
 
 // Borrow, of either kind (LANGUAGE 4.12): a reference to the located row.
-fn run_borrow(sizes: usize, store: &[u32], root: usize, follows: usize) -> Gave
-    requires { Tidy (unpacked sizes) store.now × (root < (unpacked sizes).variables) }
-    ensures { Borrowed (unpacked sizes) store.now root follows result }
+fn run_borrow(limits: &Limits, store: &[u32], place: Place) -> Result<Value, Reason>
+    requires { Tidy limits.now store.now × (place.root < limits.now.variables) }
+    ensures { Borrowed limits.now store.now place.root place.follows result }
 {
-    let found = locate(sizes, store, root, follows);
-    if found.fault != numbers::NO_FAULT {
-        return failed(found.fault);
-    }
-    Gave {
-        fault: numbers::NO_FAULT,
-        kind: numbers::REFERENCE,
-        payload: found.row as u32,
-    }
+    let row = locate(limits, store, place)?;
+    Ok(Value::Reference(row as u32))
 }
 
 // A place of a below, a sum or a choice (LANGUAGE 4.16, 4.23): locate, read; a number must be there (61).
-pub fn run_number(sizes: usize, store: &[u32], root: usize, follows: usize) -> Gave
-    requires { Tidy (unpacked sizes) store.now × (root < (unpacked sizes).variables) }
-    ensures { Numbered (unpacked sizes) store.now root follows result }
+pub fn run_number(limits: &Limits, store: &[u32], place: Place) -> Result<u32, Reason>
+    requires { Tidy limits.now store.now × (place.root < limits.now.variables) }
+    ensures { Numbered limits.now store.now place.root place.follows result }
 {
-    let held = run_copy(sizes, store, root, follows);
-    if held.fault != numbers::NO_FAULT {
-        return held;
+    match run_copy(limits, store, place)? {
+        Value::Number(bits) => Ok(bits),
+        _ => Err(Reason::WrongKind),
     }
-    if held.kind != numbers::NUMBER {
-        return failed(numbers::WRONG_KIND);
-    }
-    held
 }
 
 // What the kinds with two places make of the numbers at them (LANGUAGE 4.16): their sum held to the range; or 1 if the
 // first is less, otherwise 0.
-fn paired(kind: u32, a: u32, b: u32) -> u32
-    ensures { result ≡ pair_of kind a b }
+fn paired(kind: Kind, a: u32, b: u32) -> u32
+    ensures { result ≡ pair_of (number_in kind) a b }
 {
-    if kind == kinds::SUM {
-        return sum_bits(a, b);
+    match kind {
+        Kind::Sum => sum_bits(a, b),
+        _ => (raised(a) < raised(b)) as u32,
     }
-    if raised(a) < raised(b) {
-        return 1;
-    }
-    0
 }
 
 // A term with two places (LANGUAGE 4.16): the number at the first, then that at the second, and what its kind makes of
 // both.
 fn run_pair(
-    sizes: usize,
+    limits: &Limits,
     store: &[u32],
-    kind: u32,
-    root: usize,
-    follows: usize,
-    other: usize,
-    others: usize,
-) -> Gave
-    requires { Tidy (unpacked sizes) store.now × (root < (unpacked sizes).variables) × (other < (unpacked sizes).variables) }
-    ensures { Paired (unpacked sizes) (pair_of kind) store.now root follows other others result }
+    kind: Kind,
+    place: Place,
+    other: Place,
+) -> Result<Value, Reason>
+    requires { Tidy limits.now store.now × (place.root < limits.now.variables) × (other.root < limits.now.variables) }
+    ensures { Paired limits.now (pair_of (number_in kind)) store.now place.root place.follows other.root other.follows result }
 {
-    let first = run_number(sizes, store, root, follows);
-    if first.fault != numbers::NO_FAULT {
-        return first;
-    }
-    let second = run_number(sizes, store, other, others);
-    if second.fault != numbers::NO_FAULT {
-        return second;
-    }
-    numbered(paired(kind, first.payload, second.payload))
+    let first = run_number(limits, store, place)?;
+    let second = run_number(limits, store, other)?;
+    Ok(Value::Number(paired(kind, first, second)))
 }
 
 // The term at row i, if it has no inner term, by the rule of its kind (LANGUAGE 4.9 to 4.12, 4.16).
-pub fn run_leaf(sizes: usize, rows: &[u32], i: usize, readings: &[i32], store: &mut [u32]) -> Gave
-    requires { LeafReady (unpacked sizes) rows.now i readings.now store.old }
-    ensures { LeafRan (unpacked sizes) rows.now i readings.now store.old store.new result }
+pub fn run_leaf(
+    limits: &Limits,
+    rows: &[u32],
+    i: usize,
+    readings: &[i32],
+    store: &mut [u32],
+) -> Result<Value, Reason>
+    requires { LeafReady limits.now rows.now i readings.now store.old }
+    ensures { LeafRan limits.now rows.now i readings.now store.old store.new result }
 {
-    let kind = field_at(rows, i, 0);
-    let first = field_at(rows, i, 1);
-    let root = index_of(first);
-    let follows = index_of(field_at(rows, i, 2));
+    let Ok(kind) = Kind::try_from(field_at(rows, i, 0)) else {
+        unreachable!();
+    };
     match kind {
-        kinds::NUMBER => numbered(first),
-        kinds::READING => numbered(reading_bits(readings, root)),
-        kinds::COPY => run_copy(sizes, store, root, follows),
-        kinds::MOVE => run_move(sizes, store, root, follows),
-        kinds::BELOW | kinds::SUM => {
-            let other = index_of(field_at(rows, i, 3));
-            let others = index_of(field_at(rows, i, 4));
-            run_pair(sizes, store, kind, root, follows, other, others)
+        Kind::Number => Ok(Value::Number(field_at(rows, i, 1))),
+        Kind::Reading => Ok(Value::Number(reading_bits(readings, index_at(rows, i, 1)))),
+        Kind::Copy => run_copy(limits, store, place_at(rows, i, 1)),
+        Kind::Move => run_move(limits, store, place_at(rows, i, 1)),
+        Kind::Shared | Kind::Exclusive => run_borrow(limits, store, place_at(rows, i, 1)),
+        Kind::Below | Kind::Sum => {
+            run_pair(
+                limits,
+                store,
+                kind,
+                place_at(rows, i, 1),
+                place_at(rows, i, 3),
+            )
         }
-        _ => run_borrow(sizes, store, root, follows),
+        Kind::Box | Kind::Let | Kind::Assign | Kind::Block | Kind::Choice => unreachable!(),
     }
 }

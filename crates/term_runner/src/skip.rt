@@ -3,30 +3,27 @@ ghost use Rattle.std.specs.Prelude.{◌+◌, ◌*◌, ◌≤◌, ◌≡◌, leng
 ghost use Rattle.term_runner.specs.Skip.{inside_at, Passable, Passed, Chosen, PastReady, Past};
 
 use crate::around::Standing;
-use store::numbers;
 use syntax::fields::{field_at, index_at};
-use syntax::kinds;
-use syntax::kinds::wraps;
+use syntax::kinds::Kind;
 
 // How many terms stand inside the term at row i, those inside them not counted (LANGUAGE 2.3).
 fn inside(rows: &[u32], i: usize) -> usize
     requires { 5 * i + 5 ≤ length rows.now }
     ensures { result ≡ inside_at rows.now i }
 {
-    let kind = field_at(rows, i, 0);
-    if wraps(kind) {
-        return 1;
+    let Ok(kind) = Kind::try_from(field_at(rows, i, 0)) else {
+        return 0;
+    };
+    match kind {
+        Kind::Box | Kind::Let | Kind::Assign => 1,
+        Kind::Block => index_at(rows, i, 1),
+        Kind::Choice => 2,
+        _ => 0,
     }
-    if kind == kinds::BLOCK {
-        return index_at(rows, i, 1);
-    }
-    if kind == kinds::CHOICE {
-        return 2;
-    }
-    0
 }
 
-// The row after the term at row i. A row is looked at once: a term passed leaves those inside it to be passed.
+// The row after the term at row i. A row is looked at once: a term passed leaves those inside it to be passed. How many
+// rows there are is not known before, so the loop counts the terms that are left.
 fn after_term(rows: &[u32], i: usize) -> usize
     requires { Passable rows.now i }
     ensures { Passed rows.now i result }
@@ -54,7 +51,7 @@ pub fn chosen(rows: &[u32], i: usize, number: u32) -> usize
     after_term(rows, first)
 }
 
-// After the block that ran: where it was the first one, the second is passed over. A fault leaves no row to go on with.
+// After the block that ran: where it was the first one, the second is passed over.
 pub fn past_choice(rows: &[u32], number: u32, ran: Standing) -> Standing
     requires { PastReady rows.now number ran }
     ensures { Past rows.now number ran result }
@@ -62,17 +59,6 @@ pub fn past_choice(rows: &[u32], number: u32, ran: Standing) -> Standing
     if number == 0 {
         return ran;
     }
-    if ran.fault != numbers::NO_FAULT {
-        return ran;
-    }
     let end = after_term(rows, ran.next);
-    Standing {
-        fault: ran.fault,
-        term: ran.term,
-        kind: ran.kind,
-        payload: ran.payload,
-        taken: ran.taken,
-        opened: ran.opened,
-        next: end,
-    }
+    Standing { next: end, ..ran }
 }

@@ -1,23 +1,17 @@
 -- `term_runner::around::run_box` meets its contract. Assumes nothing.
-use Rattle.term_runner.proofs.AroundLaws.{box_stops, box_goes}
-use Rattle.store.proofs.WordLaws.{open_row}
+use Rattle.syntax.proofs.Ranges.{ranged}
+use Rattle.term_runner.proofs.AroundLaws.{box_goes}
 use native.Mathlib.Omega.{arith}
 use Rattle.term_runner.proofs.around.run_box.Goals as goal
 
-pub returns-then-inner-ne-NO_FAULT : goal.returns-then-inner-ne-NO_FAULT
-returns-then-inner-ne-NO_FAULT c = box_stops _ _ _ c.if-inner-ne-NO_FAULT.true c.requires.ready.tidy
-
-pub overflow_add-sizes : goal.overflow_add-sizes
-overflow_add-sizes c = omega (arith, c.requires.few c.if-inner-ne-NO_FAULT.false)
-
-pub put_row-requires : goal.put_row-requires
-put_row-requires c = (c.requires.ready.tidy, omega (arith, c.requires.few c.if-inner-ne-NO_FAULT.false), open_row _ _ _ (c.requires.ready.fine c.if-inner-ne-NO_FAULT.false).sound)
+pub overflow_add-row : goal.overflow_add-row
+overflow_add-row c = let r = ranged _ c.requires.ready.tidy.ranges in omega (arith, r)
 
 pub overflow_cast-result : goal.overflow_cast-result
-overflow_cast-result c = record { fits = omega (arith, c.requires.few c.if-inner-ne-NO_FAULT.false) }
+overflow_cast-result c = let r = ranged _ c.requires.ready.tidy.ranges in record { fits = omega (arith, r) }
 
 pub overflow_add-result : goal.overflow_add-result
-overflow_add-result c = omega (arith, c.requires.few c.if-inner-ne-NO_FAULT.false)
+overflow_add-result c = let r = ranged _ c.requires.ready.tidy.ranges in omega (arith, r)
 
 pub returns : goal.returns
-returns c = box_goes _ _ _ c.if-inner-ne-NO_FAULT.false (c.requires.few c.if-inner-ne-NO_FAULT.false) _ c.put_row.ensures
+returns c = box_goes _ _ _ c.requires.few _ c.put_row.ensures

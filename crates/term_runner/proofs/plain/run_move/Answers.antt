@@ -1,19 +1,15 @@
 -- `term_runner::plain::run_move` meets its contract. Assumes nothing.
+use Rattle.store.proofs.Again.{again}
 use Rattle.term_runner.proofs.LeafLaws.{move_stops, move_held, move_goes}
-use Rattle.store.proofs.WordLaws.{open_row, empty_sound}
 use Rattle.term_runner.proofs.plain.run_move.Goals as goal
 
-pub returns-then-found-ne-NO_FAULT : goal.returns-then-found-ne-NO_FAULT
-returns-then-found-ne-NO_FAULT c = move_stops _ _ _ _ _ c.locate-found.ensures c.if-found-ne-NO_FAULT.true _ (record { is = c.failed.ensures.0; none = c.failed.ensures.1; zero = c.failed.ensures.2 }) c.requires.0
+pub returns-in_err-row : goal.returns-in_err-row
+returns-in_err-row c = rw (again c.in_err-row.field-0.0 c.from_residual.result c.from_residual.ensures) (move_stops _ _ _ _ _ c.in_err-row.ensures c.requires.0)
 
-pub read_row-held-requires : goal.read_row-held-requires
-read_row-held-requires c = (c.requires.0, c.locate-found.ensures.inside)
-
-pub returns-then-held-ne-NO_FAULT : goal.returns-then-held-ne-NO_FAULT
-returns-then-held-ne-NO_FAULT c = move_held _ _ _ _ _ c.locate-found.ensures c.if-found-ne-NO_FAULT.false _ c.read_row-held.ensures c.if-held-ne-NO_FAULT.true c.requires.0
-
-pub put_row-requires : goal.put_row-requires
-put_row-requires c = (c.requires.0, c.locate-found.ensures.inside, open_row _ 0 0 (empty_sound _))
+pub returns-in_err-value : goal.returns-in_err-value
+returns-in_err-value c =
+    rw (again c.in_err-value.field-0.0 c.from_residual-in_err-value.result c.from_residual-in_err-value.ensures)
+    (move_held _ _ _ _ _ c.in_ok-row.ensures _ c.in_err-value.ensures c.requires.0)
 
 pub returns : goal.returns
-returns c = move_goes _ _ _ _ _ c.locate-found.ensures c.if-found-ne-NO_FAULT.false _ c.read_row-held.ensures c.if-held-ne-NO_FAULT.false _ c.put_row.ensures
+returns c = move_goes _ _ _ _ _ c.in_ok-row.ensures _ c.in_ok-value.ensures _ c.put_row.ensures

@@ -1,12 +1,13 @@
 -- `term_runner::plain::run_number` meets its contract. Assumes nothing.
-use Rattle.term_runner.proofs.LeafLaws.{number_stops, number_wrong, number_goes}
+use Rattle.store.proofs.Again.{again}
+use Rattle.term_runner.proofs.LeafLaws.{number_stops, number_goes, number_wrong}
 use Rattle.term_runner.proofs.plain.run_number.Goals as goal
 
-pub returns-then-held-ne-NO_FAULT : goal.returns-then-held-ne-NO_FAULT
-returns-then-held-ne-NO_FAULT c = number_stops _ _ _ _ _ c.run_copy-held.ensures c.if-held-ne-NO_FAULT.true
+pub returns-in_err-bits : goal.returns-in_err-bits
+returns-in_err-bits c = rw (again c.in_err-bits.field-0.0 c.from_residual.result c.from_residual.ensures) (number_stops _ _ _ _ _ c.in_err-bits.ensures)
 
-pub returns-then-held-ne-NUMBER : goal.returns-then-held-ne-NUMBER
-returns-then-held-ne-NUMBER c = number_wrong _ _ _ _ _ c.run_copy-held.ensures c.if-held-ne-NO_FAULT.false c.if-held-ne-NUMBER.true _ (record { is = c.failed.ensures.0; none = c.failed.ensures.1; zero = c.failed.ensures.2 })
+pub returns-in-Number : goal.returns-in-Number
+returns-in-Number c = number_goes _ _ _ _ _ _ c.in-Number.is c.in_ok-bits.ensures
 
-pub returns : goal.returns
-returns c = number_goes _ _ _ _ _ c.run_copy-held.ensures c.if-held-ne-NO_FAULT.false c.if-held-ne-NUMBER.false
+pub returns-in_default : goal.returns-in_default
+returns-in_default c = number_wrong _ _ _ _ _ c.in_default.not-Number c.in_ok-bits.ensures

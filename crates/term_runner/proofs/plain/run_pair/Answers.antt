@@ -1,12 +1,15 @@
 -- `term_runner::plain::run_pair` meets its contract. Assumes nothing.
+use Rattle.store.proofs.Again.{again}
 use Rattle.term_runner.proofs.LeafLaws.{pair_stops, pair_second, pair_goes}
 use Rattle.term_runner.proofs.plain.run_pair.Goals as goal
 
-pub returns-then-first-ne-NO_FAULT : goal.returns-then-first-ne-NO_FAULT
-returns-then-first-ne-NO_FAULT c = pair_stops _ _ _ _ _ _ _ _ c.run_number-first.ensures c.if-first-ne-NO_FAULT.true
+pub returns-in_err-first : goal.returns-in_err-first
+returns-in_err-first c = rw (again c.in_err-first.field-0.0 c.from_residual.result c.from_residual.ensures) (pair_stops _ _ _ _ _ _ _ _ c.in_err-first.ensures)
 
-pub returns-then-second-ne-NO_FAULT : goal.returns-then-second-ne-NO_FAULT
-returns-then-second-ne-NO_FAULT c = pair_second _ _ _ _ _ _ _ _ c.run_number-first.ensures c.if-first-ne-NO_FAULT.false _ c.run_number-second.ensures c.if-second-ne-NO_FAULT.true
+pub returns-in_err-second : goal.returns-in_err-second
+returns-in_err-second c =
+    rw (again c.in_err-second.field-0.0 c.from_residual-in_err-second.result c.from_residual-in_err-second.ensures)
+    (pair_second _ _ _ _ _ _ _ _ c.in_ok-first.ensures _ c.in_err-second.ensures)
 
 pub returns : goal.returns
-returns c = pair_goes _ _ _ _ _ _ _ _ c.run_number-first.ensures c.if-first-ne-NO_FAULT.false _ c.run_number-second.ensures c.if-second-ne-NO_FAULT.false _ c.paired.ensures _ (record { fine = c.numbered.ensures.0; kind = c.numbered.ensures.1; is = c.numbered.ensures.2 })
+returns c = pair_goes _ _ _ _ _ _ _ _ c.in_ok-first.ensures _ c.in_ok-second.ensures _ c.paired.ensures

@@ -1,31 +1,22 @@
 -- `term_runner::skip::inside` meets its contract. Assumes nothing.
-use Rattle.term_runner.specs.Skip.{inside_at}
-use borrow.Author.Tests.{eq-eqb, ne_eqb}
+use mathlib.Core.Path.{sym, subst, ◌∙◌}
+use Rattle.syntax.specs.Parts.{IsKind}
+use Rattle.term_runner.proofs.SkipLaws.{inside_unknown, inside_one, inside_block, inside_choice, inside_none}
 use Rattle.term_runner.proofs.skip.inside.Goals as goal
 
-pub returns-then-wraps : goal.returns-then-wraps
-unfolding inside_at
-returns-then-wraps c =
-    let at-wraps = c.before in
-    rw (← at-wraps.before.field_at-kind.ensures, ← at-wraps.wraps.ensures, c.if-wraps.true)
+pub returns-in_default : goal.returns-in_default
+returns-in_default c = inside_unknown _ _ (λ h. c.in_default.ensures (subst IsKind (sym c.field_at.ensures) h))
 
-pub returns-then-kind-eq-BLOCK : goal.returns-then-kind-eq-BLOCK
-unfolding inside_at
-returns-then-kind-eq-BLOCK c =
-    let at-if1 = c.before.before in
-    let at-wraps = at-if1.before in
-    rw (← at-wraps.before.field_at-kind.ensures, ← at-wraps.wraps.ensures, at-if1.if-wraps.false, eq-eqb _ _ c.before.if-kind-eq-BLOCK.true) c.index_at.ensures
+pub returns-in-Box : goal.returns-in-Box
+returns-in-Box c = inside_one _ _ _ (c.in-Ok.ensures ∙ c.field_at.ensures) c.in-Box.is
 
-pub returns-then-kind-eq-CHOICE : goal.returns-then-kind-eq-CHOICE
-unfolding inside_at
-returns-then-kind-eq-CHOICE c =
-    let at-if1 = c.before.before in
-    let at-wraps = at-if1.before in
-    rw (← at-wraps.before.field_at-kind.ensures, ← at-wraps.wraps.ensures, at-if1.if-wraps.false, ne_eqb _ _ c.before.if-kind-eq-BLOCK.false, eq-eqb _ _ c.if-kind-eq-CHOICE.true)
+pub returns-in-Block : goal.returns-in-Block
+returns-in-Block c = c.index_at.ensures ∙ inside_block _ _ _ (c.in-Ok.ensures ∙ c.field_at.ensures) c.in-Block.is
 
-pub returns : goal.returns
-unfolding inside_at
-returns c =
-    let at-if1 = c.before.before in
-    let at-wraps = at-if1.before in
-    rw (← at-wraps.before.field_at-kind.ensures, ← at-wraps.wraps.ensures, at-if1.if-wraps.false, ne_eqb _ _ c.before.if-kind-eq-BLOCK.false, ne_eqb _ _ c.if-kind-eq-CHOICE.false)
+pub returns-in-Choice : goal.returns-in-Choice
+returns-in-Choice c = inside_choice _ _ _ (c.in-Ok.ensures ∙ c.field_at.ensures) c.in-Choice.is
+
+pub returns-in_default-kind : goal.returns-in_default-kind
+returns-in_default-kind c =
+    let d = c.in_default-kind in
+    inside_none _ _ _ (c.in-Ok.ensures ∙ c.field_at.ensures) d.not-Box d.not-Let d.not-Assign d.not-Block d.not-Choice
