@@ -1,7 +1,5 @@
 -- `script_reader::script::read_script` meets its contract. All that the proof knows of the three callees is that each meets its contract; what
 -- their answers are together is in `WholeLaws`. Assumes nothing.
-use Prim.Native.Nat.{◌≤◌}
-use native.Mathlib.Omega.{arith}
 use mathlib.Core.Path.{sym, ap, ◌∙◌}
 use Rattle.std.proofs.lemmas.Result.{err_from_is_err_and}
 use Rattle.syntax.proofs.Lists.{under_bytes}
