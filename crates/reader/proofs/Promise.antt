@@ -19,8 +19,7 @@ use Rattle.syntax.specs.Refusals.{told}
 use Rattle.syntax.specs.declared.refusals.Refusal as code
 use Rattle.reader.specs.Outcomes.{told_read}
 use Rattle.syntax.specs.Answers.{Told, Answered, lengths_fit, on_fit, parsed_into, read_of, rows_tree, judged_of}
-use Rattle.reader.specs.declared.ReadOutcome.{ReadOutcome}
-use Rattle.reader.specs.declared.ReadOutcome.TheVariants.{Script}
+use Rattle.script_reader.specs.declared.script.Script.{Script}
 use Rattle.syntax.proofs.Answers.{then, needed}
 use Rattle.syntax.proofs.SetFirst.{set_taken}
 use Rattle.syntax.proofs.RoundTrip.{parsed, decodes, rows_length}
@@ -67,8 +66,8 @@ module _ (l : Limits) (k : ℕ) (script : List ℕ) (u : Under 256 script) (rows
   of_bytes r (ok s) w q = of_tree r s w q
   of_bytes r (err e) w q = refused_none e (zeros (row_numbers l)) q
 
-  pub read_judged : (rows : List ℕ) (o : ReadOutcome) → (told_read o, rows₁) ≡ read_of l k script rows → o ≡ Script v n → judged_of l rows₁ ≡ ok n
-  unfolding told_read read_of on_fit
+  pub read_judged : (rows : List ℕ) (o : std.Result Script code.Refusal) → (told_read o, rows₁) ≡ read_of l k script rows → o ≡ std.Ok (record { version = v; terms = n }) → judged_of l rows₁ ≡ ok n
+  unfolding read_of on_fit
   read_judged rows o h q = fit (lengths_fit l script rows) refl (rw q at h)
     where
       fit : (f : Result Refusal (Unit {0})) → lengths_fit l script rows ≡ f → ◌≡◌ {A = Answered Told} (ok (v, n), rows₁) (on_fit f rows (parsed_into l (parse l k script))) → judged_of l rows₁ ≡ ok n

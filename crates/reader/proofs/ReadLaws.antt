@@ -6,7 +6,8 @@ use mathlib.Core.Bool.{Bool, true, false}
 use mathlib.Core.List.{List, [], ◌++◌}
 use lib.ListN.{length, take, drop}
 use lib.Seq.{sets, sets-eq, take_at, length-sets}
-use borrow.Author.Tests.{le-leb, lt-leb, eq-eqb, ne_eqb}
+use borrow.Author.Tests.{le-leb, lt-leb, eq-eqb, ne_eqb, leb-true, eqb-true}
+use lib.Dec.{leb, eqb}
 use Rattle.syntax.specs.Result.{Result, ok, err, need, Refusal, ◌>>=◌}
 use Rattle.syntax.specs.Limits.{Limits, in_ranges, max_bytes, row_numbers}
 use Rattle.syntax.specs.Script.{Whole}
@@ -16,11 +17,9 @@ use Rattle.syntax.specs.Reader.{Cursor, Reads, ◌>>=◌ as ◌>>>◌, done, nex
 use Rattle.syntax.specs.Measures.{size}
 use Rattle.syntax.specs.Within.{Under}
 use Rattle.syntax.specs.ByteParts.{Got, RowsAfter, read_script, whole_got, laid_whole, ScriptRead}
-use Rattle.syntax.specs.Answers.{Told, lengths_fit, parsed_into, on_fit, read_of}
-use Rattle.reader.specs.Outcomes.{told_read}
-use Rattle.reader.specs.declared.ReadOutcome.TheVariants.{Script, Refused}
+use Rattle.syntax.specs.Answers.{Told, Answered, lengths_fit, parsed_into, on_fit, read_of}
 use Rattle.syntax.specs.ByteParts as got
-use Rattle.syntax.proofs.SetFirst.{set_refused}
+use Rattle.syntax.proofs.SetFirst.{set_refused as set_refused_law}
 use Rattle.script_reader.proofs.ScriptLaws.{parse_is, parse_refused}
 use Rattle.syntax.proofs.Lengths.{laid_rows}
 use Rattle.script_reader.proofs.WholeLaws.{script_size}
@@ -51,26 +50,47 @@ whole_refused (err e) n p h =
     let b : p ≡ e.1 = cc in
     rw (a, b) refl
 
+module _ (l : Limits) (t rows : List ℕ) where
+  -- What is refused of the set and the lengths.
+  pub fit_set : in_ranges l ≡ false → err (74, 0) ≡ lengths_fit l t rows
+  fit_set r = sym (set_refused_law l t rows r)
+
+  pub fit_long : in_ranges l ≡ true → 32768 < length t → err (1, 0) ≡ lengths_fit l t rows
+  unfolding lengths_fit need ◌>>=◌ max_bytes
+  fit_long r h = rw (r, lt-leb (length t) 32768 h) refl
+
+  pub fit_rows : in_ranges l ≡ true → length t ≤ 32768 → (length rows ≡ row_numbers l → ⊥) → err (2, 0) ≡ lengths_fit l t rows
+  unfolding lengths_fit need ◌>>=◌ max_bytes
+  fit_rows r h n = rw (r, le-leb (length t) 32768 h, ne_eqb (length rows) (row_numbers l) n) refl
+
+  pub fit_all : in_ranges l ≡ true → length t ≤ 32768 → length rows ≡ row_numbers l → ok tt ≡ lengths_fit l t rows
+  unfolding lengths_fit need ◌>>=◌ max_bytes
+  fit_all r h n = rw (r, le-leb (length t) 32768 h, eq-eqb (length rows) (row_numbers l) n) refl
+
+  -- What it says that they fit.
+  pub fit_says : ok tt ≡ lengths_fit l t rows → (in_ranges l ≡ true) × (length t ≤ 32768) × (length rows ≡ row_numbers l)
+  unfolding lengths_fit need ◌>>=◌ max_bytes
+  fit_says = go (in_ranges l) (leb (length t) 32768) (eqb (length rows) (row_numbers l)) refl refl refl
+    where
+      go : (x y z : Bool) → in_ranges l ≡ x → leb (length t) 32768 ≡ y → eqb (length rows) (row_numbers l) ≡ z
+          → ◌≡◌ {A = Result Refusal (Unit {0})} (ok tt) (need x (74, 0) >>= λ _. need y (1, 0) >>= λ _. need z (2, 0)) → (in_ranges l ≡ true) × (length t ≤ 32768) × (length rows ≡ row_numbers l)
+      go true true true a b c h = (a, leb-true _ _ b, eqb-true _ _ c)
+      go true true false a b c h = let z : ◌≡◌ {A = ℕ} 0 1 = cc in absurd (omega arith)
+      go true false z a b c h = let z : ◌≡◌ {A = ℕ} 0 1 = cc in absurd (omega arith)
+      go false y z a b c h = let z : ◌≡◌ {A = ℕ} 0 1 = cc in absurd (omega arith)
+
 module _ (l : Limits) (k : ℕ) (t rows : List ℕ) where
-  pub read_set : in_ranges l ≡ false → (told_read (Refused 74 0), rows) ≡ read_of l k t rows
-  unfolding told_read read_of on_fit
-  read_set r = rw (set_refused l t rows r)
-
-  pub read_long : in_ranges l ≡ true → 32768 < length t → (told_read (Refused 1 0), rows) ≡ read_of l k t rows
-  unfolding told_read read_of lengths_fit need ◌>>=◌ on_fit max_bytes
-  read_long r h = rw (r, lt-leb (length t) 32768 h)
-
-  pub read_rows : in_ranges l ≡ true → length t ≤ 32768 → (length rows ≡ row_numbers l → ⊥) → (told_read (Refused 2 0), rows) ≡ read_of l k t rows
-  unfolding told_read read_of lengths_fit need ◌>>=◌ on_fit max_bytes
-  read_rows r h n = rw (r, le-leb (length t) 32768 h, ne_eqb (length rows) (row_numbers l) n)
+  pub read_unfit : (e : Refusal) → err e ≡ lengths_fit l t rows → ◌≡◌ {A = Answered Told} (err e, rows) (read_of l k t rows)
+  unfolding read_of on_fit
+  read_unfit e h = rw (sym h) refl
 
   module _ (ranges : in_ranges l ≡ true) (h : length t ≤ 32768) (n : length rows ≡ row_numbers l) (rows₁ : List ℕ) (r : Got) (q : ScriptRead l k t rows rows₁ r) where
     fits : lengths_fit l t rows ≡ ok tt
     unfolding lengths_fit need ◌>>=◌ max_bytes
     fits = rw (ranges, le-leb (length t) 32768 h, eq-eqb (length rows) (row_numbers l) n)
 
-    pub read_refused : (m p : ℕ) → r ≡ got.Refused m p → length rows₁ ≡ row_numbers l → (rows₂ : List ℕ) → rows₂ ≡ take 0 rows₁ ++ zeros (length rows₁ - 0) → (told_read (Refused m p), rows₂) ≡ read_of l k t rows
-    unfolding told_read read_of on_fit parsed_into
+    pub read_refused : (m p : ℕ) → r ≡ got.Refused m p → length rows₁ ≡ row_numbers l → (rows₂ : List ℕ) → rows₂ ≡ take 0 rows₁ ++ zeros (length rows₁ - 0) → ◌≡◌ {A = Answered Told} (err (m, p), rows₂) (read_of l k t rows)
+    unfolding read_of on_fit parsed_into
     read_refused m p e full rows₂ z =
         let o = whole_refused (read_script l k t) m p (sym e ∙ q.0) in
         let w : length rows₁ - 0 ≡ row_numbers l = omega arith in
@@ -83,8 +103,8 @@ module _ (l : Limits) (k : ℕ) (t rows : List ℕ) where
         let s = script_size l k t u w.0 w.1 w.2 in
         omega (arith, s.0, s.1, w.3)
 
-    pub read_fine : Under 256 t → (a b c : ℕ) → r ≡ got.Fine a b c → (rows₂ : List ℕ) → rows₂ ≡ take (b * 5) rows₁ ++ zeros (length rows₁ - b * 5) → (told_read (Script c b), rows₂) ≡ read_of l k t rows
-    unfolding told_read read_of on_fit parsed_into rows_of row_numbers RowsAfter
+    pub read_fine : Under 256 t → (a b c : ℕ) → r ≡ got.Fine a b c → (rows₂ : List ℕ) → rows₂ ≡ take (b * 5) rows₁ ++ zeros (length rows₁ - b * 5) → ◌≡◌ {A = Answered Told} (ok (c, b), rows₂) (read_of l k t rows)
+    unfolding read_of on_fit parsed_into rows_of row_numbers RowsAfter
     read_fine u a b c e rows₂ z =
         let w = whole_fine (read_script l k t) a b c (sym e ∙ q.0) in
         let x = w.0.term in

@@ -1,10 +1,11 @@
--- The answers of the code, case by case, as results (LANGUAGE 5.2).
-use Rattle.syntax.specs.Result.{Result, ok, err, Refusal}
-use Rattle.reader.specs.declared.ReadOutcome.{ReadOutcome}
-use Rattle.reader.specs.declared.ReadOutcome.TheVariants as read
+-- The answer of reading as a result (LANGUAGE 5.2).
+use Rattle.std.specs.Prelude as prelude
+use Rattle.syntax.specs.Result.{Result, Refusal}
+use Rattle.syntax.specs.Refusals.{told}
+use Rattle.syntax.specs.declared.refusals.Refusal as answer
+use Rattle.script_reader.specs.declared.script.Script.{Script}
 use Rattle.syntax.specs.Answers.{Told}
 
--- These, or the refusal and its place (LANGUAGE 5.2), for each case of the code's answer.
-unfoldable pub told_read : ReadOutcome → Result Refusal Told
-told_read (read.Script v n) = ok (v, n)
-told_read (read.Refused n p) = err (n, p)
+-- Version and number of terms, or the refusal and its place (LANGUAGE 5.2), for each case of what reading answers.
+abbrev pub told_read : prelude.Result Script answer.Refusal → Result Refusal Told
+told_read r = told (λ (s : Script). (s.version, s.terms)) r

@@ -4,50 +4,52 @@
 
 ghost use Rattle.std.specs.Prelude.{◌≡◌, true, length};
 ghost use Rattle.reader.specs.Outcomes.{told_read};
-ghost use Rattle.syntax.specs.Answers.{read_of, judged_of, length_of, written_of};
+ghost use Rattle.syntax.specs.Answers.{lengths_fit, read_of, judged_of, length_of, written_of};
 ghost use Rattle.syntax.specs.Limits.{in_ranges, row_numbers};
 ghost use Rattle.syntax.specs.Refusals.{told};
 ghost use Rattle.syntax.specs.RowParts.{judged_in, given_terms};
 
 use row_judge::rows::{Progress, first_used, judge_block, no_block};
+pub use script_reader::script::Script;
 use script_reader::script::{clear_from, read_script};
 use syntax::limits::{Limits, in_ranges, row_numbers};
 use syntax::refusals::{Reason, Refusal};
-use syntax::{kinds, limits, packed};
+use syntax::{kinds, limits};
 use writer::output;
 
-// What reading tells: the version and the number of terms of a script, or the refusal's number and place
-// (LANGUAGE 5.2).
-#[derive(Clone, Copy)]
-pub enum ReadOutcome {
-    Script(u32, usize),
-    Refused(u32, usize),
+// The lengths of what is lent for a set: 74, 1 or 2 in this order (LANGUAGE 5.3, 5.8).
+fn judge_lengths(limits: &Limits, script: &[u8], rows: &[u32]) -> Result<(), Refusal>
+    ensures { told (λ u. tt) result ≡ lengths_fit limits.now script.now rows.now }
+{
+    let reason = if !in_ranges(*limits) {
+        Reason::SetOutside
+    } else if limits::BYTES < script.len() {
+        Reason::ScriptTooLong
+    } else if rows.len() != row_numbers(*limits) {
+        Reason::RowsLength
+    } else {
+        return Ok(());
+    };
+    Err(Refusal { reason, place: 0 })
 }
 
 // Read (LANGUAGE 6.2): a script into term rows, its version and the number of terms. `newest` is the newest version
 // that the caller knows. Every refusal but the caller's 74, 1 and 2 leaves all rows 0.
-pub fn read(set: Limits, newest: u32, script: &[u8], rows: &mut [u32]) -> ReadOutcome
+pub fn read(set: Limits, newest: u32, script: &[u8], rows: &mut [u32]) -> Result<Script, Refusal>
     ensures { (told_read result, rows.new) ≡ read_of set newest script.now rows.old }
 {
-    if !in_ranges(set) {
-        return ReadOutcome::Refused(limits::SET_OUTSIDE, 0);
+    judge_lengths(&set, script, rows)?;
+    let known = kinds::newest_known(newest);
+    match read_script(&set, known, script, rows) {
+        Ok(found) => {
+            clear_from(rows, found.terms * 5);
+            Ok(found)
+        }
+        Err(refusal) => {
+            clear_from(rows, 0);
+            Err(refusal)
+        }
     }
-    if limits::BYTES < script.len() {
-        return ReadOutcome::Refused(limits::SCRIPT_TOO_LONG, 0);
-    }
-    if rows.len() != row_numbers(set) {
-        return ReadOutcome::Refused(limits::ROWS_LENGTH, 0);
-    }
-    let sizes = limits::with_version(limits::packed(set), kinds::newest_known(newest));
-    let got = read_script(sizes, script, rows);
-    if packed::REFUSED <= got {
-        clear_from(rows, 0);
-        return ReadOutcome::Refused(packed::number_of(got), got % packed::PLACES);
-    }
-    let terms = got / packed::OFFSETS % packed::TERMS;
-    clear_from(rows, terms * 5);
-    let version = got / packed::OFFSETS / packed::TERMS;
-    ReadOutcome::Script(version as u32, terms)
 }
 
 // Rows of the right length (LANGUAGE 5.12, 5.13), with the kinds of a version: the number of terms, or 12 to 19.

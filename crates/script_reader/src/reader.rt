@@ -1,9 +1,10 @@
 // A reader of a script in its named form: the lent bytes and the next offset. Its methods are few and thin: each leaves its
 // work to a function on slice and number, and moves on past what that has read. After a refusal the reader stays.
-ghost use Rattle.std.specs.Prelude.{◌≡◌, ◌+◌, ◌≤◌, [], ◌∷◌, leb, length};
+ghost use Rattle.std.specs.Prelude.{◌≡◌, ℕ, ◌+◌, [], ◌∷◌, leb};
 ghost use Rattle.syntax.specs.Result.{ok};
 ghost use Rattle.syntax.specs.Refusals.{told};
-ghost use Rattle.script_reader.specs.Lent.{begun, Inside, RowsFor, marked, VersionRead, LeadRead, TermRead, OutermostRead, left_over, got_progress};
+ghost use Rattle.syntax.specs.ByteParts.{Fine};
+ghost use Rattle.script_reader.specs.Lent.{begun, advanced, Inside, RowsFor, marked, version_got, progress_got, terms_got, end_got, LeadRead, TermRead, OutermostRead, end_judged};
 
 use syntax::kinds::{NEWEST, knows_version};
 use syntax::limits;
@@ -55,7 +56,7 @@ fn judge_mark(script: &[u8], at: usize) -> Result<(), Refusal>
 // Any version that there is will do here.
 fn judge_lead(script: &[u8], at: usize) -> Result<u32, Refusal>
     requires { Inside script.now at }
-    ensures { VersionRead script.now at result }
+    ensures { LeadRead script.now at (version_got (at + 5) result) }
 {
     judge_mark(script, at)?;
     let after_mark = &script[at + 3..];
@@ -88,7 +89,7 @@ fn read_outermost_term(
     rows: &mut [u32],
 ) -> Result<Progress, Refusal>
     requires { Inside script.now at × RowsFor limits.now rows.old }
-    ensures { TermRead (leb version newest) limits.now version script.now at rows.old rows.new (got_progress result) }
+    ensures { TermRead (leb version newest) limits.now version script.now at rows.old rows.new (progress_got version result) }
 {
     if newest < version {
         return Err(Refusal {
@@ -111,7 +112,7 @@ fn read_outermost_term(
 
 // What is left after the outermost term (LANGUAGE 5.9): 19 at the first byte left.
 fn judge_end(script: &[u8], at: usize) -> Result<(), Refusal>
-    ensures { told (λ u. tt) result ≡ left_over script.now at }
+    ensures { (terms version : ℕ) → end_got (Fine at terms version) result ≡ end_judged (Fine at terms version) script.now at }
 {
     if at < script.len() {
         return Err(Refusal {
@@ -135,7 +136,8 @@ impl<'a> Reader<'a> {
     // Mark and version (LANGUAGE 2.1), from the next offset on: the version.
     pub fn read_lead(&mut self) -> Result<u32, Refusal>
         requires { Inside self.old.script.now self.old.at }
-        ensures { LeadRead self.old self.new result }
+        ensures read { LeadRead self.old.script.now self.old.at (version_got self.new.at result) }
+        ensures moved { self.new ≡ advanced self.old (version_got self.new.at result) }
     {
         let version = judge_lead(self.script, self.at)?;
         self.at += LEAD;
@@ -151,7 +153,8 @@ impl<'a> Reader<'a> {
         rows: &mut [u32],
     ) -> Result<usize, Refusal>
         requires { Inside self.old.script.now self.old.at × RowsFor limits.now rows.old }
-        ensures { OutermostRead limits.now newest version self.old self.new rows.old rows.new result }
+        ensures read { OutermostRead limits.now newest (Fine self.old.at 0 version) self.old.script.now self.old.at rows.old rows.new (terms_got version self.new.at result) }
+        ensures moved { self.new ≡ advanced self.old (terms_got version self.new.at result) }
     {
         let version = version as usize;
         let progress = read_outermost_term(limits, newest, version, self.script, self.at, rows)?;
@@ -161,7 +164,7 @@ impl<'a> Reader<'a> {
 
     // The end (LANGUAGE 2.1): no byte stands at the next offset, or 19.
     pub fn read_end(&self) -> Result<(), Refusal>
-        ensures { told (λ u. tt) result ≡ left_over self.now.script.now self.now.at }
+        ensures { (terms version : ℕ) → end_got (Fine self.now.at terms version) result ≡ end_judged (Fine self.now.at terms version) self.now.script.now self.now.at }
     {
         judge_end(self.script, self.at)
     }

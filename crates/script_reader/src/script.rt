@@ -25,7 +25,7 @@ pub fn read_script(
     rows: &mut [u32],
 ) -> Result<Script, Refusal>
     requires { (length script.now ≤ 32768) × RowsFor limits.now rows.old }
-    ensures { ScriptRead limits.now newest script.now rows.old rows.new (script_got script.now result) }
+    ensures { ScriptRead limits.now newest script.now rows.old rows.new (script_got (length script.now) result) }
 {
     let mut reader = Reader::new(script);
     let version = reader.read_lead()?;

@@ -4,7 +4,7 @@ use borrow.Rule.Slice.PartMut.{put_mid}
 use native.Mathlib.Omega.{arith}
 use mathlib.Core.Path.{◌≡◌, sym, ap, ap₂, ◌∙◌}
 use mathlib.Core.List.{List, ◌++◌, append-nil}
-use lib.ListN.{length, take, drop, replicate, length-drop, drop_of_length-le, take-append-drop}
+use lib.ListN.{length, take, replicate, length-drop, drop_of_length-le, take-append-drop}
 use Rattle.std.proofs.lemmas.Slice.{take-put_mid, drop-put_mid}
 use Rattle.syntax.specs.Layout.{zeros}
 use Rattle.syntax.proofs.Lists.{part_all}

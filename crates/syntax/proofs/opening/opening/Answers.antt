@@ -1,5 +1,4 @@
 -- `syntax::opening::opening` meets its contract. Assumes nothing.
-use native.Mathlib.Omega.{arith}
 use mathlib.Core.Path.{refl, sym, ◌∙◌}
 use borrow.Author.Tests.{eq-eqb, ne_eqb, le-leb, lt-leb}
 use Rattle.syntax.specs.ByteParts.{opening_number, on_number}
@@ -44,6 +43,6 @@ returns c =
     let known = rw (← c.in-Some-in_version.ensures.0) at c.in-Some-in_version.ensures.1 in
     rw (first_there c.args.tail.now _ c.in-Some.ensures.value, f, known, lt-leb _ _ c.if-limits-progress.false, ne_eqb c.args.levels 0 c.if-levels-eq0.false)
     (elim c.else-eq.branch [
-        else-eq-via-then-eq+else-limits-progress-2 w ↦ rw (sym (box_test _) ∙ sym w.if-eq.ensures, lt-leb _ _ w.if-limits-progress-2.false) refl
+      | else-eq-via-then-eq+else-limits-progress-2 w ↦ rw (sym (box_test _) ∙ sym w.if-eq.ensures, lt-leb _ _ w.if-limits-progress-2.false) refl
       | else-eq-via-else-eq w ↦ rw (sym (box_test _) ∙ sym w.if-eq.ensures) refl
     ])

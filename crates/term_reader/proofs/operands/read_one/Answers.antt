@@ -1,6 +1,5 @@
 -- `term_reader::operands::read_one` meets its contract. Assumes nothing.
-use mathlib.Core.Path.{refl, ap}
-use mathlib.Core.List.{[], ◌∷◌}
+use mathlib.Core.Path.{refl}
 use Rattle.std.proofs.lemmas.Result.{err_from_is_err_and}
 use Rattle.syntax.specs.Layout.{zeros}
 use Rattle.syntax.specs.ByteParts.{on_number, judged_fields, values_at}

@@ -4,7 +4,6 @@
 use Prim.Native.Nat.{◌+◌, ◌-◌, ◌<◌}
 use native.Mathlib.Omega.{arith}
 use mathlib.Core.Path.{◌≡◌, refl, sym, ap, ◌∙◌}
-use mathlib.Core.Bool.{false}
 use Rattle.std.proofs.lemmas.Result.{err_from_is_err_and}
 use Rattle.syntax.specs.Limits.{row_numbers}
 use Rattle.syntax.specs.ByteParts.{got_of, RowsAfter}
@@ -13,7 +12,7 @@ use Rattle.syntax.proofs.BlockLaws.{one_reading}
 use Rattle.term_reader.proofs.LoopLaws.{going_start, going_ready, going_refused, going_on, going_last, going_end}
 use Rattle.term_reader.proofs.BranchLoop.{first_refused, second_due}
 use Rattle.term_reader.proofs.DueBlockBytes.{byte_refused, byte_same}
-use Rattle.term_reader.proofs.TermLoop.{inner_start, opening_stops, clear, operand_stops, used_within, rest_near, leaf_stops, block_asks, block_stops, choice_asks, choice_stops, inner_on}
+use Rattle.term_reader.proofs.TermLoop.{opening_stops, clear, operand_stops, used_within, rest_near, leaf_stops, block_asks, block_stops, choice_asks, choice_stops, inner_on}
 use Rattle.syntax.specs.KindNumbers.{number_in}
 use Rattle.term_reader.proofs.KindGroups.{stands_around, stands_alone}
 use Rattle.term_reader.proofs.terms.+terms.Goals as goal
