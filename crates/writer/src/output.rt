@@ -1,7 +1,7 @@
 // The bytes of a script that is given as term rows (LANGUAGE 6.4). Bytes and rows list the terms in one order (2.9), so
 // each row gives its own bytes, straight after those of the row before it. The rows come judged: a kind that is none is
 // taken as one with a place, so that nothing here can refuse.
-ghost use Rattle.std.specs.Prelude.{◌≡◌, ◌∷◌, [], ℕ, ◌+◌, ◌*◌, ◌%◌, ◌≤◌, length};
+ghost use Rattle.std.specs.Prelude.{◌≡◌, ◌∷◌, [], ℕ, ◌+◌, ◌*◌, ◌%◌, ◌<◌, ◌≤◌, length, get_or};
 ghost use Rattle.std.proofs.lemmas.List.Edits.{sets};
 ghost use Rattle.writer.specs.OutputParts.{row_bytes, bytes_at, script_from};
 
@@ -34,11 +34,12 @@ pub fn script_bytes(rows: &[u32], terms: usize) -> usize
     bytes
 }
 
-// The lowest 8 bits of a number.
-fn low_byte(number: u32) -> u8
-    ensures { result ≡ number % 256 }
+// The lowest 8 bits of a field: the byte that it is written as.
+fn byte_at(rows: &[u32], field: usize) -> u8
+    requires { field < length rows.now }
+    ensures { result ≡ get_or rows.now field 0 % 256 }
 {
-    (number % 256) as u8
+    (rows[field] % 256) as u8
 }
 
 // The bytes, written from offset `at` on; the offset after them. The calls give arrays, so that their length is known once
@@ -59,25 +60,31 @@ fn put_row_bytes(rows: &[u32], i: usize, output: &mut [u8], at: usize) -> usize
     ensures { (result ≡ at + length (bytes_at rows.now i)) × (output.new ≡ sets output.old at (bytes_at rows.now i)) }
 {
     let row = i * 5;
-    let kind_byte = low_byte(rows[row]);
-    let first = low_byte(rows[row + 1]);
-    let second = low_byte(rows[row + 2]);
+    let kind_byte = byte_at(rows, row);
+    let with_place = [kind_byte, byte_at(rows, row + 1), byte_at(rows, row + 2)];
     let Ok(kind) = Kind::try_from(rows[row]) else {
-        return put(output, at, &[kind_byte, first, second]);
+        return put(output, at, &with_place);
     };
     match kind {
         Kind::Number => {
             let [a, b, c, d] = rows[row + 1].to_be_bytes();
             put(output, at, &[kind_byte, a, b, c, d])
         }
-        Kind::Reading | Kind::Let | Kind::Block => put(output, at, &[kind_byte, first]),
+        Kind::Reading | Kind::Let | Kind::Block => {
+            put(output, at, &[kind_byte, byte_at(rows, row + 1)])
+        }
         Kind::Box => put(output, at, &[kind_byte]),
         Kind::Below | Kind::Sum => {
-            let third = low_byte(rows[row + 3]);
-            let fourth = low_byte(rows[row + 4]);
-            put(output, at, &[kind_byte, first, second, third, fourth])
+            let [_, root, follows] = with_place;
+            let right_root = byte_at(rows, row + 3);
+            let right_follows = byte_at(rows, row + 4);
+            put(
+                output,
+                at,
+                &[kind_byte, root, follows, right_root, right_follows],
+            )
         }
-        _ => put(output, at, &[kind_byte, first, second]),
+        _ => put(output, at, &with_place),
     }
 }
 

@@ -35,7 +35,7 @@ returns-in_default c = rw (other_bytes _ _ _ _ _ c.in_default.ensures) (c.put.en
 
 pub returns-in-Number : goal.returns-in-Number
 unfolding bytes_at
-returns-in-Number c = rw (word_bytes _ _ _ _ _ _ c.in-Ok.ensures c.in-Number.is) (c.put-in-Number.ensures.0, rw (c.low_byte-kind_byte.ensures, c.to_be_bytes.ensures) at c.put-in-Number.ensures.1)
+returns-in-Number c = rw (word_bytes _ _ _ _ _ _ c.in-Ok.ensures c.in-Number.is) (c.put-in-Number.ensures.0, rw (c.byte_at-kind_byte.ensures, c.to_be_bytes.ensures) at c.put-in-Number.ensures.1)
 
 pub returns-in-Reading : goal.returns-in-Reading
 unfolding bytes_at
