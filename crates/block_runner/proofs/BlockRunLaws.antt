@@ -1,14 +1,16 @@
 -- The terms of a block in rows: a turn of its loop, and the block as a term.
 use Prim.Native.Nat.{ℕ, zero, suc, ◌+◌, ◌-◌, ◌≤◌, ◌<◌}
 use native.Mathlib.Omega.{arith}
-use native.Mathlib.Decide.{ℕ_discrete}
 use native.Mathlib.Numerals.{sub-one}
 use mathlib.Core.Path.{◌≡◌, refl, sym, ap, ◌∙◌}
 use mathlib.Core.Option.{none, some}
 use mathlib.Core.List.{List, []}
 use lib.IntN.{ℤ}
 use lib.ListN.{length}
+use Rattle.std.specs.Prelude.{Result, Ok, Err}
 use Rattle.syntax.specs.Limits.{Limits}
+use Rattle.syntax.specs.declared.refusals.Reason.{Reason}
+use Rattle.syntax.specs.declared.refusals.Refusal.{Refusal}
 use Rattle.syntax.specs.Result.{ok, err, ◌>>=◌}
 use Rattle.syntax.specs.Script.{Term, Terms, block, last, more}
 use Rattle.syntax.specs.Measures.{boxes_in, boxes_all}
@@ -20,17 +22,16 @@ use Rattle.dynamics.specs.Store.{State, Ran}
 use Rattle.dynamics.specs.Drop.{InOrder, drop_value}
 use Rattle.dynamics.specs.Run.{Outcome, run_block_end, run, runs}
 use Rattle.dynamics.specs.Readings.{bits_of}
-use Rattle.store.specs.Words.{value_of, Sound}
+use Rattle.store.specs.Words.{as_value, Sound}
 use Rattle.store.specs.StoreParts.{state_at, left, Dropped, since}
 use Rattle.term_runner.specs.LeafParts.{ran_on, run_on}
-use Rattle.term_runner.specs.Parts.{Stop, seen, Stood, at_row, outcome, stood, sequel, without_value, entered_at, EndReady, BlockClosed, Opened, end_of, boxes_by, boxes_at, boxes_rest, stood_on, run_at, Ready, TermReady, TermRan, runs_at, rest_run, BlockReady, BlockRan}
+use Rattle.term_runner.specs.Parts.{Stop, seen, Stood, at_row, outcome, Stands, stood, sequel, entered_at, EndReady, BlockClosed, Opened, end_of, boxes_by, boxes_at, boxes_rest, stood_on, run_at, Ready, TermReady, TermRan, runs_at, rest_run, BlockReady, BlockRan}
 use Rattle.term_runner.specs.declared.around.Standing.{Standing}
 use Rattle.dynamics.proofs.DropLaws.{drop_empty}
 use Rattle.dynamics.proofs.Kept.{keeps_ok}
 use Rattle.dynamics.proofs.RunOrder.{runs_ordered}
-use Rattle.store.proofs.WordLaws.{empty_sound, empty_is}
-use Rattle.store.proofs.CellLaws.{left_stops, left_goes, drop_ordered}
-use Rattle.term_runner.proofs.AroundLaws.{stood_stops, stood_goes, since_kept}
+use Rattle.store.proofs.CellLaws.{drop_ordered}
+use Rattle.term_runner.proofs.AroundLaws.{since_kept}
 use Rattle.block_runner.proofs.TermLaws.{around_run, around_cells, went_well, same_ran, term_fine, term_taken, term_room, next_ready}
 
 -- ---- what is left of a block, in rows
@@ -137,84 +138,64 @@ module _ (set : Limits) where
 
   -- Where the loop stands: `left` terms after the term whose outcome `last` tells.
   pub record Going (rows : List ℕ) (block levels : ℕ) (readings : List ℤ) (w₀ opened₀ : List ℕ) (n taken : ℕ) (w opened : List ℕ) (left : ℕ) (last : Standing) : Type 0 where
-    pub fine : last.fault ≡ 0
     pub same : length opened ≡ length opened₀
     pub ready : Ready set rows last.next readings w opened last.opened last.taken
-    pub sound : Sound set last.kind last.payload
+    pub sound : Sound set last.value
     pub opens : Opened set opened₀ opened n last.opened (block + 1) last.next
     pub rest : IsRest (tree_at set.variables levels rows) left last.next
     pub cells : last.taken + boxes_rest (tree_at set.variables levels rows) left last.next ≤ set.boxes
     pub is : rest_run readings (tree_at set.variables levels rows) block left last.next (outcome set w opened n last) ≡ rest_run readings (tree_at set.variables levels rows) block (field_at rows block 1) (block + 1) (state_at set w₀ taken [], empty)
 
   module _ (rows : List ℕ) (block levels : ℕ) (readings : List ℤ) (w₀ opened₀ : List ℕ) (n taken : ℕ) where
-    abbrev first : Standing
-    first = record { fault = 0; term = block; kind = 0; payload = 0; taken = taken; opened = n; next = block + 1 }
-
-    first_outcome : ◌≡◌ {A = Outcome} (outcome set w₀ opened₀ n first) (state_at set w₀ taken [], empty)
+    first_outcome : ◌≡◌ {A = Outcome} (outcome set w₀ opened₀ n (entered_at (block + 1) n taken)) (state_at set w₀ taken [], empty)
     unfolding since
-    first_outcome = let z : n - n ≡ 0 = omega arith in rw (z, (empty_is set))
+    first_outcome = let z : n - n ≡ 0 = omega arith in rw z
 
-    going_starts : BlockReady set rows block levels readings w₀ opened₀ n taken
-        → Going rows block levels readings w₀ opened₀ n taken w₀ opened₀ (field_at rows block 1) (record { fault = 0; term = block; kind = 0; payload = 0; taken = taken; opened = n; next = block + 1 })
-    going_starts g = record {
-      fine = refl;
+    pub going_starts : (l : ℕ) → l ≡ field_at rows block 1 → BlockReady set rows block levels readings w₀ opened₀ n taken → Going rows block levels readings w₀ opened₀ n taken w₀ opened₀ l (entered_at (block + 1) n taken)
+    going_starts l el g = rw el (record {
       same = refl;
       ready = g.ready;
-      sound = (empty_sound set);
+      sound = tt;
       opens = record { kept = λ k h. refl; more = omega arith; few = omega arith; listed = g.ready.listed; room = let z = g.room in omega arith };
       rest = g.is;
       cells = g.cells;
       is = ap (rest_run readings (tree_at set.variables levels rows) block (field_at rows block 1) (block + 1)) first_outcome;
-    }
+    })
 
     module _ (w opened : List ℕ) (left₁ : ℕ) (last : Standing) (g : Going rows block levels readings w₀ opened₀ n taken w opened left₁ last) where
-      pub going_ends : left₁ ≤ 0 → BlockRan set rows block levels readings w₀ opened₀ n taken w opened last
+      pub going_ends : left₁ ≤ 0 → BlockRan set rows block levels readings w₀ opened₀ n taken w opened (Ok last)
       unfolding rest_run
       going_ends h = record {
         tidy = g.ready.tidy;
         is =
-            stood_goes set w opened n last g.fine
-            ∙ ap (λ (m : ℕ). rest_run readings (tree_at set.variables levels rows) block m last.next (outcome set w opened n last)) (let z : 0 ≡ left₁ = omega arith in z)
+            ap (λ (m : ℕ). rest_run readings (tree_at set.variables levels rows) block m last.next (outcome set w opened n last)) (let z : 0 ≡ left₁ = omega arith in z)
             ∙ g.is;
-        sound = λ z. g.sound;
-        opens = λ z. g.opens;
+        sound = g.sound;
+        opens = g.opens;
       }
 
-      module _ (any : 0 < left₁) (w₁ : List ℕ) (m : ℕ) (d : Dropped set w last.kind last.payload w₁ m) where
-        drop_is : left set w₁ last.taken (since opened n (last.opened - n)) block m ≡ drop_value block (state_at set w last.taken (since opened n (last.opened - n))) (value_of set last.kind last.payload)
-        drop_is = d.is block last.taken (since opened n (last.opened - n)) g.ready.ordered
-
-        turn : (seen (left set w₁ last.taken (since opened n (last.opened - n)) block m) >>= λ s. runs_at readings block (several_at (tree_at set.variables levels rows) (left₁ - 1) last.next) s)
+      module _ (any : 0 < left₁) (w₁ : List ℕ) where
+        turn : (r : Result (Unit {0}) Reason) → Dropped set w last.value w₁ r → (seen (left set w₁ last.taken (since opened n (last.opened - n)) block r) >>= λ s. runs_at readings block (several_at (tree_at set.variables levels rows) (left₁ - 1) last.next) s)
             ≡ rest_run readings (tree_at set.variables levels rows) block (field_at rows block 1) (block + 1) (state_at set w₀ taken [], empty)
-        turn =
-            ap (λ (x : Ran State). seen x >>= λ s. runs_at readings block (several_at (tree_at set.variables levels rows) (left₁ - 1) last.next) s) drop_is
+        turn r d =
+            ap (λ (x : Ran State). seen x >>= λ s. runs_at readings block (several_at (tree_at set.variables levels rows) (left₁ - 1) last.next) s) (d.is block last.taken (since opened n (last.opened - n)) g.ready.ordered)
             ∙ sym (rest_drop readings block (tree_at set.variables levels rows) left₁ last.next (outcome set w opened n last) any)
             ∙ g.is
 
         -- The drop faults.
-        pub going_drops : (m ≡ 0 → ⊥) → (r : Standing) → r ≡ without_value last m block → BlockRan set rows block levels readings w₀ opened₀ n taken w₁ opened r
-        unfolding without_value stood seen ◌>>=◌
-        going_drops z r e = record {
-          tidy = d.tidy;
-          is =
-              ap (stood set w₁ opened n) e ∙ stood_stops set w₁ opened n (without_value last m block) z
-              ∙ sym (ap (λ (x : Ran State). seen x >>= λ s. runs_at readings block (several_at (tree_at set.variables levels rows) (left₁ - 1) last.next) s) (left_stops set w₁ last.taken (since opened n (last.opened - n)) block m z))
-              ∙ turn;
-          sound = λ y. absurd (z (sym (ap (λ (x : Standing). x.fault) e) ∙ y));
-          opens = λ y. absurd (z (sym (ap (λ (x : Standing). x.fault) e) ∙ y));
-        }
+        pub going_drops : (x : Reason) → Dropped set w last.value w₁ (Err x) → BlockRan set rows block levels readings w₀ opened₀ n taken w₁ opened (Err (record { reason = x; place = block }))
+        unfolding seen ◌>>=◌
+        going_drops x d = record { tidy = d.tidy; is = turn (Err x) d; sound = tt; opens = tt }
 
-        module _ (z : m ≡ 0) where
+        module _ (u : Unit {0}) (d : Dropped set w last.value w₁ (Ok u)) where
           gone : runs_at readings block (several_at (tree_at set.variables levels rows) (left₁ - 1) last.next) (state_at set w₁ last.taken (since opened n (last.opened - n)))
               ≡ rest_run readings (tree_at set.variables levels rows) block (field_at rows block 1) (block + 1) (state_at set w₀ taken [], empty)
           unfolding seen ◌>>=◌
-          gone =
-              sym (ap (λ (x : Ran State). seen x >>= λ s. runs_at readings block (several_at (tree_at set.variables levels rows) (left₁ - 1) last.next) s) (left_goes set w₁ last.taken (since opened n (last.opened - n)) block m z))
-              ∙ turn
+          gone = turn (Ok u) d
 
           ordered₁ : InOrder (state_at set w₁ last.taken [])
-          ordered₁ = drop_ordered block (state_at set w last.taken (since opened n (last.opened - n))) (value_of set last.kind last.payload) g.ready.ordered (state_at set w₁ last.taken (since opened n (last.opened - n)))
-              (sym drop_is ∙ left_goes set w₁ last.taken (since opened n (last.opened - n)) block m z)
+          ordered₁ = drop_ordered block (state_at set w last.taken (since opened n (last.opened - n))) (as_value set last.value) g.ready.ordered (state_at set w₁ last.taken (since opened n (last.opened - n)))
+              (sym (d.is block last.taken (since opened n (last.opened - n)) g.ready.ordered))
 
           cells_now : last.taken + (boxes_at (tree_at set.variables levels rows last.next) + boxes_rest (tree_at set.variables levels rows) (left₁ - 1) (end_of (tree_at set.variables levels rows last.next))) ≤ set.boxes
           cells_now = let a = g.cells in let b = rest_cells (tree_at set.variables levels rows) left₁ last.next any g.rest in omega arith
@@ -226,60 +207,51 @@ module _ (set : Limits) where
             cells = let a = cells_now in omega arith;
           }
 
-          module _ (w₂ opened₂ : List ℕ) (r : Standing) (t : TermRan set rows last.next levels readings w₁ opened last.opened last.taken w₂ opened₂ r) where
-            stood_is : stood set w₂ opened₂ n r ≡ run_at readings (tree_at set.variables levels rows last.next) (state_at set w₁ last.taken (since opened n (last.opened - n)))
-            stood_is = t.is n g.opens.more
-
+          module _ (w₂ opened₂ : List ℕ) where
             -- The term faults.
-            pub going_stops : (r.fault ≡ 0 → ⊥) → BlockRan set rows block levels readings w₀ opened₀ n taken w₂ opened₂ r
-            going_stops y = record {
+            pub going_stops : (x : Refusal) → TermRan set rows last.next levels readings w₁ opened last.opened last.taken w₂ opened₂ (Err x) → BlockRan set rows block levels readings w₀ opened₀ n taken w₂ opened₂ (Err x)
+            unfolding stood_on
+            going_stops x t = record {
               tidy = t.tidy;
               is =
-                  stood_stops set w₂ opened₂ n r y
-                  ∙ rest_stop readings block (state_at set w₁ last.taken (since opened n (last.opened - n))) (tree_at set.variables levels rows) left₁ last.next _ any g.rest (sym (stood_stops set w₂ opened₂ n r y) ∙ stood_is)
+                  rest_stop readings block (state_at set w₁ last.taken (since opened n (last.opened - n))) (tree_at set.variables levels rows) left₁ last.next _ any g.rest (t.is n g.opens.more)
                   ∙ gone;
-              sound = λ x. absurd (y x);
-              opens = λ x. absurd (y x);
+              sound = tt;
+              opens = tt;
             }
 
             -- The term has an outcome.
-            pub going_goes : r.fault ≡ 0 → length opened₂ ≡ length opened → Going rows block levels readings w₀ opened₀ n taken w₂ opened₂ (left₁ - 1) r
-            going_goes y long =
-                let o = t.opens y in
-                let x = went_well set readings (tree_at set.variables levels rows last.next) (state_at set w₁ last.taken (since opened n (last.opened - n))) w₂ opened₂ n r y stood_is in
-                let f = term_fine set rows last.next levels readings w₁ opened last.opened last.taken turn_ready w₂ opened₂ r t y in
-                let k = term_taken set rows last.next levels readings w₁ opened last.opened last.taken turn_ready w₂ opened₂ r t y in
-                let c = cells_now in
-                let a = g.opens in
-                let a₁ = a.more in
-                let a₂ = a.few in
-                let o₁ = o.more in
-                let o₂ = o.few in
-                let b = g.ready.few in
-                record {
-                  fine = y;
-                  same = long ∙ g.same;
-                  ready = record { long = g.ready.long; eight = g.ready.eight; many = omega (arith, g.ready.many); tidy = t.tidy; ordered = f.ordered; few = omega arith; listed = o.listed };
-                  sound = f.sound;
-                  opens = record { kept = λ j h. o.kept j (omega arith) ∙ a.kept j h; more = omega arith; few = omega arith; listed = o.listed; room = o.room };
-                  rest = rw x.end (rest_asks (tree_at set.variables levels rows) left₁ last.next any g.rest);
-                  cells = rw x.end (omega arith);
-                  is =
-                      ap (λ (j : ℕ). rest_run readings (tree_at set.variables levels rows) block (left₁ - 1) j (outcome set w₂ opened₂ n r)) x.end
-                      ∙ rest_go readings block (state_at set w₁ last.taken (since opened n (last.opened - n))) (tree_at set.variables levels rows) left₁ last.next (outcome set w₂ opened₂ n r) any g.rest x.ran
-                      ∙ gone;
-                }
+            module _ (r : Standing) (t : TermRan set rows last.next levels readings w₁ opened last.opened last.taken w₂ opened₂ (Ok r)) where
+              stood_is : stood set w₂ opened₂ n (Ok r) ≡ run_at readings (tree_at set.variables levels rows last.next) (state_at set w₁ last.taken (since opened n (last.opened - n)))
+              stood_is = t.is n g.opens.more
 
-  pub going_enters : (rows : List ℕ) (i levels : ℕ) (readings : List ℤ) (w opened : List ℕ) (n taken : ℕ) → BlockReady set rows i levels readings w opened n taken → (l : ℕ) → l ≡ field_at rows i 1 → (a : Standing) → a ≡ entered_at i n taken → Going rows i levels readings w opened n taken w opened l a
-  unfolding entered_at
-  going_enters rows i levels readings w opened n taken g l el a ea = rw (el, ea) (going_starts rows i levels readings w opened n taken g)
+              pub going_goes : length opened₂ ≡ length opened → (left₂ : ℕ) → left₂ ≡ left₁ - 1 → Going rows block levels readings w₀ opened₀ n taken w₂ opened₂ left₂ r
+              going_goes long left₂ e = rw e (
+                  let o = t.opens in
+                  let x = went_well set readings (tree_at set.variables levels rows last.next) (state_at set w₁ last.taken (since opened n (last.opened - n))) w₂ opened₂ n r stood_is in
+                  let f = term_fine set rows last.next levels readings w₁ opened last.opened last.taken turn_ready w₂ opened₂ r t in
+                  let k = term_taken set rows last.next levels readings w₁ opened last.opened last.taken turn_ready w₂ opened₂ r t in
+                  let c = cells_now in
+                  let a = g.opens in
+                  let a₁ = a.more in
+                  let a₂ = a.few in
+                  let o₁ = o.more in
+                  let o₂ = o.few in
+                  let b = g.ready.few in
+                  record {
+                    same = long ∙ g.same;
+                    ready = record { long = g.ready.long; eight = g.ready.eight; many = omega (arith, g.ready.many); tidy = t.tidy; ordered = f.ordered; few = omega arith; listed = o.listed };
+                    sound = f.sound;
+                    opens = record { kept = λ j h. o.kept j (omega arith) ∙ a.kept j h; more = omega arith; few = omega arith; listed = o.listed; room = o.room };
+                    rest = rw x.end (rest_asks (tree_at set.variables levels rows) left₁ last.next any g.rest);
+                    cells = rw x.end (omega arith);
+                    is =
+                        ap (λ (j : ℕ). rest_run readings (tree_at set.variables levels rows) block (left₁ - 1) j (outcome set w₂ opened₂ n r)) x.end
+                        ∙ rest_go readings block (state_at set w₁ last.taken (since opened n (last.opened - n))) (tree_at set.variables levels rows) left₁ last.next (outcome set w₂ opened₂ n r) any g.rest x.ran
+                        ∙ gone;
+                  })
 
   -- ---- the block as a term
-
-  -- After a fault no rule counts.
-  any_rule : (w opened : List ℕ) (begin : ℕ) (r : Standing) (f g : Outcome → Ran Outcome) → (r.fault ≡ 0 → ⊥) → sequel (stood set w opened begin r) f ≡ sequel (stood set w opened begin r) g
-  unfolding sequel
-  any_rule w opened begin r f g n = rw (stood_stops set w opened begin r n)
 
   module _ (rows : List ℕ) (i levels : ℕ) (readings : List ℤ) (w opened : List ℕ) (n taken : ℕ) (g : TermReady set rows i levels readings w opened n taken)
       (e : field_at rows i 0 ≡ 11) where
@@ -301,44 +273,55 @@ module _ (set : Limits) where
       cells = omega (arith, g.cells, ap boxes_at is_block, around_cells (block i) boxes_all boxes_in 0 (λ ts. omega arith) terms asks);
     }
 
-    module _ (w₁ opened₁ : List ℕ) (inner : Standing) (t : BlockRan set rows i (levels - 1) readings w opened n taken w₁ opened₁ inner) where
-      runs_is : stood set w₁ opened₁ n inner ≡ runs_at readings i terms (state_at set w taken [])
-      runs_is = t.is ∙ terms_run readings (tree_at set.variables (levels - 1) rows) i (field_at rows i 1) (i + 1) (state_at set w taken []) asks
+    runs_is : (w₁ opened₁ : List ℕ) (inner : Stands) → BlockRan set rows i (levels - 1) readings w opened n taken w₁ opened₁ inner → stood set w₁ opened₁ n inner ≡ runs_at readings i terms (state_at set w taken [])
+    runs_is w₁ opened₁ inner t = t.is ∙ terms_run readings (tree_at set.variables (levels - 1) rows) i (field_at rows i 1) (i + 1) (state_at set w taken []) asks
 
-      runs_fine : (ds : RowTree Terms) → IsTree ds → inner.fault ≡ 0 → stood set w₁ opened₁ n inner ≡ runs_at readings i ds (state_at set w taken []) → InOrder (state_at set w₁ inner.taken [])
+    -- What its end makes of the outcome of its terms.
+    ended_is : (w₁ opened₁ : List ℕ) (inner : Stands) → BlockRan set rows i (levels - 1) readings w opened n taken w₁ opened₁ inner → (begin : ℕ)
+        → sequel (stood set w₁ opened₁ n inner) (λ o. run_block_end i (since opened begin (n - begin)) o) ≡ run_at readings (tree_at set.variables levels rows i) (state_at set w taken (since opened begin (n - begin)))
+    unfolding run
+    ended_is w₁ opened₁ inner t begin =
+        ap (λ (m : Stood). sequel m (λ o. run_block_end i (since opened begin (n - begin)) o)) (runs_is w₁ opened₁ inner t)
+        ∙ around_run readings (block i) (λ ts. runs (bits_of readings) ts i) (λ o. run_block_end i (since opened begin (n - begin)) o) (state_at set w taken (since opened begin (n - begin))) (state_at set w taken []) (λ ts. refl) terms asks
+        ∙ ap (λ (d : RowTree Term). run_at readings d (state_at set w taken (since opened begin (n - begin)))) (sym is_block)
+
+    -- A fault of its terms goes onwards.
+    pub block_stops : (w₁ opened₁ : List ℕ) (x : Refusal) → BlockRan set rows i (levels - 1) readings w opened n taken w₁ opened₁ (Err x) → TermRan set rows i levels readings w opened n taken w₁ opened₁ (Err x)
+    unfolding sequel
+    block_stops w₁ opened₁ x t = record { tidy = t.tidy; is = λ begin h. ended_is w₁ opened₁ (Err x) t begin; sound = tt; opens = tt }
+
+    module _ (w₁ opened₁ : List ℕ) (inner : Standing) (t : BlockRan set rows i (levels - 1) readings w opened n taken w₁ opened₁ (Ok inner)) where
+      runs_fine : (ds : RowTree Terms) → IsTree ds → stood set w₁ opened₁ n (Ok inner) ≡ runs_at readings i ds (state_at set w taken []) → InOrder (state_at set w₁ inner.taken [])
       unfolding stood_on ran_on end_of
-      runs_fine none h z q = absurd h
-      runs_fine (some r) h z q =
-          keeps_ok (runs_ordered (bits_of readings) r.0 i (state_at set w taken []) g.ready.ordered) (outcome set w₁ opened₁ n inner) (same_ran (runs (bits_of readings) r.0 i (state_at set w taken [])) (outcome set w₁ opened₁ n inner) inner.next r.1 (sym (stood_goes set w₁ opened₁ n inner z) ∙ q)).0
+      runs_fine none h q = absurd h
+      runs_fine (some r) h q =
+          keeps_ok (runs_ordered (bits_of readings) r.0 i (state_at set w taken []) g.ready.ordered) (outcome set w₁ opened₁ n inner) (same_ran (runs (bits_of readings) r.0 i (state_at set w taken [])) (outcome set w₁ opened₁ n inner) inner.next r.1 q).0
 
       pub block_ending : length opened₁ ≡ length opened → EndReady set w₁ opened₁ n inner
       block_ending long = record {
-        ready = record { tidy = t.tidy; fine = λ z. record { sound = t.sound z; ordered = runs_fine terms asks z runs_is } };
-        listed = λ z. (t.opens z).listed;
-        begun = λ z. (t.opens z).more;
-        few = λ z. let o = t.opens z in let a = o.few in let b = o.room in let c = g.ready.few in let d = g.ready.many in omega arith;
+        ready = record { tidy = t.tidy; fine = record { sound = t.sound; ordered = runs_fine terms asks (runs_is w₁ opened₁ (Ok inner) t) } };
+        listed = t.opens.listed;
+        begun = t.opens.more;
+        few = let o = t.opens in let a = o.few in let b = o.room in let c = g.ready.few in let d = g.ready.many in omega arith;
       }
 
-      pub block_returns : (w₂ : List ℕ) (r : Standing) → BlockClosed set w₁ opened₁ i n inner w₂ r → TermRan set rows i levels readings w opened n taken w₂ opened₁ r
-      unfolding run
-      block_returns w₂ r b = record {
+      closed_is : (w₂ : List ℕ) (r : Stands) → BlockClosed set w₁ opened₁ i n inner w₂ r → (begin : ℕ) → begin ≤ n → stood set w₂ opened₁ begin r ≡ run_at readings (tree_at set.variables levels rows i) (state_at set w taken (since opened begin (n - begin)))
+      closed_is w₂ r b begin h =
+          b.is begin
+          ∙ ap (λ (l : List ℕ). sequel (stood set w₁ opened₁ n (Ok inner)) (λ o. run_block_end i l o)) (since_kept opened₁ opened begin n h t.opens.kept)
+          ∙ ended_is w₁ opened₁ (Ok inner) t begin
+
+      pub block_returns : (w₂ : List ℕ) (r : Stands) → BlockClosed set w₁ opened₁ i n inner w₂ r → TermRan set rows i levels readings w opened n taken w₂ opened₁ r
+      block_returns w₂ (Ok r) b = record {
         tidy = b.tidy;
-        is = λ begin h.
-            b.is begin ∙ same_rule begin h (ℕ_discrete inner.fault 0)
-            ∙ ap (λ (m : Stood). sequel m (λ o. run_block_end i (since opened begin (n - begin)) o)) runs_is
-            ∙ around_run readings (block i) (λ ts. runs (bits_of readings) ts i) (λ o. run_block_end i (since opened begin (n - begin)) o) (state_at set w taken (since opened begin (n - begin))) (state_at set w taken []) (λ ts. refl) terms asks
-            ∙ ap (λ (d : RowTree Term). run_at readings d (state_at set w taken (since opened begin (n - begin)))) (sym is_block);
-        sound = λ z. (b.went z).sound;
-        opens = λ z.
-            let o = t.opens (b.went z).fine in
+        is = closed_is w₂ (Ok r) b;
+        sound = b.went.sound;
+        opens =
+            let o = t.opens in
             let a = o.few in
             let m = o.more in
-            let c = b.count z in
-            let q = (b.went z).next in
+            let c = b.count in
+            let q = b.went.next in
             record { kept = o.kept; more = omega arith; few = omega arith; listed = λ k h. o.listed k (omega arith); room = rw q o.room };
       }
-        where
-          same_rule : (begin : ℕ) → begin ≤ n → Dec (inner.fault ≡ 0)
-              → sequel (stood set w₁ opened₁ n inner) (λ o. run_block_end i (since opened₁ begin (n - begin)) o) ≡ sequel (stood set w₁ opened₁ n inner) (λ o. run_block_end i (since opened begin (n - begin)) o)
-          same_rule begin h (yes z) = ap (λ (l : List ℕ). sequel (stood set w₁ opened₁ n inner) (λ o. run_block_end i l o)) (since_kept opened₁ opened begin n h (t.opens z).kept)
-          same_rule begin h (no z) = any_rule w₁ opened₁ n inner _ _ z
+      block_returns w₂ (Err x) b = record { tidy = b.tidy; is = closed_is w₂ (Err x) b; sound = tt; opens = tt }

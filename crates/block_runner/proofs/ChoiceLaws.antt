@@ -6,7 +6,10 @@ use mathlib.Core.Path.{◌≡◌, sym, ap, subst, ◌∙◌}
 use mathlib.Core.List.{List}
 use lib.IntN.{ℤ}
 use borrow.Author.Tests.{eq-eqb, ne_eqb}
+use Rattle.std.specs.Prelude.{Result, Ok, Err}
 use Rattle.syntax.specs.Limits.{Limits, row_numbers}
+use Rattle.syntax.specs.declared.refusals.Reason.{Reason}
+use Rattle.syntax.specs.declared.refusals.Refusal.{Refusal}
 use Rattle.syntax.specs.Result.{ok, err, ◌>>=◌}
 use Rattle.syntax.specs.Script.{Term, block, choice}
 use Rattle.syntax.specs.Measures.{boxes_in}
@@ -17,14 +20,11 @@ use Rattle.dynamics.specs.Store.{State, Ran}
 use Rattle.dynamics.specs.Run.{Outcome, run_number, run}
 use Rattle.dynamics.specs.Readings.{bits_of}
 use Rattle.store.specs.Words.{Tidy}
-use Rattle.store.specs.StoreParts.{state_at, since}
-use Rattle.term_runner.specs.LeafParts.{Numbered, counted, ran_on}
-use Rattle.term_runner.specs.Parts.{Stop, seen, Stood, at_row, outcome, stood, without_value, entered_at, end_of, boxes_by, boxes_at, stood_on, run_at, Ready, TermReady, TermRan}
+use Rattle.store.specs.StoreParts.{state_at, told_at, since}
+use Rattle.term_runner.specs.LeafParts.{Numbered, ran_on}
+use Rattle.term_runner.specs.Parts.{Stop, seen, Stood, at_row, outcome, Stands, stood, end_of, boxes_by, boxes_at, stood_on, run_at, Ready, TermReady, TermRan}
 use Rattle.term_runner.specs.Skip.{Passable, Chosen, onwards, PastReady, Past}
-use Rattle.store.specs.declared.locate.Gave.{Gave}
 use Rattle.term_runner.specs.declared.around.Standing.{Standing}
-use Rattle.term_runner.proofs.LeafLaws.{counted_stops, counted_goes}
-use Rattle.term_runner.proofs.AroundLaws.{stood_stops, stood_goes}
 use Rattle.term_runner.proofs.SkipLaws.{some_end}
 use Rattle.block_runner.proofs.TermLaws.{same_ran, went_well}
 
@@ -36,15 +36,11 @@ any_row (err x) o j k e = e
 
 module _ (set : Limits) where
   -- The same outcome before another row.
-  onwards_stood : (w opened : List ℕ) (begin : ℕ) (r : Standing) (j k l : ℕ) (m : Ran Outcome) → stood set w opened begin r ≡ at_row k (seen m) → (r.fault ≡ 0 → j ≡ l) → stood set w opened begin (onwards r j) ≡ at_row l (seen m)
+  onwards_stood : (w opened : List ℕ) (begin : ℕ) (r : Standing) (j k l : ℕ) (m : Ran Outcome) → stood set w opened begin (Ok r) ≡ at_row k (seen m) → j ≡ l → stood set w opened begin (Ok (onwards r j)) ≡ at_row l (seen m)
   unfolding at_row seen
-  onwards_stood w opened begin r j k l m e q = go (ℕ_discrete r.fault 0)
-    where
-      go : Dec (r.fault ≡ 0) → stood set w opened begin (onwards r j) ≡ at_row l (seen m)
-      go (yes z) =
-          let p = same_ran m (outcome set w opened begin r) r.next k (sym (stood_goes set w opened begin r z) ∙ e) in
-          stood_goes set w opened begin (onwards r j) z ∙ ap (λ (n : ℕ). ok (outcome set w opened begin r, n)) (q z) ∙ sym (ap (λ (x : Ran Outcome). at_row l (seen x)) p.0)
-      go (no z) = stood_stops set w opened begin (onwards r j) z ∙ any_row m _ k l (sym (stood_stops set w opened begin r z) ∙ e)
+  onwards_stood w opened begin r j k l m e q =
+      let p = same_ran m (outcome set w opened begin r) r.next k e in
+      ap (λ (n : ℕ). ok (outcome set w opened begin r, n)) q ∙ sym (ap (λ (x : Ran Outcome). at_row l (seen x)) p.0)
 
   module _ (rows : List ℕ) (i levels : ℕ) (readings : List ℤ) (w opened : List ℕ) (n taken : ℕ) (g : TermReady set rows i levels readings w opened n taken)
       (e : field_at rows i 0 ≡ 12) where
@@ -81,32 +77,30 @@ module _ (set : Limits) where
 
     -- ---- the number at its place
 
-    pub choice_place : Tidy set w × (field_at rows i 1 < set.variables)
-    choice_place = (g.ready.tidy, shape.root)
+    pub choice_place : (root : ℕ) → root ≡ field_at rows i 1 → Tidy set w × (root < set.variables)
+    choice_place root e = (g.ready.tidy, rw e shape.root)
 
-    module _ (root follows : ℕ) (er : root ≡ field_at rows i 1) (ef : follows ≡ field_at rows i 2) (x : Gave) (y : Numbered set w root follows x) where
-      number_is : (begin : ℕ) → run_number (state begin) i (place_at rows i 1) ≡ counted (state begin) i x
-      number_is begin = sym (y.is i taken (since opened begin (n - begin)) ∙ rw (er, ef))
+    module _ (root follows : ℕ) (p : (root ≡ field_at rows i 1) × (follows ≡ field_at rows i 2)) where
+      number_is : (x : Result ℕ Reason) → Numbered set w root follows x → (begin : ℕ) → run_number (state begin) i (place_at rows i 1) ≡ told_at (state begin) i (λ m. m) x
+      number_is x y begin = sym (y.is i taken (since opened begin (n - begin)) ∙ rw (p.0, p.1))
 
-      pub choice_stops : (x.fault ≡ 0 → ⊥) → (a r : Standing) → a ≡ entered_at i n taken → r ≡ without_value a x.fault i → TermRan set rows i levels readings w opened n taken w opened r
-      unfolding run ◌>>=◌ seen at_row without_value entered_at
-      choice_stops z a r ea e₁ = record {
+      pub choice_stops : (x : Reason) → Numbered set w root follows (Err x) → TermRan set rows i levels readings w opened n taken w opened (Err (record { reason = x; place = i }))
+      unfolding run ◌>>=◌ seen at_row
+      choice_stops x y = record {
         tidy = g.ready.tidy;
-        is = λ begin h.
-            ap (stood set w opened begin) (e₁ ∙ ap (λ (q : Standing). without_value q x.fault i) ea) ∙ stood_stops set w opened begin (without_value (entered_at i n taken) x.fault i) z
-            ∙ sym (whole_run (state begin) ∙ rw (number_is begin, counted_stops (state begin) i x z));
-        sound = λ q. absurd (z (sym (ap (λ (s : Standing). s.fault) e₁) ∙ q));
-        opens = λ q. absurd (z (sym (ap (λ (s : Standing). s.fault) e₁) ∙ q));
+        is = λ begin h. sym (whole_run (state begin) ∙ rw (number_is (Err x) y begin));
+        sound = tt;
+        opens = tt;
       }
 
-      module _ (fine : x.fault ≡ 0) where
-        first_runs : (x.payload ≡ 0 → ⊥) → (begin : ℕ) → run (bits_of readings) whole (state begin) ≡ run (bits_of readings) (block (i + 1) shape.first.terms) (state begin)
+      module _ (m : ℕ) (y : Numbered set w root follows (Ok m)) where
+        first_runs : (m ≡ 0 → ⊥) → (begin : ℕ) → run (bits_of readings) whole (state begin) ≡ run (bits_of readings) (block (i + 1) shape.first.terms) (state begin)
         unfolding run ◌>>=◌
-        first_runs z begin = rw (number_is begin, counted_goes (state begin) i x fine, ne_eqb x.payload 0 z)
+        first_runs z begin = rw (number_is (Ok m) y begin, ne_eqb m 0 z)
 
-        second_runs : x.payload ≡ 0 → (begin : ℕ) → run (bits_of readings) whole (state begin) ≡ run (bits_of readings) (block shape.first.end shape.second.terms) (state begin)
+        second_runs : m ≡ 0 → (begin : ℕ) → run (bits_of readings) whole (state begin) ≡ run (bits_of readings) (block shape.first.end shape.second.terms) (state begin)
         unfolding run ◌>>=◌
-        second_runs z begin = rw (number_is begin, counted_goes (state begin) i x fine, eq-eqb x.payload 0 z)
+        second_runs z begin = rw (number_is (Ok m) y begin, eq-eqb m 0 z)
 
     -- ---- the block that runs
 
@@ -145,55 +139,75 @@ module _ (set : Limits) where
 
     -- ---- after it
 
-    module _ (w₁ opened₁ : List ℕ) (ran : Standing) where
-      abbrev RanAt : ℕ → Type 0
-      RanAt j = TermRan set rows j (levels - 1) readings w opened n taken w₁ opened₁ ran
+    module _ (w₁ opened₁ : List ℕ) where
+      abbrev RanAt : Stands → ℕ → Type 0
+      RanAt r j = TermRan set rows j (levels - 1) readings w opened n taken w₁ opened₁ r
 
       -- Block b, which is either of the two.
-      module _ (j : ℕ) (b : BlockRows set.variables (levels - 1) rows j) (t : RanAt j) where
+      module _ (j : ℕ) (b : BlockRows set.variables (levels - 1) rows j) (runs : (begin : ℕ) → run (bits_of readings) whole (state begin) ≡ run (bits_of readings) (block j b.terms) (state begin)) where
         block_run : (s : State) → run_at readings (tree_at set.variables (levels - 1) rows j) s ≡ at_row b.end (seen (run (bits_of readings) (block j b.terms) s))
         unfolding stood_on ran_on end_of
         block_run s = rw b.is
 
-        block_next : ran.fault ≡ 0 → ran.next ≡ b.end
-        block_next z = (went_well set readings (tree_at set.variables (levels - 1) rows j) (state n) w₁ opened₁ n ran z (t.is n (omega arith))).end ∙ some_end _ _ _ b.is
-
-        after_block : i ≤ j → b.end ≤ shape.second.end → ((begin : ℕ) → run (bits_of readings) whole (state begin) ≡ run (bits_of readings) (block j b.terms) (state begin))
-            → (k : ℕ) → (ran.fault ≡ 0 → k ≡ shape.second.end) → TermRan set rows i levels readings w opened n taken w₁ opened₁ (onwards ran k)
-        after_block h₁ h₂ runs k last = record {
+        -- A fault of it goes onwards.
+        block_fails : (x : Refusal) → RanAt (Err x) j → TermRan set rows i levels readings w opened n taken w₁ opened₁ (Err x)
+        block_fails x t = record {
           tidy = t.tidy;
           is = λ begin h.
-              onwards_stood w₁ opened₁ begin ran k b.end shape.second.end (run (bits_of readings) (block j b.terms) (state begin)) (t.is begin h ∙ block_run (state begin)) last
+              any_row (run (bits_of readings) (block j b.terms) (state begin)) _ b.end shape.second.end (t.is begin h ∙ block_run (state begin))
               ∙ sym (whole_run (state begin) ∙ ap (λ (x : Ran Outcome). at_row shape.second.end (seen x)) (runs begin));
-          sound = t.sound;
-          opens = λ z.
-              let o = t.opens z in
-              let a = o.few in
-              let q = block_next z in
-              let l = last z in
-              record { kept = o.kept; more = o.more; few = omega arith; listed = o.listed; room = omega (arith, in_rows.room) };
+          sound = tt;
+          opens = tt;
         }
 
-      module _ (m j : ℕ) (c : Chosen rows i m j) (t : RanAt j) where
-        first_ran : (m ≡ 0 → ⊥) → RanAt (i + 1)
-        first_ran z = subst RanAt (c.first z) t
+        module _ (ran : Standing) (t : RanAt (Ok ran) j) where
+          block_next : ran.next ≡ b.end
+          block_next = (went_well set readings (tree_at set.variables (levels - 1) rows j) (state n) w₁ opened₁ n ran (t.is n (omega arith))).end ∙ some_end _ _ _ b.is
 
-        -- The second block stands where the first one ended.
-        next_is : (m ≡ 0 → ⊥) → ran.fault ≡ 0 → IsTree (tree_at set.variables (levels - 1) rows ran.next)
-        next_is z y = rw (block_next (i + 1) shape.first (first_ran z) y) (tree_some _ shape.second.is)
+          after_block : i ≤ j → b.end ≤ shape.second.end → (k : ℕ) → k ≡ shape.second.end → TermRan set rows i levels readings w opened n taken w₁ opened₁ (Ok (onwards ran k))
+          after_block h₁ h₂ k last = record {
+            tidy = t.tidy;
+            is = λ begin h.
+                onwards_stood w₁ opened₁ begin ran k b.end shape.second.end (run (bits_of readings) (block j b.terms) (state begin)) (t.is begin h ∙ block_run (state begin)) last
+                ∙ sym (whole_run (state begin) ∙ ap (λ (x : Ran Outcome). at_row shape.second.end (seen x)) (runs begin));
+            sound = t.sound;
+            opens =
+                let o = t.opens in
+                let a = o.few in
+                let q = block_next in
+                record { kept = o.kept; more = o.more; few = omega arith; listed = o.listed; room = omega (arith, in_rows.room) };
+          }
 
-        pub choice_past : PastReady rows m ran
-        choice_past z y = record { set = set; levels = levels - 1; is = next_is z y }
+      module _ (m j : ℕ) (c : Chosen rows i m j) (root follows : ℕ) (p : (root ≡ field_at rows i 1) × (follows ≡ field_at rows i 2)) (y : Numbered set w root follows (Ok m)) where
+        pub choice_fails : (x : Refusal) → RanAt (Err x) j → TermRan set rows i levels readings w opened n taken w₁ opened₁ (Err x)
+        choice_fails x t = go (ℕ_discrete m 0)
+          where
+            go : Dec (m ≡ 0) → TermRan set rows i levels readings w opened n taken w₁ opened₁ (Err x)
+            go (yes z) = block_fails shape.first.end shape.second (second_runs root follows p m y z) x (subst (RanAt (Err x)) (second_row m j c z) t)
+            go (no z) = block_fails (i + 1) shape.first (first_runs root follows p m y z) x (subst (RanAt (Err x)) (c.first z) t)
 
-        module _ (root follows : ℕ) (er : root ≡ field_at rows i 1) (ef : follows ≡ field_at rows i 2) (x : Gave) (y : Numbered set w root follows x) (fine : x.fault ≡ 0) (em : m ≡ x.payload) where
-          pub choice_returns : (r : Standing) → Past rows m ran r → TermRan set rows i levels readings w opened n taken w₁ opened₁ r
-          choice_returns r p = subst (TermRan set rows i levels readings w opened n taken w₁ opened₁) (sym p.is) (go (ℕ_discrete m 0))
+        module _ (ran : Standing) (t : RanAt (Ok ran) j) where
+          first_ran : (m ≡ 0 → ⊥) → RanAt (Ok ran) (i + 1)
+          first_ran z = subst (RanAt (Ok ran)) (c.first z) t
+
+          first_next : (m ≡ 0 → ⊥) → ran.next ≡ shape.first.end
+          first_next z = block_next (i + 1) shape.first (first_runs root follows p m y z) ran (first_ran z)
+
+          -- The second block stands where the first one ended.
+          next_is : (m ≡ 0 → ⊥) → IsTree (tree_at set.variables (levels - 1) rows ran.next)
+          next_is z = rw (first_next z) (tree_some _ shape.second.is)
+
+          pub choice_past : PastReady rows m ran
+          choice_past z = record { set = set; levels = levels - 1; is = next_is z }
+
+          pub choice_returns : (r : Standing) → Past rows m ran r → TermRan set rows i levels readings w opened n taken w₁ opened₁ (Ok r)
+          choice_returns r q = subst (λ (x : Standing). TermRan set rows i levels readings w opened n taken w₁ opened₁ (Ok x)) (sym q.is) (go (ℕ_discrete m 0))
             where
-              go : Dec (m ≡ 0) → TermRan set rows i levels readings w opened n taken w₁ opened₁ (onwards ran r.next)
+              go : Dec (m ≡ 0) → TermRan set rows i levels readings w opened n taken w₁ opened₁ (Ok (onwards ran r.next))
               go (yes z) =
                   let f = in_rows.first in
-                  let u = subst RanAt (second_row m j c z) t in
-                  after_block shape.first.end shape.second u (omega arith) (omega arith) (second_runs root follows er ef x y fine (sym em ∙ z)) r.next (λ q. p.second z ∙ block_next shape.first.end shape.second u q)
+                  let u = subst (RanAt (Ok ran)) (second_row m j c z) t in
+                  after_block shape.first.end shape.second (second_runs root follows p m y z) ran u (omega arith) (omega arith) r.next (q.second z ∙ block_next shape.first.end shape.second (second_runs root follows p m y z) ran u)
               go (no z) =
-                  after_block (i + 1) shape.first (first_ran z) (omega arith) in_rows.second (first_runs root follows er ef x y fine (λ q. z (em ∙ q))) r.next
-                  (λ q. p.first z q set (levels - 1) (next_is z q) ∙ ap (λ (k : ℕ). end_of (tree_at set.variables (levels - 1) rows k)) (block_next (i + 1) shape.first (first_ran z) q) ∙ some_end _ _ _ shape.second.is)
+                  after_block (i + 1) shape.first (first_runs root follows p m y z) ran (first_ran z) (omega arith) in_rows.second r.next
+                  (q.first z set (levels - 1) (next_is z) ∙ ap (λ (k : ℕ). end_of (tree_at set.variables (levels - 1) rows k)) (first_next z) ∙ some_end _ _ _ shape.second.is)

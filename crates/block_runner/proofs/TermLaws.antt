@@ -3,36 +3,35 @@ use Prim.Native.Nat.{ℕ, suc, ◌+◌, ◌-◌, ◌≤◌, ◌<◌}
 use native.Mathlib.Omega.{arith}
 use native.Mathlib.Decide.{ℕ_discrete}
 use mathlib.Core.Path.{◌≡◌, refl, sym, ap, subst, ◌∙◌}
-use mathlib.Core.Bool.{Bool, true, false}
 use mathlib.Core.Option.{none, some}
 use mathlib.Core.List.{List}
-use lib.Dec.{eqb}
 use lib.IntN.{ℤ}
 use lib.ListN.{length, get_or}
 use lib.ListN as lists
 use lib.Seq.{get_or-set_same, get_or-set_other}
-use Rattle.syntax.specs.Result.{ok, err, pick, ◌>>=◌}
+use Rattle.std.specs.Prelude.{Result, Ok, Err, IfOk}
+use Rattle.syntax.specs.Result.{ok, err, ◌>>=◌}
+use Rattle.syntax.specs.declared.refusals.Reason.{Reason}
+use Rattle.syntax.specs.declared.refusals.Refusal.{Refusal}
 use Rattle.syntax.specs.Limits.{Limits, row_numbers}
 use Rattle.syntax.specs.Script.{Term, box, declare, assign}
 use Rattle.syntax.specs.Measures.{boxes_in}
 use Rattle.syntax.specs.RowParts.{field_at}
 use Rattle.syntax.specs.RowTrees.{place_at, RowTree, IsTree, around, tree_at}
 use Rattle.syntax.proofs.RowTreeLaws.{around_inner, has_room, box_is, let_number, let_is, assign_is}
-use Rattle.dynamics.specs.Values.{Value}
-use Rattle.dynamics.specs.Store.{State, Ran, fault}
+use Rattle.dynamics.specs.Store.{State, Ran}
 use Rattle.dynamics.specs.Drop.{InOrder}
 use Rattle.dynamics.specs.Run.{Outcome, run_box, run_let, run_assign, run}
 use Rattle.dynamics.specs.Readings.{bits_of}
-use Rattle.store.specs.Words.{value_of, store_of, Tidy}
+use Rattle.store.specs.declared.store.Value.{Value}
+use Rattle.store.specs.Words.{Tidy}
 use Rattle.store.specs.StoreParts.{state_at, since}
 use Rattle.term_runner.specs.LeafParts.{gave, ran_on, run_on, leaf_at, LeafReady, LeafRan}
-use Rattle.term_runner.specs.Parts.{seen, Stood, at_row, outcome, stood, sequel, Fine, InnerReady, Went, BoxReady, Boxed, LetReady, Pushed, Declared, Assigned, Opened, end_of, boxes_by, boxes_at, stood_on, run_at, Ready, PlainRan, TermReady, TermRan}
-use Rattle.store.specs.declared.locate.Gave.{Gave}
+use Rattle.term_runner.specs.Parts.{seen, Stood, at_row, outcome, stood, sequel, Fine, InnerReady, Went, BoxReady, Boxed, LetReady, Pushed, Declared, Assigned, Opened, end_of, boxes_by, boxes_at, stood_on, run_at, Ready, Stands, plain_stands, PlainRan, TermReady, TermRan}
 use Rattle.term_runner.specs.declared.around.Standing.{Standing}
 use Rattle.dynamics.proofs.Kept.{keeps_ok}
 use Rattle.dynamics.proofs.RunOrder.{run_ordered}
 use Rattle.dynamics.proofs.Counting.{taken_is, boxes_bound}
-use Rattle.term_runner.proofs.AroundLaws.{stood_goes}
 use Rattle.term_runner.proofs.RowLaws.{leaf_is, leaf_end}
 
 -- ---- the outcome of a term, and what follows it
@@ -55,9 +54,6 @@ around_run readings f inside rule s s₁ e (some r) h = sequel_bind r.1 (inside 
 pub record Went-well (readings : List ℤ) (d : RowTree Term) (s : State) (o : Outcome) (j : ℕ) : Type 0 where
   pub ran : run_on readings d s ≡ ok o
   pub end : j ≡ end_of d
-
-abbrev good_value : State → Value → Ran Outcome
-good_value s v = ok (s, v)
 
 pub same_ran : (m : Ran Outcome) (o : Outcome) (j k : ℕ) → ◌≡◌ {A = Stood} (ok (o, j)) (at_row k (seen m)) → (m ≡ ok o) × (j ≡ k)
 unfolding at_row seen
@@ -84,10 +80,10 @@ around_cells f inside whole k e none h = absurd h
 around_cells f inside whole k e (some r) h = e r.0
 
 module _ (set : Limits) where
-  pub went_well : (readings : List ℤ) (d : RowTree Term) (s : State) (w opened : List ℕ) (begin : ℕ) (r : Standing) → r.fault ≡ 0 → stood set w opened begin r ≡ run_at readings d s → Went-well readings d s (outcome set w opened begin r) r.next
+  pub went_well : (readings : List ℤ) (d : RowTree Term) (s : State) (w opened : List ℕ) (begin : ℕ) (r : Standing) → stood set w opened begin (Ok r) ≡ run_at readings d s → Went-well readings d s (outcome set w opened begin r) r.next
   unfolding stood_on
-  went_well readings d s w opened begin r n e =
-      let p = same_ran (run_on readings d s) (outcome set w opened begin r) r.next (end_of d) (sym (stood_goes set w opened begin r n) ∙ e) in
+  went_well readings d s w opened begin r e =
+      let p = same_ran (run_on readings d s) (outcome set w opened begin r) r.next (end_of d) e in
       record { ran = p.0; end = p.1 }
 
   -- One row further.
@@ -103,21 +99,21 @@ module _ (set : Limits) where
   same_opened before after n m m' i j j' p q o = rw (p, q) o
 
   module _ (rows : List ℕ) (i levels : ℕ) (readings : List ℤ) (w opened : List ℕ) (n taken : ℕ) (g : TermReady set rows i levels readings w opened n taken)
-      (w₁ opened₁ : List ℕ) (inner : Standing) (t : TermRan set rows i levels readings w opened n taken w₁ opened₁ inner) where
-    well : inner.fault ≡ 0 → Went-well readings (tree_at set.variables levels rows i) (state_at set w taken (since opened n (n - n))) (outcome set w₁ opened₁ n inner) inner.next
-    well z = went_well readings (tree_at set.variables levels rows i) (state_at set w taken (since opened n (n - n))) w₁ opened₁ n inner z (t.is n (omega arith))
+      (w₁ opened₁ : List ℕ) (inner : Standing) (t : TermRan set rows i levels readings w opened n taken w₁ opened₁ (Ok inner)) where
+    well : Went-well readings (tree_at set.variables levels rows i) (state_at set w taken (since opened n (n - n))) (outcome set w₁ opened₁ n inner) inner.next
+    well = went_well readings (tree_at set.variables levels rows i) (state_at set w taken (since opened n (n - n))) w₁ opened₁ n inner (t.is n (omega arith))
 
-    pub term_fine : inner.fault ≡ 0 → Fine set w₁ inner
-    term_fine z = record {
-      sound = t.sound z;
-      ordered = ran_ordered readings (state_at set w taken (since opened n (n - n))) (outcome set w₁ opened₁ n inner) (tree_at set.variables levels rows i) g.is g.ready.ordered (well z).ran;
+    pub term_fine : Fine set w₁ inner
+    term_fine = record {
+      sound = t.sound;
+      ordered = ran_ordered readings (state_at set w taken (since opened n (n - n))) (outcome set w₁ opened₁ n inner) (tree_at set.variables levels rows i) g.is g.ready.ordered well.ran;
     }
 
     inner_ready : InnerReady set w₁ inner
     inner_ready = record { tidy = t.tidy; fine = term_fine }
 
-    pub term_taken : inner.fault ≡ 0 → inner.taken ≤ taken + boxes_at (tree_at set.variables levels rows i)
-    term_taken z = ran_taken readings (state_at set w taken (since opened n (n - n))) (outcome set w₁ opened₁ n inner) (tree_at set.variables levels rows i) g.is (well z).ran
+    pub term_taken : inner.taken ≤ taken + boxes_at (tree_at set.variables levels rows i)
+    term_taken = ran_taken readings (state_at set w taken (since opened n (n - n))) (outcome set w₁ opened₁ n inner) (tree_at set.variables levels rows i) g.is well.ran
 
   module _ (rows : List ℕ) (i levels : ℕ) (readings : List ℤ) (w opened : List ℕ) (n taken : ℕ) (g : TermReady set rows i levels readings w opened n taken) where
     pub term_room : i + 1 ≤ set.terms
@@ -145,22 +141,29 @@ module _ (set : Limits) where
         }
 
       module _ (rule : Outcome → Ran Outcome) (runs : (t : Term) (s : State) → run (bits_of readings) (f t) s ≡ (run (bits_of readings) t s >>= rule))
-          (w₁ opened₁ : List ℕ) (inner : Standing) (t : TermRan set rows (i + 1) (levels - 1) readings w opened n taken w₁ opened₁ inner) where
-        around_is : (begin : ℕ) → begin ≤ n → sequel (stood set w₁ opened₁ begin inner) rule ≡ run_at readings (tree_at set.variables levels rows i) (state_at set w taken (since opened begin (n - begin)))
-        around_is begin h =
+          (w₁ opened₁ : List ℕ) where
+        around_is : (inner : Stands) → TermRan set rows (i + 1) (levels - 1) readings w opened n taken w₁ opened₁ inner → (begin : ℕ) → begin ≤ n → sequel (stood set w₁ opened₁ begin inner) rule ≡ run_at readings (tree_at set.variables levels rows i) (state_at set w taken (since opened begin (n - begin)))
+        around_is inner t begin h =
             let s : State = state_at set w taken (since opened begin (n - begin)) in
             ap (λ (m : Stood). sequel m rule) (t.is begin h)
             ∙ around_run readings f (run (bits_of readings)) rule s s (λ x. runs x s) next next_is
             ∙ ap (λ (d : RowTree Term). run_at readings d s) (sym e)
 
+        -- A fault goes onwards.
+        around_stops : (x : Refusal) → TermRan set rows (i + 1) (levels - 1) readings w opened n taken w₁ opened₁ (Err x) → TermRan set rows i levels readings w opened n taken w₁ opened₁ (Err x)
+        unfolding sequel
+        around_stops x t = record { tidy = t.tidy; is = around_is (Err x) t; sound = tt; opens = tt }
+
         -- Where the rule opens no variable.
-        around_returns : (w₂ : List ℕ) (r : Standing) → Tidy set w₂ → ((begin : ℕ) → stood set w₂ opened₁ begin r ≡ sequel (stood set w₁ opened₁ begin inner) rule) → (r.fault ≡ 0 → Went set inner r) → (r.fault ≡ 0 → r.opened ≡ inner.opened) → TermRan set rows i levels readings w opened n taken w₂ opened₁ r
-        around_returns w₂ r tidy is went count = record {
-          tidy = tidy;
-          is = λ begin h. is begin ∙ around_is begin h;
-          sound = λ z. (went z).sound;
-          opens = λ z. same_opened opened opened₁ n r.opened inner.opened i r.next inner.next (count z) (went z).next (next_opened opened opened₁ n inner.opened i inner.next (t.opens (went z).fine));
-        }
+        module _ (inner : Standing) (t : TermRan set rows (i + 1) (levels - 1) readings w opened n taken w₁ opened₁ (Ok inner)) where
+          around_returns : (w₂ : List ℕ) (r : Stands) → Tidy set w₂ → ((begin : ℕ) → stood set w₂ opened₁ begin r ≡ sequel (stood set w₁ opened₁ begin (Ok inner)) rule) → IfOk r (λ s. Went set inner s) → IfOk r (λ s. s.opened ≡ inner.opened) → TermRan set rows i levels readings w opened n taken w₂ opened₁ r
+          around_returns w₂ (Ok r) tidy is went count = record {
+            tidy = tidy;
+            is = λ begin h. is begin ∙ around_is (Ok inner) t begin h;
+            sound = went.sound;
+            opens = same_opened opened opened₁ n r.opened inner.opened i r.next inner.next count went.next (next_opened opened opened₁ n inner.opened i inner.next t.opens);
+          }
+          around_returns w₂ (Err x) tidy is went count = record { tidy = tidy; is = λ begin h. is begin ∙ around_is (Ok inner) t begin h; sound = tt; opens = tt }
 
     -- ---- box
 
@@ -172,14 +175,18 @@ module _ (set : Limits) where
       pub box_ready : TermReady set rows (i + 1) (levels - 1) readings w opened n taken
       box_ready = around_ready (box i) (box_is set.variables levels rows i g.is e) 1 box_cells
 
-      module _ (w₁ opened₁ : List ℕ) (inner : Standing) (t : TermRan set rows (i + 1) (levels - 1) readings w opened n taken w₁ opened₁ inner) where
+      pub box_stops : (w₁ opened₁ : List ℕ) (x : Refusal) → TermRan set rows (i + 1) (levels - 1) readings w opened n taken w₁ opened₁ (Err x) → TermRan set rows i levels readings w opened n taken w₁ opened₁ (Err x)
+      unfolding run
+      box_stops w₁ opened₁ x t = around_stops (box i) (box_is set.variables levels rows i g.is e) (λ o. run_box o.0 o.1) (λ x s. refl) w₁ opened₁ x t
+
+      module _ (w₁ opened₁ : List ℕ) (inner : Standing) (t : TermRan set rows (i + 1) (levels - 1) readings w opened n taken w₁ opened₁ (Ok inner)) where
         pub box_filling : BoxReady set w₁ inner
         box_filling = record {
           ready = inner_ready rows (i + 1) (levels - 1) readings w opened n taken box_ready w₁ opened₁ inner t;
-          few = λ z. omega (arith, next_cells (box i) (box_is set.variables levels rows i g.is e) 1 box_cells, term_taken rows (i + 1) (levels - 1) readings w opened n taken box_ready w₁ opened₁ inner t z);
+          few = omega (arith, next_cells (box i) (box_is set.variables levels rows i g.is e) 1 box_cells, term_taken rows (i + 1) (levels - 1) readings w opened n taken box_ready w₁ opened₁ inner t);
         }
 
-        pub box_returns : (w₂ : List ℕ) (r : Standing) → Boxed set w₁ inner w₂ r → TermRan set rows i levels readings w opened n taken w₂ opened₁ r
+        pub box_returns : (w₂ : List ℕ) (r : Stands) → Boxed set w₁ inner w₂ r → TermRan set rows i levels readings w opened n taken w₂ opened₁ r
         unfolding run
         box_returns w₂ r b = around_returns (box i) (box_is set.variables levels rows i g.is e) (λ o. run_box o.0 o.1) (λ x s. refl) w₁ opened₁ inner t w₂ r b.tidy (b.is opened₁) b.went b.count
 
@@ -190,17 +197,21 @@ module _ (set : Limits) where
       unfolding boxes_in
       let_ready = around_ready (declare i (field_at rows i 1)) (let_is set.variables levels rows i g.is e) 0 (λ t. omega arith)
 
-      module _ (w₁ opened₁ : List ℕ) (inner : Standing) (t : TermRan set rows (i + 1) (levels - 1) readings w opened n taken w₁ opened₁ inner) (long : length opened₁ ≡ length opened) where
+      pub let_stops : (w₁ opened₁ : List ℕ) (x : Refusal) → TermRan set rows (i + 1) (levels - 1) readings w opened n taken w₁ opened₁ (Err x) → TermRan set rows i levels readings w opened n taken w₁ opened₁ (Err x)
+      unfolding run
+      let_stops w₁ opened₁ x t = around_stops (declare i (field_at rows i 1)) (let_is set.variables levels rows i g.is e) (λ o. run_let o.0 i (field_at rows i 1) o.1) (λ x s. refl) w₁ opened₁ x t
+
+      module _ (w₁ opened₁ : List ℕ) (inner : Standing) (t : TermRan set rows (i + 1) (levels - 1) readings w opened n taken w₁ opened₁ (Ok inner)) (long : length opened₁ ≡ length opened) where
         pub let_opening : LetReady set w₁ opened₁ (field_at rows i 1) inner
         let_opening = record {
           ready = inner_ready rows (i + 1) (levels - 1) readings w opened n taken let_ready w₁ opened₁ inner t;
           variable = let_number set.variables levels rows i g.is e;
-          few = λ z. omega (arith, (t.opens z).few, (t.opens z).room, g.ready.few, g.ready.many);
+          few = let o = t.opens in omega (arith, o.few, o.room, g.ready.few, g.ready.many);
         }
 
-        pushed_opened : (opened₂ : List ℕ) (r : Standing) → inner.fault ≡ 0 → Pushed opened₁ (field_at rows i 1) inner opened₂ r → r.next ≡ inner.next → Opened set opened opened₂ n r.opened i r.next
-        pushed_opened opened₂ r z p q =
-            let o = t.opens z in
+        pushed_opened : (opened₂ : List ℕ) (r : Standing) → Pushed opened₁ (field_at rows i 1) inner opened₂ r → r.next ≡ inner.next → Opened set opened opened₂ n r.opened i r.next
+        pushed_opened opened₂ r p q =
+            let o = t.opens in
             let a = o.few in
             let m = o.more in
             let b = p.count in
@@ -213,19 +224,18 @@ module _ (set : Limits) where
             }
           where
             go : (k : ℕ) → Dec (k ≡ inner.opened) → k < suc inner.opened → get_or (lists.set opened₁ inner.opened (field_at rows i 1)) k 0 < set.variables
-            go k (yes s) h = rw (s, get_or-set_same opened₁ inner.opened (field_at rows i 1) 0 (let_opening.few z)) let_opening.variable
-            go k (no s) h = rw (get_or-set_other opened₁ inner.opened k (field_at rows i 1) 0 s) ((t.opens z).listed k (omega arith))
+            go k (yes s) h = rw (s, get_or-set_same opened₁ inner.opened (field_at rows i 1) 0 let_opening.few) let_opening.variable
+            go k (no s) h = rw (get_or-set_other opened₁ inner.opened k (field_at rows i 1) 0 s) (t.opens.listed k (omega arith))
 
-        pub let_returns : (w₂ opened₂ : List ℕ) (r : Standing) → Declared set w₁ opened₁ i (field_at rows i 1) inner w₂ opened₂ r → TermRan set rows i levels readings w opened n taken w₂ opened₂ r
+        let_is_run : (w₂ opened₂ : List ℕ) (r : Stands) → Declared set w₁ opened₁ i (field_at rows i 1) inner w₂ opened₂ r → (begin : ℕ) → begin ≤ n → stood set w₂ opened₂ begin r ≡ run_at readings (tree_at set.variables levels rows i) (state_at set w taken (since opened begin (n - begin)))
         unfolding run
-        let_returns w₂ opened₂ r b = record {
-          tidy = b.tidy;
-          is = λ begin h.
-              b.is begin (λ z. omega (arith, (t.opens z).more))
-              ∙ around_is (declare i (field_at rows i 1)) (let_is set.variables levels rows i g.is e) (λ o. run_let o.0 i (field_at rows i 1) o.1) (λ x s. refl) w₁ opened₁ inner t begin h;
-          sound = λ z. (b.went z).sound;
-          opens = λ z. pushed_opened opened₂ r (b.went z).fine (b.pushed z) (b.went z).next;
-        }
+        let_is_run w₂ opened₂ r b begin h =
+            b.is begin (omega (arith, t.opens.more))
+            ∙ around_is (declare i (field_at rows i 1)) (let_is set.variables levels rows i g.is e) (λ o. run_let o.0 i (field_at rows i 1) o.1) (λ x s. refl) w₁ opened₁ (Ok inner) t begin h
+
+        pub let_returns : (w₂ opened₂ : List ℕ) (r : Stands) → Declared set w₁ opened₁ i (field_at rows i 1) inner w₂ opened₂ r → TermRan set rows i levels readings w opened n taken w₂ opened₂ r
+        let_returns w₂ opened₂ (Ok r) b = record { tidy = b.tidy; is = let_is_run w₂ opened₂ (Ok r) b; sound = b.went.sound; opens = pushed_opened opened₂ r b.pushed b.went.next }
+        let_returns w₂ opened₂ (Err x) b = record { tidy = b.tidy; is = let_is_run w₂ opened₂ (Err x) b; sound = tt; opens = tt }
 
     -- ---- assign
 
@@ -234,11 +244,15 @@ module _ (set : Limits) where
       unfolding boxes_in
       assign_ready = around_ready (assign i (place_at rows i 1)) (assign_is set.variables levels rows i g.is e) 0 (λ t. omega arith)
 
-      module _ (w₁ opened₁ : List ℕ) (inner : Standing) (t : TermRan set rows (i + 1) (levels - 1) readings w opened n taken w₁ opened₁ inner) where
+      pub assign_stops : (w₁ opened₁ : List ℕ) (x : Refusal) → TermRan set rows (i + 1) (levels - 1) readings w opened n taken w₁ opened₁ (Err x) → TermRan set rows i levels readings w opened n taken w₁ opened₁ (Err x)
+      unfolding run
+      assign_stops w₁ opened₁ x t = around_stops (assign i (place_at rows i 1)) (assign_is set.variables levels rows i g.is e) (λ o. run_assign o.0 i (place_at rows i 1) o.1) (λ x s. refl) w₁ opened₁ x t
+
+      module _ (w₁ opened₁ : List ℕ) (inner : Standing) (t : TermRan set rows (i + 1) (levels - 1) readings w opened n taken w₁ opened₁ (Ok inner)) where
         pub assigning : InnerReady set w₁ inner
         assigning = inner_ready rows (i + 1) (levels - 1) readings w opened n taken assign_ready w₁ opened₁ inner t
 
-        pub assign_returns : (w₂ : List ℕ) (r : Standing) → Assigned set w₁ i (field_at rows i 1) (field_at rows i 2) inner w₂ r → TermRan set rows i levels readings w opened n taken w₂ opened₁ r
+        pub assign_returns : (w₂ : List ℕ) (r : Stands) → Assigned set w₁ i (field_at rows i 1) (field_at rows i 2) inner w₂ r → TermRan set rows i levels readings w opened n taken w₂ opened₁ r
         unfolding run
         assign_returns w₂ r b =
             around_returns (assign i (place_at rows i 1)) (assign_is set.variables levels rows i g.is e) (λ o. run_assign o.0 i (place_at rows i 1) o.1) (λ x s. refl) w₁ opened₁ inner t w₂ r b.tidy (b.is opened₁) b.went b.count
@@ -252,28 +266,22 @@ module _ (set : Limits) where
       pub leaf_ready : LeafReady set rows i readings w
       leaf_ready = record { room = has_room set.variables levels rows i g.is; leaf = subst IsTree tree_leaf g.is; eight = g.ready.eight; tidy = g.ready.tidy }
 
-      leaf_stands : (w₁ : List ℕ) (x : Gave) → LeafRan set rows i readings w w₁ x
-          → TermRan set rows i levels readings w opened n taken w₁ opened (record { fault = x.fault; term = i; kind = x.kind; payload = x.payload; taken = taken; opened = n; next = i + 1 })
-      unfolding stood gave seen at_row stood_on
-      leaf_stands w₁ x y = record {
+      leaf_is_run : (w₁ : List ℕ) (x : Result Value Reason) → LeafRan set rows i readings w w₁ x → (begin : ℕ) → at_row (i + 1) (seen (gave set w₁ taken (since opened begin (n - begin)) i x)) ≡ run_at readings (tree_at set.variables levels rows i) (state_at set w taken (since opened begin (n - begin)))
+      unfolding stood_on
+      leaf_is_run w₁ x y begin =
+          ap (λ (m : Ran Outcome). at_row (i + 1) (seen m)) (y.is taken (since opened begin (n - begin)))
+          ∙ ap (λ (j : ℕ). at_row j (seen (run_on readings (leaf_at set rows i) (state_at set w taken (since opened begin (n - begin)))))) (sym (leaf_end set rows i leaf_ready.leaf))
+          ∙ ap (λ (d : RowTree Term). at_row (end_of d) (seen (run_on readings d (state_at set w taken (since opened begin (n - begin)))))) (sym tree_leaf)
+
+      leaf_stands : (w₁ : List ℕ) (x : Result Value Reason) → LeafRan set rows i readings w w₁ x → TermRan set rows i levels readings w opened n taken w₁ opened (plain_stands i n taken x)
+      unfolding seen at_row
+      leaf_stands w₁ (Ok v) y = record {
         tidy = y.tidy;
-        is = λ begin h.
-            go begin (eqb x.fault 0)
-            ∙ ap (λ (m : Ran Outcome). at_row (i + 1) (seen m)) (y.is taken (since opened begin (n - begin)))
-            ∙ ap (λ (j : ℕ). at_row j (seen (run_on readings (leaf_at set rows i) (state_at set w taken (since opened begin (n - begin)))))) (sym (leaf_end set rows i leaf_ready.leaf))
-            ∙ whole begin;
-        sound = λ z. y.sound;
-        opens = λ z. record { kept = λ k h. refl; more = omega arith; few = omega arith; listed = g.ready.listed; room = term_room };
+        is = λ begin h. leaf_is_run w₁ (Ok v) y begin;
+        sound = y.sound;
+        opens = record { kept = λ k h. refl; more = omega arith; few = omega arith; listed = g.ready.listed; room = term_room };
       }
-        where
-          go : (begin : ℕ) (p : Bool)
-              → ◌≡◌ {A = Stood} (pick p (ok ((state_at set w₁ taken (since opened begin (n - begin)), value_of set x.kind x.payload), i + 1)) (err (record { number = x.fault; term = i; store = store_of set w₁ })))
-              (at_row (i + 1) (seen (pick p (good_value (state_at set w₁ taken (since opened begin (n - begin))) (value_of set x.kind x.payload)) (fault x.fault i (state_at set w₁ taken (since opened begin (n - begin)))))))
-          go begin true = refl
-          go begin false = refl
+      leaf_stands w₁ (Err x) y = record { tidy = y.tidy; is = λ begin h. leaf_is_run w₁ (Err x) y begin; sound = tt; opens = tt }
 
-          whole : (begin : ℕ) → at_row (end_of (leaf_at set rows i)) (seen (run_on readings (leaf_at set rows i) (state_at set w taken (since opened begin (n - begin))))) ≡ run_at readings (tree_at set.variables levels rows i) (state_at set w taken (since opened begin (n - begin)))
-          whole begin = ap (λ (d : RowTree Term). at_row (end_of d) (seen (run_on readings d (state_at set w taken (since opened begin (n - begin)))))) (sym tree_leaf)
-
-      pub leaf_returns : (w₁ : List ℕ) (r : Standing) → PlainRan set rows i readings w n taken w₁ r → TermRan set rows i levels readings w opened n taken w₁ opened r
+      pub leaf_returns : (w₁ : List ℕ) (r : Stands) → PlainRan set rows i readings w n taken w₁ r → TermRan set rows i levels readings w opened n taken w₁ opened r
       leaf_returns w₁ r x = subst (TermRan set rows i levels readings w opened n taken w₁ opened) (sym x.is) (leaf_stands w₁ x.gives x.ran)

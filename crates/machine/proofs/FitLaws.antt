@@ -1,17 +1,20 @@
--- What the number of the caller's refusal says of the set and the lengths (LANGUAGE 5.3, 5.8).
-use Prim.Native.Nat.{ℕ, zero, suc}
-use mathlib.Core.Path.{◌≡◌, refl, sym, ◌∙◌, subst}
-use mathlib.Core.Bool.{Bool, true, false}
+-- What the caller's refusal says of the set and the lengths (LANGUAGE 5.3, 5.8).
+use Prim.Native.Nat.{ℕ}
+use mathlib.Core.Path.{◌≡◌, sym}
+use mathlib.Core.Bool.{true}
 use mathlib.Core.List.{List}
 use lib.IntN.{ℤ}
 use lib.ListN.{length}
 use lib.Dec.{eqb}
 use borrow.Author.Tests.{eqb-true}
-use Rattle.syntax.specs.Result.{ok, err, need, pick, ◌>>=◌}
+use Rattle.std.specs.Prelude.{Ok, Err}
+use Rattle.syntax.specs.Result.{ok, err, need}
+use Rattle.syntax.specs.Refusals.{number_of, told}
+use Rattle.syntax.specs.declared.refusals.Refusal as answer
 use Rattle.syntax.specs.Limits.{Limits, in_ranges, row_numbers, store_numbers}
 use Rattle.syntax.proofs.Answers.{then, needed}
 use Rattle.dynamics.specs.Answers.{run_fits}
-use Rattle.machine.specs.ScriptParts.{fit_number}
+use Rattle.machine.specs.ScriptParts.{fit_of}
 
 -- Set and lengths fit.
 pub record Fit (l : Limits) (rows : List ℕ) (readings : List ℤ) (store : List ℕ) : Type 0 where
@@ -22,22 +25,6 @@ pub record Fit (l : Limits) (rows : List ℕ) (readings : List ℤ) (store : Lis
   pub eight : length readings ≡ 8
 
 module _ (l : Limits) (rows : List ℕ) (readings : List ℤ) (store : List ℕ) where
-  Says : ℕ → Type 0
-  Says zero = Fit l rows readings store
-  Says (suc n) = run_fits l rows readings store ≡ err (suc n, 0)
-
-  says : Says (fit_number l (length rows) (length store) (length readings))
-  unfolding Says fit_number run_fits need ◌>>=◌
-  says = go (in_ranges l) (eqb (length rows) (row_numbers l)) (eqb (length store) (store_numbers l)) (eqb (length readings) 8) refl refl refl refl
-    where
-      go : (r a b c : Bool) → in_ranges l ≡ r → eqb (length rows) (row_numbers l) ≡ a → eqb (length store) (store_numbers l) ≡ b → eqb (length readings) 8 ≡ c
-          → Says (pick r (pick a (pick b (pick c 0 4) 3) 2) 74)
-      go false a b c q e f g = rw q refl
-      go true false b c q e f g = rw (q, e) refl
-      go true true false c q e f g = rw (q, e, f) refl
-      go true true true false q e f g = rw (q, e, f, g) refl
-      go true true true true q e f g = record { fits = rw (q, e, f, g) refl; ranges = q; long = eqb-true _ _ e; size = eqb-true _ _ f; eight = eqb-true _ _ g }
-
   pub fit_says : (u : Unit {0}) → run_fits l rows readings store ≡ ok u → Fit l rows readings store
   unfolding run_fits
   fit_says u h =
@@ -52,15 +39,11 @@ module _ (l : Limits) (rows : List ℕ) (readings : List ℤ) (store : List ℕ)
         eight = eqb-true _ _ (needed _ _ u c.2);
       }
 
-  module _ (n : ℕ) (e : n ≡ fit_number l (length rows) (length store) (length readings)) where
-    pub unfit : (n ≡ 0 → ⊥) → run_fits l rows readings store ≡ err (n, 0)
-    unfolding Says
-    unfit = go n (subst Says (sym e) says)
-      where
-        go : (k : ℕ) → Says k → (k ≡ 0 → ⊥) → run_fits l rows readings store ≡ err (k, 0)
-        go zero s h = absurd (h refl)
-        go (suc k) s h = s
+  -- The same by the code's answer.
+  pub all_fit : (u : Unit {0}) → told (λ x. x) (Ok u) ≡ fit_of l (length rows) (length store) (length readings) → Fit l rows readings store
+  unfolding fit_of run_fits
+  all_fit u h = fit_says u (sym h)
 
-    pub all_fit : n ≡ 0 → Fit l rows readings store
-    unfolding Says
-    all_fit z = subst Says (sym e ∙ z) says
+  pub unfit : (e : answer.Refusal) → told (λ x. x) (Err e) ≡ fit_of l (length rows) (length store) (length readings) → run_fits l rows readings store ≡ err (number_of e.reason, e.place)
+  unfolding fit_of run_fits
+  unfit e h = sym h

@@ -10,6 +10,13 @@ use lib.ListN.{length, get_or}
 use mir.Syntax.{w32}
 use mir.Val.{to_z}
 use borrow.Author.Tests.{eq-eqb}
+use Rattle.std.specs.Prelude.{Ok, Err}
+use Rattle.syntax.specs.Refusals.{number_of, told}
+use Rattle.syntax.specs.declared.refusals.Refusal as answer
+use Rattle.syntax.specs.declared.refusals.Reason.TheVariants.{WrongKind}
+use Rattle.syntax.proofs.FormNumbers.{form_numbers}
+use Rattle.store.specs.declared.store.Value as held
+use Rattle.store.specs.declared.store.Value.TheVariants as value
 use Rattle.syntax.specs.Result.{Result, ok, err, Refusal, need, ◌>>=◌}
 use Rattle.syntax.specs.Limits.{Limits, in_ranges, row_numbers, store_rows, store_numbers}
 use Rattle.syntax.specs.Script.{Term}
@@ -17,9 +24,7 @@ use Rattle.syntax.specs.Layout.{zeros}
 use Rattle.syntax.specs.Measures.{size}
 use Rattle.syntax.specs.Reader.{decode}
 use Rattle.syntax.specs.RowTrees.{RowTree, IsTree, tree_at}
-use Rattle.reader.specs.Outcomes.{told}
 use Rattle.syntax.specs.Answers.{rows_tree, judged_of}
-use Rattle.reader.specs.declared.Outcome.TheVariants as judgement
 use Rattle.syntax.proofs.Answers.{then}
 use Rattle.reader.proofs.Promise.{Decoded, tree_decoded}
 use Rattle.syntax.proofs.Ranges.{Ranged, ranged}
@@ -29,21 +34,19 @@ use Rattle.dynamics.specs.Locate.{number_in}
 use Rattle.dynamics.specs.Run.{Outcome, run, run_script}
 use Rattle.dynamics.specs.Encode.{encode}
 use Rattle.dynamics.specs.Answers.{answered, refused, faulted, AnswerAndStore, run_fits, runnable, ran_into, run_into, unchecked_of}
-use Rattle.machine.specs.Outcomes.{told_unchecked}
+use Rattle.machine.specs.Outcomes.{told_ran, told_unchecked}
 use Rattle.dynamics.specs.Readings.{bits_of}
-use Rattle.store.specs.Words.{value_of, store_of}
+use Rattle.store.specs.Words.{as_value, store_of}
 use Rattle.store.specs.StoreParts.{state_at, since}
-use Rattle.term_runner.specs.Parts.{Stop, seen, Stood, at_row, outcome, stood, EndReady, BlockClosed, end_of, boxes_by, stood_on, run_at, TermReady, TermRan, BlockReady, BlockRan}
+use Rattle.term_runner.specs.Parts.{Stop, seen, Stood, at_row, outcome, Stands, stood, EndReady, BlockClosed, end_of, boxes_by, stood_on, run_at, TermReady, TermRan, BlockReady, BlockRan}
 use Rattle.term_runner.specs.LeafParts.{ran_on}
 use Rattle.machine.specs.ScriptParts.{ScriptReady, script_on, script_ran, RunReady}
 use Rattle.term_runner.specs.declared.around.Standing.{Standing}
-use Rattle.machine.specs.declared.UncheckedOutcome.TheVariants as out
+use Rattle.machine.specs.declared.Stopped.TheVariants as out
 use Rattle.store.proofs.WordLaws.{cleared_store, cleared_tidy}
-use Rattle.store.proofs.LocateLaws.{value_number}
 use Rattle.term_runner.proofs.LeafLaws.{no_number}
-use Rattle.term_runner.proofs.AroundLaws.{stood_stops, stood_goes}
 use Rattle.block_runner.proofs.TermLaws.{same_ran}
-use Rattle.block_runner.proofs.BlockRunLaws.{block_ready, block_ending, block_returns}
+use Rattle.block_runner.proofs.BlockRunLaws.{block_ready, block_stops, block_ending, block_returns}
 use Rattle.dynamics.proofs.JudgedRows.{Runnable, judged}
 
 -- The state in which a run begins.
@@ -71,14 +74,14 @@ module _ (set : Limits) where
         let p : ◌≡◌ {A = Stop} (record { number = n; term = i; store = store_of set w }) (record { number = f.number; term = f.term; store = f.state.store }) = cc in
         ap (λ (x : List ℕ). (faulted n i, x)) (sym words) ∙ ap stopped p ∙ sym (rw q)
 
-    module _ (taken : ℕ) (opened : List ℕ) (k p : ℕ) (q : run (bits_of readings) t start ≡ ok (state_at set w taken opened, value_of set k p)) where
-      wrong_ends : (k ≡ 1 → ⊥) → ◌≡◌ {A = AnswerAndStore} (faulted 61 0, w) (ran_into set (run_script (bits_of readings) t (λ x. closed)))
+    module _ (taken : ℕ) (opened : List ℕ) (v : held.Value) (q : run (bits_of readings) t start ≡ ok (state_at set w taken opened, as_value set v)) where
+      wrong_ends : ((n : ℕ) → v ≡ value.Number n → ⊥) → ◌≡◌ {A = AnswerAndStore} (faulted 61 0, w) (ran_into set (run_script (bits_of readings) t (λ x. closed)))
       unfolding run_script ran_into ◌>>=◌
-      wrong_ends n = ap (λ (x : List ℕ). (faulted 61 0, x)) (sym words) ∙ sym (rw (q, no_number set (state_at set w taken opened) 0 k p n))
+      wrong_ends n = ap (λ (x : List ℕ). (faulted 61 0, x)) (sym words) ∙ sym (rw (q, no_number set (state_at set w taken opened) 0 v n))
 
-      number_ends : k ≡ 1 → ◌≡◌ {A = AnswerAndStore} (answered (to_z w32 p) taken, w) (ran_into set (run_script (bits_of readings) t (λ x. closed)))
+      number_ends : (p : ℕ) → v ≡ value.Number p → ◌≡◌ {A = AnswerAndStore} (answered (to_z w32 p) taken, w) (ran_into set (run_script (bits_of readings) t (λ x. closed)))
       unfolding run_script ran_into number_in ◌>>=◌
-      number_ends n = ap (λ (x : List ℕ). (answered (to_z w32 p) taken, x)) (sym words) ∙ sym (rw (q, value_number set k p n))
+      number_ends p n = ap (λ (x : List ℕ). (answered (to_z w32 p) taken, x)) (sym words) ∙ sym (rw (q, n))
 
   -- The same of a term that stands in rows.
   module _ (readings : List ℤ) (w : List ℕ) (words : encode set.variables (store_rows set) (store_of set w) ≡ w) where
@@ -92,15 +95,15 @@ module _ (set : Limits) where
       unfolding stood_on ran_on end_of
       tree_ran t q = (same_ran (run (bits_of readings) t.0 start) (outcome set w opened 0 r) r.next t.1 q).0
 
-      tree_wrong : (d : RowTree Term) → IsTree d → ◌≡◌ {A = Stood} (ok (outcome set w opened 0 r, r.next)) (run_at readings d start) → (r.kind ≡ 1 → ⊥) → ◌≡◌ {A = AnswerAndStore} (faulted 61 0, w) (script_on set readings d)
+      tree_wrong : (d : RowTree Term) → IsTree d → ◌≡◌ {A = Stood} (ok (outcome set w opened 0 r, r.next)) (run_at readings d start) → ((n : ℕ) → r.value ≡ value.Number n → ⊥) → ◌≡◌ {A = AnswerAndStore} (faulted 61 0, w) (script_on set readings d)
       unfolding script_on
       tree_wrong none h q k = absurd h
-      tree_wrong (some t) h q k = wrong_ends readings t.0 w words r.taken (since opened 0 (r.opened - 0)) r.kind r.payload (tree_ran t q) k
+      tree_wrong (some t) h q k = wrong_ends readings t.0 w words r.taken (since opened 0 (r.opened - 0)) r.value (tree_ran t q) k
 
-      tree_answers : (d : RowTree Term) → IsTree d → ◌≡◌ {A = Stood} (ok (outcome set w opened 0 r, r.next)) (run_at readings d start) → r.kind ≡ 1 → ◌≡◌ {A = AnswerAndStore} (answered (to_z w32 r.payload) r.taken, w) (script_on set readings d)
+      tree_answers : (d : RowTree Term) → IsTree d → ◌≡◌ {A = Stood} (ok (outcome set w opened 0 r, r.next)) (run_at readings d start) → (p : ℕ) → r.value ≡ value.Number p → ◌≡◌ {A = AnswerAndStore} (answered (to_z w32 p) r.taken, w) (script_on set readings d)
       unfolding script_on
-      tree_answers none h q k = absurd h
-      tree_answers (some t) h q k = number_ends readings t.0 w words r.taken (since opened 0 (r.opened - 0)) r.kind r.payload (tree_ran t q) k
+      tree_answers none h q p k = absurd h
+      tree_answers (some t) h q p k = number_ends readings t.0 w words r.taken (since opened 0 (r.opened - 0)) r.value (tree_ran t q) p k
 
   -- ---- what the lengths and the reader make of the answer
 
@@ -109,32 +112,41 @@ module _ (set : Limits) where
   refused_rows readings w (ok t) n p q = let z : ◌≡◌ {A = ℕ} 0 1 = cc in absurd (omega arith)
   refused_rows readings w (err e) n p q = let z : ◌≡◌ {A = Refusal} (n, p) e = cc in ap (λ (x : Refusal). (refused x.0 x.1, w)) z
 
+  judged_decoded : (rows : List ℕ) → in_ranges set ≡ true → length rows ≡ row_numbers set → judged_of set rows ≡ (decode set rows >>= λ t. ok (size t))
+  unfolding judged_of rows_tree need ◌>>=◌
+  judged_decoded rows i a = rw (i, eq-eqb (length rows) (row_numbers set) a)
+
+  -- The numbers by which rows that fit can be refused.
+  pub refusal_numbers : (rows : List ℕ) → in_ranges set ≡ true → length rows ≡ row_numbers set → (n p : ℕ) → err (n, p) ≡ judged_of set rows → (12 ≤ n) × (n ≤ 19)
+  unfolding ◌>>=◌
+  refusal_numbers rows i a n p q = go (decode set rows) refl (q ∙ judged_decoded rows i a)
+    where
+      go : (m : Result Refusal Term) → decode set rows ≡ m → ◌≡◌ {A = Result Refusal ℕ} (err (n, p)) (m >>= λ t. ok (size t)) → (12 ≤ n) × (n ≤ 19)
+      go (ok t) d q = absurd (cc)
+      go (err e) d q = let z : ◌≡◌ {A = Refusal} (n, p) e = cc in form_numbers set rows (n, p) (d ∙ ap err (sym z))
+
   module _ (rows : List ℕ) (readings : List ℤ) (w : List ℕ) where
-    pub unfit_refused : (n : ℕ) → run_fits set rows readings w ≡ err (n, 0) → ◌≡◌ {A = AnswerAndStore} (told_unchecked (out.Refused n 0), w) (unchecked_of set rows readings w)
+    pub unfit_refused : (e : answer.Refusal) → run_fits set rows readings w ≡ err (number_of e.reason, e.place) → ◌≡◌ {A = AnswerAndStore} (told_unchecked (Err (out.Refused e)), w) (unchecked_of set rows readings w)
     unfolding told_unchecked unchecked_of run_into runnable ◌>>=◌
-    unfit_refused n e = rw e
+    unfit_refused e h = rw h
 
     module _ (i : in_ranges set ≡ true) (a : length rows ≡ row_numbers set) (b : length w ≡ store_numbers set) (c : length readings ≡ 8) where
       runs_decoded : runnable set rows readings w ≡ decode set rows
       unfolding runnable run_fits need ◌>>=◌
       runs_decoded = rw (i, eq-eqb (length rows) (row_numbers set) a, eq-eqb (length w) (store_numbers set) b, eq-eqb (length readings) 8 c)
 
-      judged_decoded : judged_of set rows ≡ (decode set rows >>= λ t. ok (size t))
-      unfolding judged_of rows_tree need ◌>>=◌
-      judged_decoded = rw (i, eq-eqb (length rows) (row_numbers set) a)
-
       -- The rows are refused.
-      pub rows_refused : (n p : ℕ) → told (judgement.Refused n p) ≡ judged_of set rows → ◌≡◌ {A = AnswerAndStore} (told_unchecked (out.Refused n p), w) (unchecked_of set rows readings w)
-      unfolding told_unchecked unchecked_of told
-      rows_refused n p q = go (decode set rows) (q ∙ judged_decoded) ∙ ap (run_into set readings w) (sym runs_decoded)
+      pub rows_refused : (e : answer.Refusal) → told (λ (n : ℕ). n) (Err e) ≡ judged_of set rows → ◌≡◌ {A = AnswerAndStore} (told_unchecked (Err (out.Refused e)), w) (unchecked_of set rows readings w)
+      unfolding told_unchecked unchecked_of
+      rows_refused e q = go (decode set rows) (q ∙ judged_decoded rows i a) ∙ ap (run_into set readings w) (sym runs_decoded)
         where
-          go : (m : Result Refusal Term) → ◌≡◌ {A = Result Refusal ℕ} (err (n, p)) (m >>= λ t. ok (size t)) → ◌≡◌ {A = AnswerAndStore} (refused n p, w) (run_into set readings w m)
-          go m q = refused_rows readings w m n p q
+          go : (m : Result Refusal Term) → ◌≡◌ {A = Result Refusal ℕ} (err (number_of e.reason, e.place)) (m >>= λ t. ok (size t)) → ◌≡◌ {A = AnswerAndStore} (refused (number_of e.reason) e.place, w) (run_into set readings w m)
+          go m q = refused_rows readings w m (number_of e.reason) e.place q
 
       -- They are accepted.
       module _ (words : (j : ℕ) → get_or rows j 0 < 4294967296) (terms : ℕ) (q : ok terms ≡ judged_of set rows) where
         script : (t : Term) × (decode set rows ≡ ok t)
-        script = accepted_rows (decode set rows) terms (q ∙ judged_decoded)
+        script = accepted_rows (decode set rows) terms (q ∙ judged_decoded rows i a)
 
         runs : Runnable set rows script.0
         runs = judged set rows script.0 words a script.1
@@ -207,30 +219,46 @@ module _ (set : Limits) where
       pub script_begins : BlockReady set rows 0 (set.levels - 1) readings w₁ opened 0 0
       script_begins = block_ready set rows 0 set.levels readings w₁ opened 0 0 (script_ready opened h) g.root
 
-      module _ (w₂ opened₂ : List ℕ) (inner : Standing) (t : BlockRan set rows 0 (set.levels - 1) readings w₁ opened 0 0 w₂ opened₂ inner) where
-        pub script_closes : length opened₂ ≡ length opened → EndReady set w₂ opened₂ 0 inner
-        script_closes long = block_ending set rows 0 set.levels readings w₁ opened 0 0 (script_ready opened h) g.root w₂ opened₂ inner t long
+      -- How the outermost block can end.
+      module _ (w₃ opened₃ : List ℕ) where
+        ran : (r : Stands) → TermRan set rows 0 set.levels readings w₁ opened 0 0 w₃ opened₃ r → stood set w₃ opened₃ 0 r ≡ run_at readings (tree_at set.variables set.levels rows 0) start
+        unfolding since
+        ran r t = t.is 0 (omega arith) ∙ ap (λ (S : Store). run_at readings (tree_at set.variables set.levels rows 0) (record { store = S; taken = 0; opened = [] })) closed_now
 
-        module _ (w₃ : List ℕ) (r : Standing) (b : BlockClosed set w₂ opened₂ 0 0 inner w₃ r) where
-          term_ran : TermRan set rows 0 set.levels readings w₁ opened 0 0 w₃ opened₂ r
-          term_ran = block_returns set rows 0 set.levels readings w₁ opened 0 0 (script_ready opened h) g.root w₂ opened₂ inner t w₃ r b
+        -- A fault of a term, or of the closing.
+        ends_faulted : (e : answer.Refusal) → TermRan set rows 0 set.levels readings w₁ opened 0 0 w₃ opened₃ (Err e) → ◌≡◌ {A = AnswerAndStore} (told_ran (Err e), w₃) (unchecked_of set rows readings w)
+        unfolding script_ran told_ran
+        ends_faulted e t = tree_faults readings w₃ t.tidy.words (tree_at set.variables set.levels rows 0) g.is (number_of e.reason) e.place (ran (Err e) t) ∙ run_is rows readings w ready words
 
-          ran : stood set w₃ opened₂ 0 r ≡ run_at readings (tree_at set.variables set.levels rows 0) start
-          unfolding since
-          ran = term_ran.is 0 (omega arith) ∙ ap (λ (S : Store). run_at readings (tree_at set.variables set.levels rows 0) (record { store = S; taken = 0; opened = [] })) closed_now
+        module _ (r : Standing) (t : TermRan set rows 0 set.levels readings w₁ opened 0 0 w₃ opened₃ (Ok r)) where
+          -- The answer is no number.
+          ends_wrong : ((n : ℕ) → r.value ≡ value.Number n → ⊥) → ◌≡◌ {A = AnswerAndStore} (told_ran (Err (record { reason = WrongKind; place = 0 })), w₃) (unchecked_of set rows readings w)
+          unfolding script_ran told_ran
+          ends_wrong k = tree_wrong readings w₃ t.tidy.words opened₃ r (tree_at set.variables set.levels rows 0) g.is (ran (Ok r) t) k ∙ run_is rows readings w ready words
 
-          -- A fault of a term.
-          pub script_faults : (r.fault ≡ 0 → ⊥) → ◌≡◌ {A = AnswerAndStore} (told_unchecked (out.Faulted r.fault r.term), w₃) (unchecked_of set rows readings w)
-          unfolding script_ran told_unchecked
-          script_faults n = tree_faults readings w₃ b.tidy.words (tree_at set.variables set.levels rows 0) g.is r.fault r.term (sym (stood_stops set w₃ opened₂ 0 r n) ∙ ran) ∙ run_is rows readings w ready words
+          -- The answer.
+          ends_answered : (p : ℕ) → r.value ≡ value.Number p → (a : ℤ) → a ≡ to_z w32 p → ◌≡◌ {A = AnswerAndStore} (told_ran (Ok (record { answer = a; cells = r.taken })), w₃) (unchecked_of set rows readings w)
+          unfolding script_ran told_ran
+          ends_answered p k a ea = rw ea ((tree_answers readings w₃ t.tidy.words opened₃ r (tree_at set.variables set.levels rows 0) g.is (ran (Ok r) t) p k) ∙ run_is rows readings w ready words)
 
-          module _ (n : r.fault ≡ 0) where
-            -- The answer is no number.
-            pub script_wrong : (r.kind ≡ 1 → ⊥) → ◌≡◌ {A = AnswerAndStore} (told_unchecked (out.Faulted 61 0), w₃) (unchecked_of set rows readings w)
-            unfolding script_ran told_unchecked
-            script_wrong k = tree_wrong readings w₃ b.tidy.words opened₂ r (tree_at set.variables set.levels rows 0) g.is (sym (stood_goes set w₃ opened₂ 0 r n) ∙ ran) k ∙ run_is rows readings w ready words
+      module _ (w₂ opened₂ : List ℕ) where
+        pub script_stops : (e : answer.Refusal) → BlockRan set rows 0 (set.levels - 1) readings w₁ opened 0 0 w₂ opened₂ (Err e) → ◌≡◌ {A = AnswerAndStore} (told_ran (Err e), w₂) (unchecked_of set rows readings w)
+        script_stops e t = ends_faulted w₂ opened₂ e (block_stops set rows 0 set.levels readings w₁ opened 0 0 (script_ready opened h) g.root w₂ opened₂ e t)
 
-            -- The answer.
-            pub script_answers : r.kind ≡ 1 → (a : ℤ) → a ≡ to_z w32 r.payload → ◌≡◌ {A = AnswerAndStore} (told_unchecked (out.Answered a r.taken), w₃) (unchecked_of set rows readings w)
-            unfolding script_ran told_unchecked
-            script_answers k a ea = rw ea ((tree_answers readings w₃ b.tidy.words opened₂ r (tree_at set.variables set.levels rows 0) g.is (sym (stood_goes set w₃ opened₂ 0 r n) ∙ ran) k) ∙ run_is rows readings w ready words)
+        module _ (inner : Standing) (t : BlockRan set rows 0 (set.levels - 1) readings w₁ opened 0 0 w₂ opened₂ (Ok inner)) where
+          pub script_closes : length opened₂ ≡ length opened → EndReady set w₂ opened₂ 0 inner
+          script_closes long = block_ending set rows 0 set.levels readings w₁ opened 0 0 (script_ready opened h) g.root w₂ opened₂ inner t long
+
+          module _ (w₃ : List ℕ) where
+            term_ran : (r : Stands) → BlockClosed set w₂ opened₂ 0 0 inner w₃ r → TermRan set rows 0 set.levels readings w₁ opened 0 0 w₃ opened₂ r
+            term_ran r b = block_returns set rows 0 set.levels readings w₁ opened 0 0 (script_ready opened h) g.root w₂ opened₂ inner t w₃ r b
+
+            pub script_faults : (e : answer.Refusal) → BlockClosed set w₂ opened₂ 0 0 inner w₃ (Err e) → ◌≡◌ {A = AnswerAndStore} (told_ran (Err e), w₃) (unchecked_of set rows readings w)
+            script_faults e b = ends_faulted w₃ opened₂ e (term_ran (Err e) b)
+
+            module _ (r : Standing) (b : BlockClosed set w₂ opened₂ 0 0 inner w₃ (Ok r)) where
+              pub script_wrong : ((n : ℕ) → r.value ≡ value.Number n → ⊥) → ◌≡◌ {A = AnswerAndStore} (told_ran (Err (record { reason = WrongKind; place = 0 })), w₃) (unchecked_of set rows readings w)
+              script_wrong k = ends_wrong w₃ opened₂ r (term_ran (Ok r) b) k
+
+              pub script_answers : (p : ℕ) → r.value ≡ value.Number p → (a : ℤ) → a ≡ to_z w32 p → ◌≡◌ {A = AnswerAndStore} (told_ran (Ok (record { answer = a; cells = r.taken })), w₃) (unchecked_of set rows readings w)
+              script_answers p k a ea = ends_answered w₃ opened₂ r (term_ran (Ok r) b) p k a ea

@@ -1,7 +1,7 @@
 -- What the code that runs a whole script answers. No rule of the language is stated here.
 use Rattle.std.specs.Prelude.{ℕ, ◌≤◌, ◌≡◌, true, List, eqb, ℤ, length}
 use Rattle.std.proofs.Math.Option.{none, some}
-use Rattle.syntax.specs.Result.{ok, pick}
+use Rattle.syntax.specs.Result.{Result, ok, Refusal, need, ◌>>=◌}
 use Rattle.syntax.specs.Limits.{Limits, in_ranges, row_numbers, store_numbers}
 use Rattle.syntax.specs.Script.{Term, number}
 use Rattle.syntax.specs.Answers.{judged_of}
@@ -31,12 +31,13 @@ script_on set readings (some r) = ran_into set (run_script (bits_of readings) r.
 unfoldable pub script_ran : Limits → List ℕ → List ℤ → AnswerAndStore
 script_ran set rows readings = script_on set readings (tree_at set.variables set.levels rows 0)
 
--- The number of the caller's refusal for the set and the lengths of rows, store and readings; 0 for none.
-unfoldable pub fit_number : Limits → ℕ → ℕ → ℕ → ℕ
-fit_number l rows store readings =
-    pick (in_ranges l)
-    (pick (eqb rows (row_numbers l)) (pick (eqb store (store_numbers l)) (pick (eqb readings 8) 0 4) 3) 2)
-    74
+-- The caller's refusal for the set and the lengths of rows, store and readings, by its number and place: 74, then 2, 3, 4.
+unfoldable pub fit_of : Limits → ℕ → ℕ → ℕ → Result Refusal (Unit {0})
+fit_of l rows store readings =
+    need (in_ranges l) (74, 0) >>= λ _.
+    need (eqb rows (row_numbers l)) (2, 0) >>= λ _.
+    need (eqb store (store_numbers l)) (3, 0) >>= λ _.
+    need (eqb readings 8) (4, 0)
 
 -- What the run of judged rows asks: that the rows were judged, and the lengths of the rest.
 pub record RunReady (set : Limits) (rows : List ℕ) (readings : List ℤ) (w : List ℕ) : Type 0 where

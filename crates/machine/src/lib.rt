@@ -1,17 +1,20 @@
 // The store machine (LANGUAGE 4): running a script that is given as term rows.
 #![tactic(auto)]
 
-ghost use Rattle.std.specs.Prelude.{◌≡◌, ◌≤◌, length};
-ghost use Rattle.machine.specs.Outcomes.{told_unchecked};
+ghost use Rattle.std.specs.Prelude.{◌≡◌, ◌≤◌, true, length};
+ghost use Rattle.syntax.specs.Limits.{in_ranges, row_numbers};
+ghost use Rattle.syntax.specs.Refusals.{number_of, told};
+ghost use Rattle.syntax.specs.Answers.{judged_of};
+ghost use Rattle.machine.specs.Outcomes.{told_ran, told_unchecked};
 ghost use Rattle.dynamics.specs.Answers.{unchecked_of};
-ghost use Rattle.machine.specs.ScriptParts.{fit_number, RunReady};
+ghost use Rattle.machine.specs.ScriptParts.{fit_of, RunReady};
 
 use block_runner::terms::run_block;
 use signed::signed::number_of;
-use store::numbers;
-use store::store::clear;
+use store::store::{Value, clear};
 use syntax::limits;
 use syntax::limits::Limits;
+use syntax::refusals::{Reason, Refusal};
 use term_runner::around::close_block;
 
 // The lengths of a list of the variables opened, which has a number for each term: for a set of at most so many terms,
@@ -20,38 +23,63 @@ const SHORT: usize = 512;
 
 const LONG: usize = limits::MOST_TERMS as usize;
 
-// The answer (LANGUAGE 4.20) and the cells taken (4.22); or a refusal and its place; or a fault and its term (5.2).
+// The answer (LANGUAGE 4.20), and the cells taken (4.22).
 #[derive(Clone, Copy)]
-pub enum UncheckedOutcome {
-    Answered(i32, usize),
-    Refused(u32, usize),
-    Faulted(u32, usize),
+pub struct Ran {
+    pub answer: i32,
+    pub cells: usize,
 }
 
-// The run (LANGUAGE 4.4) and its answer (4.20), of rows that the reader accepts under the set (2.8), with memory of the
-// right lengths. `opened` has room for a variable of each term. The set goes down as one number (DECISIONS C32).
+// Why there is no answer: a refusal and its place; or a fault and its term (LANGUAGE 5.2).
+#[derive(Clone, Copy)]
+pub enum Stopped {
+    Refused(Refusal),
+    Faulted(Refusal),
+}
+
+// The run (LANGUAGE 4.4) and its answer (4.20), or its fault, of rows that the reader accepts under the limits (2.8), with
+// memory of the right lengths. `opened` has room for a variable of each term.
 fn run_script(
-    set: Limits,
+    limits: &Limits,
     rows: &[u32],
     readings: &[i32],
     store: &mut [u32],
     opened: &mut [u8],
-) -> UncheckedOutcome
-    requires { RunReady set rows.now readings.now store.old × (set.terms ≤ length opened.old) }
-    ensures { (told_unchecked result, store.new) ≡ unchecked_of set rows.now readings.now store.old }
+) -> Result<Ran, Refusal>
+    requires { RunReady limits.now rows.now readings.now store.old × (limits.now.terms ≤ length opened.old) }
+    ensures { (told_ran result, store.new) ≡ unchecked_of limits.now rows.now readings.now store.old }
 {
     clear(store);
-    let sizes = limits::packed(set);
-    let deeper = set.levels as usize - 1;
-    let inner = run_block(sizes, rows, 0, deeper, readings, store, opened, 0, 0);
-    let ran = close_block(sizes, store, opened, 0, 0, inner);
-    if ran.fault != numbers::NO_FAULT {
-        return UncheckedOutcome::Faulted(ran.fault, ran.term);
+    let deeper = limits.levels as usize - 1;
+    let inner = run_block(limits, rows, 0, deeper, readings, store, opened, 0, 0)?;
+    let ran = close_block(limits, store, opened, 0, 0, inner)?;
+    match ran.value {
+        Value::Number(bits) => Ok(Ran {
+            answer: number_of(bits),
+            cells: ran.taken,
+        }),
+        _ => Err(Refusal {
+            reason: Reason::WrongKind,
+            place: 0,
+        }),
     }
-    if ran.kind != numbers::NUMBER {
-        return UncheckedOutcome::Faulted(numbers::WRONG_KIND, 0);
+}
+
+// The same, with a list of the variables opened that has a number for each of N terms.
+fn run_with<const N: usize>(
+    limits: &Limits,
+    rows: &[u32],
+    readings: &[i32],
+    store: &mut [u32],
+) -> Result<Ran, Stopped>
+    requires { RunReady limits.now rows.now readings.now store.old × (limits.now.terms ≤ N) × (N ≤ 4096) }
+    ensures { (told_unchecked result, store.new) ≡ unchecked_of limits.now rows.now readings.now store.old }
+{
+    let mut opened: [u8; N] = [0; N];
+    match run_script(limits, rows, readings, store, &mut opened) {
+        Ok(ran) => Ok(ran),
+        Err(fault) => Err(Stopped::Faulted(fault)),
     }
-    UncheckedOutcome::Answered(number_of(ran.payload), ran.taken)
 }
 
 // The same, for rows that were judged already. A set of few terms has a short list of the variables opened, so that its
@@ -61,36 +89,63 @@ pub fn run_judged(
     rows: &[u32],
     readings: &[i32],
     store: &mut [u32],
-) -> UncheckedOutcome
+) -> Result<Ran, Stopped>
     requires { RunReady set rows.now readings.now store.old }
     ensures { (told_unchecked result, store.new) ≡ unchecked_of set rows.now readings.now store.old }
 {
     if set.terms as usize <= SHORT {
-        let mut short: [u8; SHORT] = [0; SHORT];
-        return run_script(set, rows, readings, store, &mut short);
+        return run_with::<SHORT>(&set, rows, readings, store);
     }
-    let mut long: [u8; LONG] = [0; LONG];
-    run_script(set, rows, readings, store, &mut long)
+    run_with::<LONG>(&set, rows, readings, store)
 }
 
-// The number of the caller's refusal (LANGUAGE 5.3), for the lengths of rows, store and readings: 74 for the set, then the
-// lowest (5.8); 0 for none.
-pub fn fit_number(set: Limits, rows: usize, store: usize, readings: usize) -> u32
-    ensures { result ≡ fit_number set rows store readings }
+// The caller's refusal (LANGUAGE 5.3), for the lengths of rows, store and readings: 74 for the set, then the lowest (5.8).
+pub fn fit(set: Limits, rows: usize, store: usize, readings: usize) -> Result<(), Refusal>
+    ensures { told (λ u. u) result ≡ fit_of set rows store readings }
 {
-    if !limits::in_ranges(set) {
-        return limits::SET_OUTSIDE;
+    let reason = if !limits::in_ranges(set) {
+        Reason::SetOutside
+    } else if rows != limits::row_numbers(set) {
+        Reason::RowsLength
+    } else if store != limits::store_numbers(set) {
+        Reason::StoreLength
+    } else if readings != limits::READINGS as usize {
+        Reason::ReadingsLength
+    } else {
+        return Ok(());
+    };
+    Err(Refusal { reason, place: 0 })
+}
+
+// The reason of each number by which `judge_rows` refuses rows that fit (LANGUAGE 5.4).
+fn reason_of(number: u32) -> Reason
+    requires { (12 ≤ number) × (number ≤ 19) }
+    ensures { number_of result ≡ number }
+{
+    match number {
+        12 => Reason::Ended,
+        13 => Reason::UnknownKind,
+        14 => Reason::Operand,
+        15 => Reason::TooDeep,
+        16 => Reason::TooManyTerms,
+        17 => Reason::TooManyBoxes,
+        18 => Reason::NoBlock,
+        _ => Reason::LeftOver,
     }
-    if rows != limits::row_numbers(set) {
-        return limits::ROWS_LENGTH;
+}
+
+// The number of terms of rows that fit, or why they are refused (LANGUAGE 5.4).
+fn judge_rows(set: Limits, rows: &[u32]) -> Result<usize, Refusal>
+    requires { (in_ranges set ≡ true) × (length rows.now ≡ row_numbers set) }
+    ensures { told (λ n. n) result ≡ judged_of set rows.now }
+{
+    match reader::judge_rows(set, rows) {
+        reader::Outcome::Count(terms) => Ok(terms),
+        reader::Outcome::Refused(number, row) => Err(Refusal {
+            reason: reason_of(number),
+            place: row,
+        }),
     }
-    if store != limits::store_numbers(set) {
-        return limits::STORE_LENGTH;
-    }
-    if readings != limits::READINGS as usize {
-        return limits::READINGS_LENGTH;
-    }
-    0
 }
 
 // Run unchecked (LANGUAGE 6.7): the script of the term rows, accepted by the check or not, with the readings, under the
@@ -101,16 +156,14 @@ pub fn run_unchecked(
     rows: &[u32],
     readings: &[i32],
     store: &mut [u32],
-) -> UncheckedOutcome
+) -> Result<Ran, Stopped>
     ensures { (told_unchecked result, store.new) ≡ unchecked_of set rows.now readings.now store.old }
 {
-    let number = fit_number(set, rows.len(), store.len(), readings.len());
-    if number != 0 {
-        return UncheckedOutcome::Refused(number, 0);
+    if let Err(refusal) = fit(set, rows.len(), store.len(), readings.len()) {
+        return Err(Stopped::Refused(refusal));
     }
-    let judged = reader::judge_rows(set, rows);
-    match judged {
-        reader::Outcome::Refused(number, row) => UncheckedOutcome::Refused(number, row),
-        reader::Outcome::Count(terms) => run_judged(set, rows, readings, store),
+    match judge_rows(set, rows) {
+        Ok(_) => run_judged(set, rows, readings, store),
+        Err(refusal) => Err(Stopped::Refused(refusal)),
     }
 }

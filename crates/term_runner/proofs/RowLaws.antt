@@ -36,7 +36,7 @@ use Rattle.store.specs.StoreParts.{state_at}
 use Rattle.term_runner.specs.LeafParts.{Copied, Moved, Borrowed, Paired, pair_of, ran_on, run_on, leaf_at, LeafRan}
 use Rattle.term_runner.specs.Parts.{end_of}
 
-kind_byte : (k : Kind) → IsKind (byte_of k)
+pub kind_byte : (k : Kind) → IsKind (byte_of k)
 unfolding byte_of
 kind_byte k_number = omega arith
 kind_byte k_reading = omega arith

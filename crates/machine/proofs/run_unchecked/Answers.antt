@@ -1,20 +1,23 @@
 -- `machine::run_unchecked` meets its contract. Assumes nothing.
-use mathlib.Core.Path.{sym, ap, ◌∙◌}
-use Rattle.reader.specs.Outcomes.{told}
-use Rattle.reader.proofs.Promise.{rows_counted}
+use mathlib.Core.Path.{sym}
 use Rattle.machine.proofs.FitLaws.{unfit, all_fit}
 use Rattle.machine.proofs.ScriptLaws.{unfit_refused, rows_refused}
 use Rattle.machine.proofs.run_unchecked.Goals as goal
 
-pub returns-then-number-ne0 : goal.returns-then-number-ne0
-returns-then-number-ne0 c = unfit_refused _ _ _ _ _ (unfit _ _ _ _ _ c.fit_number-number.ensures c.if-number-ne0.true)
+pub returns-in-Err : goal.returns-in-Err
+returns-in-Err c = unfit_refused _ _ _ _ _ (unfit _ _ _ _ _ c.in-Err.ensures)
+
+pub judge_rows-requires : goal.judge_rows-requires
+judge_rows-requires c =
+    let fit = all_fit _ c.args.rows.now c.args.readings.now c.args.store.now _ c.in_default.ensures in
+    (fit.ranges, fit.long)
 
 pub run_judged-requires : goal.run_judged-requires
 run_judged-requires c =
-    let fit = all_fit _ c.args.rows.now c.args.readings.now c.args.store.now _ c.fit_number-number.ensures c.if-number-ne0.false in
-    record { terms = _; judged = rows_counted _ _ _ _ c.judge_rows-judged.ensures c.in-Count.is; eight = fit.eight; size = fit.size }
+    let fit = all_fit _ c.args.rows.now c.args.readings.now c.args.store.now _ c.in_default.ensures in
+    record { terms = _; judged = sym c.in-Ok.ensures; eight = fit.eight; size = fit.size }
 
-pub returns-in-Refused : goal.returns-in-Refused
-returns-in-Refused c =
-    let fit = all_fit _ c.args.rows.now c.args.readings.now c.args.store.now _ c.fit_number-number.ensures c.if-number-ne0.false in
-    rows_refused _ _ _ _ fit.ranges fit.long fit.size fit.eight _ _ (ap told (sym c.in-Refused.is) ∙ c.judge_rows-judged.ensures)
+pub returns-in-Err-judge_rows : goal.returns-in-Err-judge_rows
+returns-in-Err-judge_rows c =
+    let fit = all_fit _ c.args.rows.now c.args.readings.now c.args.store.now _ c.in_default.ensures in
+    rows_refused _ _ _ _ fit.ranges fit.long fit.size fit.eight _ c.in-Err-judge_rows.ensures

@@ -1,29 +1,11 @@
 -- `block_runner::terms::run_after` meets its contract. Assumes nothing.
-use Rattle.block_runner.proofs.WrapLaws.{after_box, after_let, after_assign, after_last}
-use native.Mathlib.Omega.{arith}
-use mathlib.Core.Path.{sym, ◌∙◌}
+use Rattle.syntax.specs.Parts.{IsKind}
+use Rattle.block_runner.proofs.WrapLaws.{wraps_known, wraps_only}
+use mathlib.Core.Path.{sym, subst, ◌∙◌}
 use Rattle.block_runner.proofs.terms.run_after.Goals as goal
 
-pub run_box-requires : goal.run_box-requires
-run_box-requires c =
-    c.requires.box (sym c.field_at-kind.ensures ∙ c.in-7.is)
+pub unreachable-requires : goal.unreachable-requires
+unreachable-requires c = wraps_known c.args.rows.now c.args.i c.requires.wraps (λ h. c.in_default.ensures (subst IsKind (sym c.field_at.ensures) h))
 
-pub run_let-requires : goal.run_let-requires
-run_let-requires c =
-    rw c.field_at.ensures (c.requires.bind (sym c.field_at-kind.ensures ∙ c.in-8.is))
-
-pub run_assign-requires : goal.run_assign-requires
-run_assign-requires c =
-    rw c.field_at-in_default.ensures (c.requires.assign (after_last _ _ c.field_at-kind.ensures c.requires.wraps (omega arith) (omega arith)))
-
-pub returns-in-7 : goal.returns-in-7
-returns-in-7 c =
-    after_box _ _ _ _ _ _ _ _ _ c.field_at-kind.ensures c.in-7.is c.run_box.ensures
-
-pub returns-in-8 : goal.returns-in-8
-returns-in-8 c =
-    after_let _ _ _ _ _ _ _ _ _ c.field_at-kind.ensures _ c.in-8.is (rw (← c.field_at.ensures) c.run_let.ensures)
-
-pub returns-in_default : goal.returns-in_default
-returns-in_default c =
-    after_assign _ _ _ _ _ _ _ _ _ c.field_at-kind.ensures (omega arith) (omega arith) (rw (← c.field_at-in_default.ensures, ← c.field_at-in_default-2.ensures) c.run_assign.ensures)
+pub unreachable-requires-in_default-kind : goal.unreachable-requires-in_default-kind
+unreachable-requires-in_default-kind c = let d = c.in_default-kind in wraps_only c.args.rows.now c.args.i _ (c.in-Ok.ensures ∙ c.field_at.ensures) c.requires.wraps d.not-Box d.not-Let d.not-Assign
