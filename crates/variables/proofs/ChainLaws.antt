@@ -13,8 +13,7 @@ use lib.Dec.{leb, ltb, eqb}
 use lib.ListN.{length, take, drop}
 use borrow.Author.Tests.{eq-eqb, ne_eqb, lt-ltb, le-ltb, le-leb, lt-leb, leb-true}
 use Rattle.syntax.specs.Result.{pick}
-use Rattle.variables.specs.declared.chains.Rest.{Rest}
-use Rattle.variables.specs.declared.chains.Rest.TheVariants as rest
+use Rattle.std.specs.Prelude as prelude
 use Rattle.statics.specs.Links.{Link, shared, max_links, leading_boxes, no_shared, last_shared_with, last_shared, is_number, copies}
 use Rattle.variables.specs.Chains.{link_of, chain_by, chain_of, rest_of, as_rest, one_more_fits}
 
@@ -162,9 +161,8 @@ rest_less j k ks = go (dec_lt (length ks) j)
     go (yes h) = rw (lt-leb j (length ks) h, lt-leb (suc j) (suc (length ks)) (omega arith))
     go (no h) = rw (le-leb j (length ks) (omega arith), le-leb (suc j) (suc (length ks)) (omega arith))
 
-pub rest_more : (n r left : ℕ) → 0 < left → (n ≡ 0 → ⊥) → chain_of r ≡ drop 1 (chain_of n) → rest_of (left - 1) (chain_of r) ≡ rest_of left (chain_of n)
-rest_more n r zero h z e = absurd (omega arith)
-rest_more n r (suc j) h z e = rw (sub-one, e, chain_pos n (omega arith)) (rest_less j (link_of ((n - 1) % 3)) (chain_of ((n - 1) / 3)))
+pub rest_more : (n r left j : ℕ) → left ≡ suc j → (n ≡ 0 → ⊥) → chain_of r ≡ drop 1 (chain_of n) → rest_of j (chain_of r) ≡ rest_of left (chain_of n)
+rest_more n r left j h z e = rw (h, e, chain_pos n (omega arith)) (rest_less j (link_of ((n - 1) % 3)) (chain_of ((n - 1) / 3)))
 
 pub rest_end : (left n : ℕ) → left ≤ 0 → rest_of left (chain_of n) ≡ some (chain_of n)
 unfolding rest_of
@@ -172,9 +170,9 @@ rest_end zero n h = rw (le-leb 0 (length (chain_of n)) (omega arith))
 rest_end (suc j) n h = absurd (omega arith)
 
 -- What the code is told of the chain from link k on.
-module _ {r : Rest} (k : ℕ) (ks : List Link) (answered : as_rest r ≡ rest_of k ks) where
-  pub rest_there : {n : ℕ} → r ≡ rest.Links n → (k ≤ length ks) × (drop k ks ≡ chain_of n)
-  unfolding as_rest rest_of
+module _ {r : prelude.Option ℕ} (k : ℕ) (ks : List Link) (answered : as_rest r ≡ rest_of k ks) where
+  pub rest_there : {n : ℕ} → r ≡ prelude.Some n → (k ≤ length ks) × (drop k ks ≡ chain_of n)
+  unfolding rest_of
   rest_there {n} e = go (dec_lt (length ks) k)
     where
       told : some (chain_of n) ≡ pick (leb k (length ks)) (some (drop k ks)) none
@@ -184,8 +182,8 @@ module _ {r : Rest} (k : ℕ) (ks : List Link) (answered : as_rest r ≡ rest_of
       go (yes h) = let w = told ∙ ap (λ b. pick b (some (drop k ks)) none) (lt-leb k (length ks) h) in let z : ◌≡◌ {A = ℕ} 0 1 = cc in absurd (omega arith)
       go (no h) = let w = told ∙ ap (λ b. pick b (some (drop k ks)) none) (le-leb k (length ks) (omega arith)) in (omega arith, cc)
 
-  pub rest_missing : r ≡ rest.TooShort → length ks < k
-  unfolding as_rest rest_of
+  pub rest_missing : r ≡ prelude.None → length ks < k
+  unfolding rest_of
   rest_missing e = go (dec_lt (length ks) k)
     where
       told : none ≡ pick (leb k (length ks)) (some (drop k ks)) none
@@ -215,9 +213,8 @@ not_shared zero j ks h = refl
 not_shared (suc zero) j ks h = absurd (h refl)
 not_shared (suc (suc d)) j ks h = refl
 
-pub shared_more : (n r left : ℕ) → 0 < left → (n ≡ 0 → ⊥) → (n % 3 ≡ 2 → ⊥) → chain_of r ≡ drop 1 (chain_of n) → no_shared (take (left - 1) (chain_of r)) ≡ no_shared (take left (chain_of n))
-shared_more n r zero h z e q = absurd (omega arith)
-shared_more n r (suc j) h z e q = rw (sub-one, q, chain_pos n (omega arith)) (not_shared ((n - 1) % 3) j (chain_of ((n - 1) / 3)) (λ w. e (omega arith)))
+pub shared_more : (n r left j : ℕ) → left ≡ suc j → (n ≡ 0 → ⊥) → (n % 3 ≡ 2 → ⊥) → chain_of r ≡ drop 1 (chain_of n) → no_shared (take j (chain_of r)) ≡ no_shared (take left (chain_of n))
+shared_more n r left j h z e q = rw (h, q, chain_pos n (omega arith)) (not_shared ((n - 1) % 3) j (chain_of ((n - 1) / 3)) (λ w. e (omega arith)))
 
 pub shared_end : (left n : ℕ) → left ≤ 0 → no_shared (take left (chain_of n)) ≡ true
 unfolding no_shared

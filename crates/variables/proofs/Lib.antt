@@ -1,5 +1,4 @@
 -- Laws on the table's words.
-pub mod ToldLaws
 pub mod ChainLaws
 pub mod EqualChains
 pub mod MaskLaws

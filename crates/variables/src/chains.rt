@@ -64,27 +64,18 @@ fn without_first(links: u32) -> u32
     if 0 < links { (links - 1) / 3 } else { 0 }
 }
 
-// The chain from some link on, or no such link.
-#[derive(Clone, Copy)]
-pub enum Rest {
-    Links(u32),
-    TooShort,
-}
-
 // The chain at position k (LANGUAGE 3.5), where k links come before; otherwise it is too short (32).
-pub fn links_from(links: u32, k: usize) -> Rest
+pub fn links_from(links: u32, k: usize) -> Option<u32>
     ensures { as_rest result ≡ rest_of k (chain_of links) }
 {
     let mut rest = links;
-    let mut left = k;
-    while 0 < left {
+    for _ in 0..k {
         if rest == 0 {
-            return Rest::TooShort;
+            return None;
         }
         rest = without_first(rest);
-        left -= 1;
     }
-    Rest::Links(rest)
+    Some(rest)
 }
 
 // Only boxes and exclusive links before link k (36; LANGUAGE 3.22, 3.25).
@@ -92,8 +83,7 @@ pub fn no_shared(links: u32, k: usize) -> bool
     ensures { result ≡ no_shared (take k (chain_of links)) }
 {
     let mut rest = links;
-    let mut left = k;
-    while 0 < left {
+    for _ in 0..k {
         if rest == 0 {
             return true;
         }
@@ -101,34 +91,24 @@ pub fn no_shared(links: u32, k: usize) -> bool
             return false;
         }
         rest = without_first(rest);
-        left -= 1;
     }
     true
 }
 
-// The last shared link that is passed: after so many links, if there is one.
-#[derive(Clone, Copy)]
-pub enum SharedPassed {
-    After(usize),
-    None,
-}
-
-// The last shared link before link k (LANGUAGE 3.21).
-pub fn last_shared(links: u32, k: usize) -> SharedPassed
+// The last shared link before link k, if there is one: how many links come before it (LANGUAGE 3.21).
+pub fn last_shared(links: u32, k: usize) -> Option<usize>
     ensures { as_passed result ≡ last_shared (take k (chain_of links)) }
 {
     let mut after = links;
-    let mut passed: usize = 0;
-    let mut last = SharedPassed::None;
-    while passed < k {
+    let mut last = None;
+    for passed in 0..k {
         if after == 0 {
             return last;
         }
         if after % 3 == SHARED {
-            last = SharedPassed::After(passed);
+            last = Some(passed);
         }
         after = without_first(after);
-        passed += 1;
     }
     last
 }
