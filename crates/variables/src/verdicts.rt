@@ -1,11 +1,11 @@
 // What judging a term answers: the type of its value, if it has one (LANGUAGE 3.3, 3.4), or the refusal (3.17).
-ghost use Rattle.std.specs.Prelude.{◌≡◌, ◌∷◌, ◌<◌, ◌≤◌, ◌-◌};
+ghost use Rattle.std.specs.Prelude.{◌≡◌, ◌∷◌};
 ghost use Rattle.statics.specs.Rules.{number_ty};
-ghost use Rattle.variables.specs.Chains.{link_of, chain_of};
+ghost use Rattle.variables.specs.Chains.{as_link, chain_of};
 ghost use Rattle.variables.specs.Table.{end_in};
 ghost use Rattle.variables.specs.Verdicts.{type_of, Answers, value_of, at_most8};
 
-use crate::chains::{one_more_fits, with_first};
+use crate::chains::{Link, one_more_fits, with_first};
 use crate::roots::{Roots, no_roots};
 use syntax::refusals::Reason;
 
@@ -35,9 +35,8 @@ pub fn number_value() -> Verdict
 }
 
 // A value with one more link in front, if that makes at most 8 (42; LANGUAGE 3.21 to 3.23).
-pub fn longer_value(link: u32, links: u32, roots: Roots) -> Verdict
-    requires { (0 < link) × (link ≤ 3) }
-    ensures { Answers result (at_most8 (λ env. type_of (link_of (link - 1) ∷ chain_of links) (end_in env (link_of (link - 1) ∷ chain_of links) roots))) }
+pub fn longer_value(link: Link, links: u32, roots: Roots) -> Verdict
+    ensures { Answers result (at_most8 (λ env. type_of (as_link link ∷ chain_of links) (end_in env (as_link link ∷ chain_of links) roots))) }
 {
     if !one_more_fits(links) {
         return Err(Reason::TooManyLinks);

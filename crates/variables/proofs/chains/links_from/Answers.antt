@@ -1,13 +1,18 @@
 -- `variables::chains::links_from` meets its contract. Assumes nothing.
-use Rattle.std.proofs.Common.{◌+◌, ◌-◌, sym, ◌∙◌, arith}
+use Rattle.std.proofs.Common.{◌+◌, ◌-◌, sym, ◌∙◌, ap, arith}
+use Rattle.variables.specs.Chains.{as_rest, rest_of}
 use Rattle.variables.proofs.ChainLaws.{rest_short, rest_more, rest_end}
 use Rattle.variables.proofs.chains.links_from.Goals as goal
 
-pub returns-then-rest-eq0 : goal.returns-then-rest-eq0
-returns-then-rest-eq0 c = sym (rest_short _ (c.args.k - c.loop.counter) (omega arith) c.if-rest-eq0.true) ∙ c.loop.invariant
+pub returns-in_err-after : goal.returns-in_err-after
+returns-in_err-after c =
+    let left = c.args.k - c.loop.counter in
+    ap as_rest c.from_residual.ensures ∙ sym (rest_short left (omega arith)) ∙ ap (rest_of left) (sym c.in_err-after.ensures) ∙ c.loop.invariant
 
 pub loop-preserved : goal.loop-preserved
-loop-preserved c = rest_more _ _ (c.args.k - c.loop.counter) (c.args.k - (c.loop.counter + 1)) (omega arith) c.if-rest-eq0.false c.without_first-rest.ensures ∙ c.loop.invariant
+loop-preserved c =
+    let left = c.args.k - c.loop.counter in
+    rest_more left (c.args.k - (c.loop.counter + 1)) _ _ (omega arith) ∙ ap (rest_of left) (sym c.in_ok-after.ensures.0) ∙ c.loop.invariant
 
 pub returns : goal.returns
-returns c = sym (rest_end (c.args.k - c.loop.counter) c.loop.rest (omega arith)) ∙ c.loop.invariant
+returns c = sym (rest_end (c.args.k - c.loop.counter) _ (omega arith)) ∙ c.loop.invariant

@@ -8,7 +8,7 @@ unfolding need ◌>>=◌
 returns-then-not-one_more_fits c = λ env i. rw (← c.one_more_fits.ensures, c.if-not-one_more_fits.true)
 
 pub with_first-requires : goal.with_first-requires
-with_first-requires c = (sym c.one_more_fits.ensures ∙ c.if-not-one_more_fits.false, c.requires.0, c.requires.1)
+with_first-requires c = sym c.one_more_fits.ensures ∙ c.if-not-one_more_fits.false
 
 pub returns : goal.returns
 unfolding need ◌>>=◌
