@@ -16,11 +16,11 @@ use lib.ListN.{length, take, drop}
 use borrow.Author.Tests.{eq-eqb, ne_eqb, lt-ltb, le-ltb, le-leb, lt-leb, leb-true}
 use Rattle.syntax.specs.Result.{pick}
 use Rattle.std.specs.Prelude as prelude
-use Rattle.statics.specs.Links.{Link, boxed, shared, exclusive, max_links, leading_boxes, no_shared, last_shared_with, last_shared, is_number, copies}
+use Rattle.statics.specs.Links.{Link, same_link, boxed, shared, exclusive, max_links, leading_boxes, no_shared, last_shared_with, last_shared, is_number, copies}
 use Rattle.variables.specs.declared.chains.Link as code
 use Rattle.variables.specs.declared.chains.Link.TheVariants as link
 use Rattle.variables.specs.contracts.chains.Link.{the_type}
-use Rattle.variables.specs.Chains.{link_of, chain_by, chain_of, as_link, rest_of, as_rest, one_more_fits}
+use Rattle.variables.specs.Chains.{link_of, chain_by, chain_of, as_link, rest_of, as_rest, as_passed, one_more_fits}
 
 -- Any bound that is large enough gives the same chain.
 bounded : (f g n : ℕ) → n ≤ f → n ≤ g → chain_by f n ≡ chain_by g n
@@ -211,30 +211,6 @@ module _ {r : prelude.Option ℕ} (k : ℕ) (ks : List Link) (answered : as_rest
       go (yes h) = h
       go (no h) = let w = told ∙ ap (λ b. pick b (some (drop k ks)) none) (le-leb k (length ks) (omega arith)) in let z : ◌≡◌ {A = ℕ} 0 1 = cc in absurd (omega arith)
 
--- Only boxes and exclusive links.
-pub shared_none : (left : ℕ) → no_shared (take left []) ≡ true
-unfolding no_shared
-shared_none zero = refl
-shared_none (suc j) = refl
-
-pub shared_first : (left : ℕ) (l : code.Link) (ks : List Link) → 0 < left → is_shared l ≡ true → no_shared (take left (as_link l ∷ ks)) ≡ false
-unfolding no_shared
-shared_first zero l ks h e = absurd (omega arith)
-shared_first (suc j) link.Box ks h e = absurd (false≢true e)
-shared_first (suc j) link.Shared ks h e = refl
-shared_first (suc j) link.Exclusive ks h e = absurd (false≢true e)
-
-pub shared_more : (left j : ℕ) (l : code.Link) (ks : List Link) → left ≡ suc j → is_shared l ≡ false → no_shared (take j ks) ≡ no_shared (take left (as_link l ∷ ks))
-unfolding no_shared
-shared_more left j link.Box ks h e = rw h
-shared_more left j link.Shared ks h e = absurd (false≢true (sym e))
-shared_more left j link.Exclusive ks h e = rw h
-
-pub shared_end : (left : ℕ) (ks : List Link) → left ≤ 0 → no_shared (take left ks) ≡ true
-unfolding no_shared
-shared_end zero ks h = refl
-shared_end (suc j) ks h = absurd (omega arith)
-
 -- The last shared link, with n links passed: it is among those still to pass, or was passed before.
 pub last_of : Option ℕ → ℕ → Option ℕ → Option ℕ
 last_of before n none = before
@@ -272,3 +248,31 @@ pub last_more : (before last : Option ℕ) (n left j : ℕ) (l : code.Link) (ks 
     → last_of last (n + 1) (last_shared (take j ks)) ≡ last_of before n (last_shared (take left (as_link l ∷ ks)))
 unfolding last_shared
 last_more before last n left j l ks h e = rw (h, e) (last_first before n l (last_shared (take j ks)))
+
+-- Only boxes and exclusive links, where no link is the last shared one.
+is_none : Option ℕ → Bool
+is_none none = true
+is_none (some j) = false
+
+none_with : (k : Link) (m : Option ℕ) → is_none (last_shared_with k m) ≡ pick (same_link k shared) false (is_none m)
+unfolding is_none last_shared_with same_link
+none_with boxed none = refl
+none_with boxed (some j) = refl
+none_with shared none = refl
+none_with shared (some j) = refl
+none_with exclusive none = refl
+none_with exclusive (some j) = refl
+
+none_shared : (ks : List Link) → is_none (last_shared ks) ≡ no_shared ks
+unfolding is_none last_shared no_shared same_link
+none_shared [] = refl
+none_shared (boxed ∷ ks) = none_with boxed (last_shared ks) ∙ none_shared ks
+none_shared (shared ∷ ks) = none_with shared (last_shared ks)
+none_shared (exclusive ∷ ks) = none_with exclusive (last_shared ks) ∙ none_shared ks
+
+pub none_passed : (o : prelude.Option ℕ) (ks : List Link) (r : Bool) → as_passed o ≡ last_shared ks → prelude.is_some o ≡ not r → r ≡ no_shared ks
+unfolding is_none
+none_passed prelude.None ks true e h = ap is_none e ∙ none_shared ks
+none_passed prelude.None ks false e h = absurd (false≢true h)
+none_passed (prelude.Some j) ks true e h = absurd (false≢true (sym h))
+none_passed (prelude.Some j) ks false e h = ap is_none e ∙ none_shared ks

@@ -94,23 +94,6 @@ pub fn links_from(links: u32, k: usize) -> Option<u32>
     Some(rest)
 }
 
-// Only boxes and exclusive links before link k (36; LANGUAGE 3.22, 3.25).
-pub fn no_shared(links: u32, k: usize) -> bool
-    ensures { result ≡ no_shared (take k (chain_of links)) }
-{
-    let mut rest = links;
-    for _ in 0..k {
-        let Some((link, after)) = split_first(rest) else {
-            return true;
-        };
-        if link == Link::Shared {
-            return false;
-        }
-        rest = after;
-    }
-    true
-}
-
 // The last shared link before link k, if there is one: how many links come before it (LANGUAGE 3.21).
 pub fn last_shared(links: u32, k: usize) -> Option<usize>
     ensures { as_passed result ≡ last_shared (take k (chain_of links)) }
@@ -127,6 +110,13 @@ pub fn last_shared(links: u32, k: usize) -> Option<usize>
         rest = after;
     }
     last
+}
+
+// Only boxes and exclusive links before link k (36; LANGUAGE 3.22, 3.25).
+pub fn no_shared(links: u32, k: usize) -> bool
+    ensures { result ≡ no_shared (take k (chain_of links)) }
+{
+    last_shared(links, k).is_none()
 }
 
 // One more link makes at most 8 (42; LANGUAGE 3.21 to 3.23).
