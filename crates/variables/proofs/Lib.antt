@@ -1,4 +1,5 @@
 -- Laws on the table's words.
+pub mod QuestionLaws
 pub mod ChainLaws
 pub mod EqualChains
 pub mod MaskLaws
