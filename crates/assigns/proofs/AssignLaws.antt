@@ -77,12 +77,12 @@ module _ (n : ℕ) (env : List ℕ) (level : ℕ) (N : Neat n (environment_of en
   -- The tests, one after the other: what the value is, and that each before is passed.
   module _ (t : ValueType) where
     pub shared_passed : no_shared (take p.follows (chain_of links)) ≡ false → judge_write n (environment_of env) i p (as_value env (value.Of t)) ≡ err (36, i)
-    unfolding judge_write as_value valued need ◌>>=◌
+    unfolding judge_write valued need ◌>>=◌
     shared_passed h = rw (F.is, F.chain, h) refl
 
     module _ (passed : no_shared (take p.follows (chain_of links)) ≡ true) where
       pub other_links : (rest ≡ t.links → ⊥) → judge_write n (environment_of env) i p (as_value env (value.Of t)) ≡ err (39, i)
-      unfolding judge_write as_value valued need ◌>>=◌
+      unfolding judge_write valued need ◌>>=◌
       other_links h = rw (F.is, F.chain, passed, after_links, same_links_law rest t.links, ne_eqb rest t.links h) refl
 
       module _ (same : rest ≡ t.links) (s : Roots) (recorded : places (end_in env (chain_of rest) t.roots) ≡ places_in env (chain_of rest) s) (long : Bool)
@@ -102,7 +102,7 @@ module _ (n : ℕ) (env : List ℕ) (level : ℕ) (N : Neat n (environment_of en
             ∙ sym (asked (left (chain_of rest)) (length (chain_of rest)))
 
         pub lives_too_short : long ≡ false → judge_write n (environment_of env) i p (as_value env (value.Of t)) ≡ err (40, i)
-        unfolding judge_write as_value valued need ◌>>=◌
+        unfolding judge_write valued need ◌>>=◌
         lives_too_short h = rw (F.is, F.chain, passed, after_links, same_links_law rest t.links, eq-eqb rest t.links same, lives, h) refl
 
         module _ (enough : long ≡ true) (env' : List ℕ) (W : Written env n to s env') where
@@ -112,5 +112,5 @@ module _ (n : ℕ) (env : List ℕ) (level : ℕ) (N : Neat n (environment_of en
               ∙ fun_ext (λ x. write_same (environment_of env) (places_of n (has to) (lengths (environment_of env)) (length (chain_of rest))) F.located.to b (turned F.to) x)
 
           pub written : judge_write n (environment_of env) i p (as_value env (value.Of t)) ≡ ok (environment_of env', none)
-          unfolding judge_write as_value valued need ◌>>=◌
+          unfolding judge_write valued need ◌>>=◌
           written = rw (F.is, F.chain, passed, after_links, same_links_law rest t.links, eq-eqb rest t.links same, lives, enough, ← written_is) refl

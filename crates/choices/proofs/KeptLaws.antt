@@ -33,7 +33,7 @@ use Rattle.variables.proofs.EndRoots.{end_lengths, live_length, end_united}
 pub joins : (first second : Value) (t u : ValueType) (s : Roots) (r : Told) → first ≡ value.Of t → second ≡ value.Of u → t.links ≡ u.links
     → ((x : ℕ) → has s x ≡ pick (has t.roots x) true (has u.roots x))
     → Answers r (value_of (λ env. type_of (chain_of t.links) (end_in env (chain_of t.links) s))) → Joins first second r
-unfolding agreeing as_value need ◌>>=◌
+unfolding agreeing need ◌>>=◌
 joins first second t u s r e f l h A env i =
     let b : end_in env (chain_of t.links) s ≡ borrow_end (chain_of t.links) (unite (places (end_in env (chain_of t.links) t.roots)) (places (end_in env (chain_of u.links) u.roots))) =
     end_united (chain_of t.links) (long_at env) (left (chain_of t.links)) t.roots u.roots s h

@@ -8,7 +8,7 @@ use Rattle.assigns.proofs.AssignLaws.{located_as}
 use Rattle.assigns.proofs.assign.judge_write.Goals as goal
 
 pub returns-in_default : goal.returns-in_default
-unfolding judge_write as_value valued ◌>>=◌
+unfolding judge_write valued ◌>>=◌
 returns-in_default c = (λ i. told_refused _ _ c.refused.ensures.0 _ i ∙ rw c.in_default.is, c.requires.0)
 
 pub write_own-requires : goal.write_own-requires
@@ -20,7 +20,7 @@ write_beyond-requires c =
     (c.requires, λ i. located_as _ _ _ _ _ _ (c.judge_place-located.ensures i) c.in-At.is)
 
 pub returns-in-Refused : goal.returns-in-Refused
-unfolding judge_write as_value valued ◌>>=◌
+unfolding judge_write valued ◌>>=◌
 returns-in-Refused c = (
   λ i.
       let refused = located_as _ _ _ _ _ _ (c.judge_place-located.ensures i) c.in-Refused.is in

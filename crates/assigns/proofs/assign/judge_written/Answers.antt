@@ -9,5 +9,5 @@ unfolding need ◌>>=◌
 returns-then-barred c = λ env i. rw c.if-barred.true (told_refused _ _ c.refused.ensures.0 env i)
 
 pub returns : goal.returns
-unfolding need as_value ◌>>=◌
+unfolding need ◌>>=◌
 returns c = λ env i. rw c.if-barred.false (told_fine _ _ c.fine.ensures.0 env i)

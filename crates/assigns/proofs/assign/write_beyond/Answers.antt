@@ -39,7 +39,6 @@ write_to-requires c =
     (c.requires.0.0, (c.requires.1 0).low)
 
 pub returns : goal.returns
-unfolding as_value
 returns c = (
   λ i. told_fine _ _ c.fine.ensures.0 _ i
       ∙ sym (written _ _ _ c.requires.0.1.1 i _ _ _ _ (c.requires.1 i) _ (passed (goal.at.returns c).Else-not-no_shared) c.if-rest-of.false _ (c.recorded_roots-roots.ensures c.args.env.now) c.live_long_enough.result c.live_long_enough.ensures c.if-not-live_long_enough.false _ c.write_to.ensures.0),

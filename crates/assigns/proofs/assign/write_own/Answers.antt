@@ -22,7 +22,6 @@ refill-requires c =
     (c.requires.0.0, named_inside _ _ (c.requires.1 0).named _ c.index_of-root.ensures _ c.requires.0)
 
 pub returns : goal.returns
-unfolding as_value
 returns c = (
   λ i. told_fine _ _ c.fine.ensures.0 _ i
       ∙ sym (own_written _ _ c.requires.0 i _ (c.requires.1 i) _ c.if-rest-of.false _ (c.recorded_roots-roots.ensures c.args.env.now) _ c.index_of-root.ensures _ c.level_at.ensures c.lives_at.result c.lives_at.ensures (c.if-not-lives_at.false) _ c.refill.ensures.0),

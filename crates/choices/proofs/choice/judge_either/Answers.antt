@@ -22,22 +22,22 @@ some_value None h = absurd (h refl)
 some_value (Of t) h = (t, refl)
 
 pub returns-in_default-second : goal.returns-in_default-second
-unfolding agreeing as_value need ◌>>=◌
+unfolding agreeing need ◌>>=◌
 returns-in_default-second c =
     λ env i. rw (no_value _ c.in_default.not-Of, (some_value _ c.in_default-second.not-None).1) (told_refused _ _ c.refused.ensures.0 env i)
 
 pub returns-in_default : goal.returns-in_default
-unfolding agreeing as_value need ◌>>=◌
+unfolding agreeing need ◌>>=◌
 returns-in_default c =
     λ env i. rw (no_value _ c.in_default.not-Of, c.in-None.is) (told_fine _ _ c.fine.ensures.0 env i)
 
 pub returns-in_default-second-2 : goal.returns-in_default-second-2
-unfolding agreeing as_value need ◌>>=◌
+unfolding agreeing need ◌>>=◌
 returns-in_default-second-2 c =
     λ env i. rw (c.in-Of.is, no_value _ c.in_default-second-2.not-Of) (told_refused _ _ c.refused-in_default-second-2.ensures.0 env i)
 
 pub returns-then-one-other : goal.returns-then-one-other
-unfolding agreeing as_value need ◌>>=◌
+unfolding agreeing need ◌>>=◌
 returns-then-one-other c =
     λ env i. rw (c.in-Of.is, c.in-Of-second.is, same_links_law _ _, ne_eqb _ _ c.if-one-other.true) (told_refused _ _ c.refused-then-one-other.ensures.0 env i)
 
