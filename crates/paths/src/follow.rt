@@ -138,11 +138,8 @@ pub fn borrows_at(env: &[u64], variables: usize, to: Roots) -> Roots
     ensures { BorrowedAt env.now to result }
 {
     let mut roots = no_roots();
-    let mut left = to;
-    while !is_empty(left) {
-        let x = lowest(left);
+    for x in to {
         roots = unite(roots, roots_at(env, x));
-        left = without(left, x);
     }
     roots
 }

@@ -11,7 +11,7 @@ ghost use Rattle.bars.specs.Leading.{LaterIs};
 ghost use Rattle.uses.specs.RowUses.{names_of, NamesBelow, UsesFor, named_with};
 ghost use Rattle.uses.specs.RowPlaces.{AllWrap};
 
-use bars::bars::{Later, is_held, may_bar_reading, may_bar_writing};
+use bars::bars::{Borrows, Later, is_held, may_bar_reading, may_bar_writing};
 use syntax::fields::{field_at, index_at};
 use syntax::kinds;
 use variables::roots::{Roots, is_empty, only, unite};
@@ -96,10 +96,11 @@ pub fn read_barred(
         return false;
     }
     let later = Later {
+        uses: uses,
         from: from,
         named: with_named(rows, start, count, variables, named),
     };
-    is_held(env, variables, uses, later, root, false, may)
+    is_held(env, variables, &later, root, Borrows::Exclusive, may)
 }
 
 // Writing barred (LANGUAGE 3.12), likewise. One function for both, told which to ask, is slower.
@@ -122,8 +123,9 @@ pub fn write_barred(
         return false;
     }
     let later = Later {
+        uses: uses,
         from: from,
         named: with_named(rows, start, count, variables, named),
     };
-    is_held(env, variables, uses, later, root, true, may)
+    is_held(env, variables, &later, root, Borrows::Any, may)
 }
