@@ -20,7 +20,7 @@ use Rattle.statics.specs.Roots.{lengths, place_at, left}
 use Rattle.variables.specs.Chains.{chain_of}
 use Rattle.variables.specs.Masks.{has}
 use Rattle.variables.specs.Table.{roots_at, long_at, end_in, environment_of, note_at, TableFor}
-use Rattle.variables.specs.Verdicts.{Verdict, type_of, as_value, Answers, value_of, Joins}
+use Rattle.variables.specs.Verdicts.{Verdict, type_of, Answers, value_of, Joins}
 use Rattle.choices.specs.declared.choice.KeptState.{KeptState}
 use Rattle.choices.specs.Kept.{kept_at, kept_now, KeptAs, KeepsAll}
 use Rattle.variables.proofs.EqualChains.{same_links_law}

@@ -11,13 +11,12 @@ use Rattle.syntax.specs.Result.{pick}
 use Rattle.syntax.specs.Script.{Place}
 use Rattle.variables.specs.declared.roots.Roots.{Roots}
 use Rattle.statics.specs.Places.{every}
-use Rattle.variables.specs.Masks.{has, is_empty}
+use Rattle.variables.specs.Masks.{has}
 use Rattle.statics.specs.Roots.{place_at, places_from, places_of}
 use Rattle.statics.proofs.Answers.{same_bool}
 use Rattle.statics.proofs.SetLaws.{every_in}
 use Rattle.statics.proofs.SetEquality.{all_pass}
 use Rattle.statics.proofs.RootLaws.{from_out, from_in}
-use Rattle.variables.proofs.MaskLaws.{none_in}
 
 module _ (n : ℕ) (f : Place → Bool) (long : ℕ → ℕ) (m : ℕ) where
   -- All roots pass that are below n.

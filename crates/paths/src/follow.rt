@@ -93,12 +93,7 @@ fn search_beyond(
 
 // All that is met from the variable root on, which is in scope, with so many follows from it, if nothing on the way is
 // moved away (33). Most often that is the root alone; the links left are counted only where its borrow link is passed.
-pub fn search(
-    env: &[u64],
-    variables: usize,
-    root: usize,
-    follows: usize,
-) -> Result<Ends, Reason>
+pub fn search(env: &[u64], variables: usize, root: usize, follows: usize) -> Result<Ends, Reason>
     requires { NeatTable env.now variables × (environment_of env.now root ≡ live (variable_at env.now root)) × (follows ≤ length (chain_of (links_at env.now root))) }
     ensures { Searched variables (environment_of env.now) root (length (chain_of (links_at env.now root)) - follows) false result }
 {

@@ -1,7 +1,6 @@
 -- `assigns::assign::live_long_enough` meets its contract. The loop: the variables left pass the test if and only if all do. Assumes nothing.
 use Prim.Native.Nat.{ℕ}
-use native.Mathlib.Omega.{arith}
-use mathlib.Core.Path.{◌≡◌, refl, sym, ap, ◌∙◌}
+use mathlib.Core.Path.{◌≡◌, sym, ap, ◌∙◌}
 use mathlib.Core.Bool.{Bool, true, false}
 use mathlib.Core.List.{List}
 use Rattle.variables.specs.declared.roots.Roots.{Roots}

@@ -1,8 +1,7 @@
 -- `assigns::assign::widen_all` meets its contract. The loop: the variables that are not left are widened, all others as before. Assumes nothing.
-use native.Mathlib.Omega.{arith}
-use mathlib.Core.Path.{refl, sym, ◌∙◌}
+use mathlib.Core.Path.{◌∙◌}
 use Rattle.variables.proofs.MemberLaws.{taken, none_left}
-use Rattle.rules.proofs.WriteLaws.{widening_first, widening_next, widening_over}
+use Rattle.rules.proofs.WriteLaws.{widening_next, widening_over}
 use Rattle.assigns.proofs.assign.widen_all.Goals as goal
 
 pub widen-requires : goal.widen-requires

@@ -1,6 +1,5 @@
 use mathlib.Core.Path.{◌≡◌}
 use lib.ListN.{length}
-use Rattle.variables.specs.Masks.{has}
 use Rattle.variables.specs.Table.{TableFor}
 use Rattle.rules.proofs.WriteLaws.{Widening}
 use Rattle.assigns.proofs.assign.widen_all.Given as goal

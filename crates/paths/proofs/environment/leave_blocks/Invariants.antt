@@ -1,6 +1,5 @@
 use mathlib.Core.Path.{◌≡◌}
 use lib.ListN.{length}
-use Rattle.variables.specs.Masks.{has}
 use Rattle.paths.proofs.LeavingLaws.{Leaving}
 use Rattle.paths.proofs.environment.leave_blocks.Given as goal
 

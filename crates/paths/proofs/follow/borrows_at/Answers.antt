@@ -1,8 +1,7 @@
 -- `paths::follow::borrows_at` meets its contract. The roots of the variables taken out so far are in, and nothing else. Assumes nothing.
 use native.Mathlib.Omega.{arith}
-use mathlib.Core.Path.{sym, ◌∙◌}
 use Rattle.variables.proofs.MemberLaws.{taken, none_left}
-use Rattle.paths.proofs.GatherLaws.{gather_begins, gather_round, gather_over}
+use Rattle.paths.proofs.GatherLaws.{gather_round, gather_over}
 use Rattle.paths.proofs.follow.borrows_at.Goals as goal
 
 pub roots_at-requires : goal.roots_at-requires

@@ -1,4 +1,3 @@
-use Rattle.variables.specs.Masks.{has}
 use Rattle.paths.proofs.GatherLaws.{Gathering}
 use Rattle.paths.proofs.follow.borrows_at.Given as goal
 
