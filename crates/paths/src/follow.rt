@@ -12,7 +12,7 @@ ghost use Rattle.variables.specs.Verdicts.{NeatTable};
 
 use syntax::refusals::Reason;
 use variables::chains::{chain_length, leading_boxes};
-use variables::roots::{Roots, is_empty, less, lowest, no_roots, only, unite, without};
+use variables::roots::{Roots, less, no_roots, only, unite};
 use variables::table::{BorrowEnd, Entry, MOVED_FROM, links_at, load, roots_at, word_at};
 
 // Where a place leads: to an own link of its root, the common case, for which no set is made; or to own links of these
@@ -73,9 +73,7 @@ fn search_beyond(
     let mut todo = less(roots_at(env, root), first);
     let mut met = unite(first, todo);
     let mut ends = no_roots();
-    while !is_empty(todo) {
-        let x = lowest(todo);
-        todo = without(todo, x);
+    while let Some(x) = todo.take_lowest() {
         let follows = chain_length(links_at(env, x)) - remaining;
         match step_at(env, x, follows, deep)? {
             Step::Here => {
