@@ -29,7 +29,7 @@ use Rattle.uses.specs.RowUses.{row_names}
 use Rattle.term_judge.specs.JudgeRows.{at_row, ended, judged_at, judge_at, begin_at, rule_after, after_at}
 use Rattle.uses.specs.RowPlaces.{Wraps, AllWrap}
 use Rattle.statics.proofs.Finishing.{left_after}
-use Rattle.uses.proofs.FoundUses.{wrap_one, box_none}
+use Rattle.uses.proofs.KindNames.{wrap_one, box_none}
 use Rattle.term_judge.proofs.JudgeLaws.{refused_ended, fine_ended, inner_step}
 
 -- What a let asks before its inner term.

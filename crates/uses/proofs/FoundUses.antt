@@ -4,6 +4,7 @@ use native.Mathlib.Omega.{arith}
 use native.Mathlib.Decide.{ℕ_discrete, dec_lt}
 use mathlib.Core.Path.{◌≡◌, refl, sym, ap, ◌∙◌}
 use mathlib.Core.Bool.{Bool, true, false, false≢true}
+use mathlib.Core.Option.{some}
 use mathlib.Core.List.{List, [], ◌∷◌}
 use lib.Dec.{eqb}
 use lib.ListN.{length, get_or, set, length-set}
@@ -11,9 +12,12 @@ use lib.Seq.{get_or-set_same, get_or-set_other}
 use borrow.Author.Tests.{eq-eqb, ne_eqb}
 use Rattle.syntax.specs.Result.{pick}
 use Rattle.statics.specs.Uses.{names}
-use Rattle.uses.specs.RowUses.{row_names, UsesFor, NamesBelow}
+use Rattle.syntax.specs.declared.kinds.Kind.{Kind}
+use Rattle.syntax.specs.KindNumbers.{as_kind}
+use Rattle.uses.specs.RowUses.{names_of, row_names, UsesFor, NamesBelow}
 use Rattle.uses.proofs.EitherLaws.{swapped}
 use Rattle.uses.proofs.RowUseLaws.{first_named, named_one}
+use Rattle.uses.proofs.KindNames.{NamesFirst, NamesBoth, names_first, names_both}
 
 -- ---- what a row names
 
@@ -22,6 +26,12 @@ first_in x ys = rw (first_named x ys x, eq-eqb x x refl)
 
 last_named : (x y z : ℕ) → names (x ∷ y ∷ []) z ≡ pick (eqb y z) true (names (x ∷ []) z)
 last_named x y z = rw (first_named x (y ∷ []) z, named_one y z, named_one x z) (swapped (eqb x z) (eqb y z))
+
+pub first_of : (k : Kind) (x y : ℕ) → NamesFirst k → names (names_of (some (as_kind k)) x y) x ≡ true
+first_of k x y h = rw (names_first k x y h) (first_in x [])
+
+pub both_of : (k : Kind) (x y : ℕ) → NamesBoth k → (names (names_of (some (as_kind k)) x y) x ≡ true) × (names (names_of (some (as_kind k)) x y) y ≡ true)
+both_of k x y h = (rw (names_both k x y h) (first_in x (y ∷ [])), rw (names_both k x y h, last_named x y y, eq-eqb y y refl))
 
 -- ---- marks
 

@@ -69,3 +69,7 @@ named_with rows i n named x = pick (named x) true (named_later (namings rows i n
 -- What the terms around name.
 abbrev pub named_around : Script → Around → ℕ → Bool
 named_around s a = named_with s.rows.now a.start (a.end - a.start) (has a.named)
+
+-- What has not finished once the term inside those around has, which ends before row `next`.
+abbrev pub later_of : Script → Around → ℕ → Unfinished
+later_of s a next = later_in s.rows.now a.start (a.end - a.start) (later_at s.variables s.uses.now (has a.named) next)

@@ -13,11 +13,7 @@ place_at-place-requires c =
 pub returns-in_default : goal.returns-in_default
 returns-in_default c =
     let refused = sym c.verdict_of-verdict.ensures ∙ c.in_default.is in
-    (λ ns later. assign_refused _ _ c.args.rows.now _ _ _ _ c.place_at-place.ensures _ (c.judge_write-written.ensures.0 _) ns _ refused, c.judge_write-written.ensures.1)
-
-pub overflow_add-i : goal.overflow_add-i
-overflow_add-i c =
-    omega (arith, (last_wraps _ _ _ _ c.requires.2 c.requires.3).room)
+    (λ ns later. assign_refused _ _ c.args.script.now.rows.now _ _ _ _ c.place_at-place.ensures _ (c.judge_write-written.ensures.0 _) ns _ refused, c.judge_write-written.ensures.1)
 
 pub write_barred-barred-requires : goal.write_barred-barred-requires
 write_barred-barred-requires c =
@@ -26,4 +22,4 @@ write_barred-barred-requires c =
 pub returns : goal.returns
 returns c =
     let fine = sym c.verdict_of-verdict.ensures ∙ c.in-Fine.is in
-    (λ ns later. assign_fine _ _ c.args.rows.now _ _ _ _ c.place_at-place.ensures _ (c.judge_write-written.ensures.0 _) ns _ fine _ _ c.index_of-root.ensures (c.write_barred-barred.ensures ns later) _ c.judge_written.ensures, c.judge_write-written.ensures.1)
+    (λ ns later. assign_fine _ _ c.args.script.now.rows.now _ _ _ _ c.place_at-place.ensures _ (c.judge_write-written.ensures.0 _) ns _ fine _ _ c.index_of-root.ensures (c.write_barred-barred.ensures ns later) _ c.judge_written.ensures, c.judge_write-written.ensures.1)

@@ -9,13 +9,9 @@ use Rattle.syntax.specs.Kinds.{wraps_of}
 use Rattle.syntax.specs.KindNumbers.{number_in}
 use Rattle.variables.specs.declared.roots.Roots.{Roots}
 use Rattle.variables.specs.Masks.{has}
-use Rattle.uses.proofs.KindNames.{wraps_kind, box_number, wrap_first, row_first, row_none}
+use Rattle.uses.proofs.KindNames.{wraps_kind, same_number, not_other, wrap_first, row_first, row_none}
 use Rattle.uses.proofs.BarredLaws.{nothing_named, named_all, wraps_at, named_none, named_first}
 use Rattle.uses.proofs.script.Around.all_named.Goals as goal
-use denote.Enum.Bare.{same_true}
-use Rattle.std.proofs.lemmas.Bool.{not-false}
-use borrow.Author.Rules.{rules}
-use Rattle.syntax.specs.contracts.kinds.Kind.{the_type}
 use Rattle.uses.proofs.script.Around.all_named.Goals.{then-ne, else-ne}
 
 pub loop-row-init : goal.loop-row-init
@@ -41,7 +37,7 @@ only-requires c =
     let stands = wraps_at _ _ _ _ _ c.requires.0 c.loop-row.auto.row c.loop-row-test.true in
     let no_box : c.in-Ok.kind ≡ kind.Box → ⊥ = λ q. false≢true (sym (rw q at c.ne.ensures) ∙ c.if-ne.true) in
     let read : number_in c.in-Ok.kind ≡ c.field_at.result = c.in-Ok.ensures in
-    omega (arith, c.index_at.ensures, stands.number (λ q. no_box (box_number c.in-Ok.kind (read ∙ c.field_at.ensures ∙ q))), c.requires.1)
+    omega (arith, c.index_at.ensures, stands.number (λ q. no_box (same_number c.in-Ok.kind kind.Box (read ∙ c.field_at.ensures ∙ q))), c.requires.1)
 
 pub loop-row-preserved : goal.loop-row-preserved
 loop-row-preserved c =
@@ -54,7 +50,7 @@ loop-row-preserved c =
     let next : row + 1 - c.args.self.now.start ≡ suc (row - c.args.self.now.start) = omega (arith, c.loop-row.auto.row) in (
       (elim c.if-ne.branch [
         | then-ne w ↦ λ x. ap (λ (s : Roots). has s x) w.all-is ∙ named_first rows _ _ row before (has c.args.self.now.named) (has c.loop-row.all) c.loop-row.invariant.0 _ next _ (rw w.index_at.ensures (row_first rows row _ c.field_at.ensures c.in-Ok.kind read (wrap_first c.in-Ok.kind wraps (λ q. false≢true (sym (rw q at c.ne.ensures) ∙ w.if-ne.true))))) (has w.unite-all.result) (has w.only.result) w.unite-all.ensures w.only.ensures x
-        | else-ne w ↦ λ x. ap (λ (s : Roots). has s x) w.all-is ∙ named_none rows _ _ row before (has c.args.self.now.named) (has c.loop-row.all) c.loop-row.invariant.0 _ next (row_none rows row _ c.field_at.ensures c.in-Ok.kind read (inr (inr (inl (same_true the_type (search rules) _ _ (not-false _ (sym c.ne.ensures ∙ w.if-ne.false))))))) x
+        | else-ne w ↦ λ x. ap (λ (s : Roots). has s x) w.all-is ∙ named_none rows _ _ row before (has c.args.self.now.named) (has c.loop-row.all) c.loop-row.invariant.0 _ next (row_none rows row _ c.field_at.ensures c.in-Ok.kind read (inr (inr (inl (not_other c.in-Ok.kind kind.Box c.ne.ensures w.if-ne.false))))) x
       ]),
       omega (arith, c.loop-row-test.true),
     )
