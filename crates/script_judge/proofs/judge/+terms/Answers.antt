@@ -1,0 +1,1 @@
+use Rattle.script_judge.proofs.judge.+terms.Goals as goal
