@@ -13,7 +13,8 @@ use Rattle.syntax.specs.Result.{ok, err, need, ◌>>=◌}
 use Rattle.syntax.specs.Script.{Place}
 use Rattle.variables.specs.declared.roots.Roots.{Roots}
 use Rattle.rules.specs.declared.rules.Located.{Located}
-use Rattle.variables.specs.declared.verdicts.Value.TheVariants as value
+use Rattle.std.specs.Prelude.{Result, Some}
+use Rattle.syntax.specs.declared.refusals.Reason.{Reason}
 use Rattle.variables.specs.declared.verdicts.ValueType.{ValueType}
 use Rattle.statics.specs.Links.{Link, leading_boxes, no_shared}
 use Rattle.statics.specs.Places.{every}
@@ -36,8 +37,8 @@ use Rattle.variables.proofs.EntryLaws.{live_status}
 
 -- ---- what the parts answered
 
-pub located_as : (nv : ℕ) (Γ : Environment) (i : ℕ) (p : Place) (r l : Located) → LocatedIs nv Γ i p r → r ≡ l → LocatedIs nv Γ i p l
-located_as nv Γ i p r l L e = subst (λ (k : Located). LocatedIs nv Γ i p k) e L
+pub located_as : (nv : ℕ) (Γ : Environment) (i : ℕ) (p : Place) (r l : Result Located Reason) → LocatedIs nv Γ i p r → r ≡ l → LocatedIs nv Γ i p l
+located_as nv Γ i p r l L e = subst (λ (k : Result Located Reason). LocatedIs nv Γ i p k) e L
 
 pub passes_as : (follows k links : ℕ) (r b : Bool) → k ≡ follows → r ≡ no_shared (take k (chain_of links)) → r ≡ b → no_shared (take follows (chain_of links)) ≡ b
 passes_as follows k links r b e f h = ap (λ (j : ℕ). no_shared (take j (chain_of links))) (sym e) ∙ sym f ∙ h
@@ -76,13 +77,13 @@ module _ (n : ℕ) (env : List ℕ) (level : ℕ) (N : Neat n (environment_of en
 
   -- The tests, one after the other: what the value is, and that each before is passed.
   module _ (t : ValueType) where
-    pub shared_passed : no_shared (take p.follows (chain_of links)) ≡ false → judge_write n (environment_of env) i p (as_value env (value.Of t)) ≡ err (36, i)
-    unfolding judge_write as_value valued need ◌>>=◌
+    pub shared_passed : no_shared (take p.follows (chain_of links)) ≡ false → judge_write n (environment_of env) i p (as_value env (Some t)) ≡ err (36, i)
+    unfolding judge_write valued need ◌>>=◌
     shared_passed h = rw (F.is, F.chain, h) refl
 
     module _ (passed : no_shared (take p.follows (chain_of links)) ≡ true) where
-      pub other_links : (rest ≡ t.links → ⊥) → judge_write n (environment_of env) i p (as_value env (value.Of t)) ≡ err (39, i)
-      unfolding judge_write as_value valued need ◌>>=◌
+      pub other_links : (rest ≡ t.links → ⊥) → judge_write n (environment_of env) i p (as_value env (Some t)) ≡ err (39, i)
+      unfolding judge_write valued need ◌>>=◌
       other_links h = rw (F.is, F.chain, passed, after_links, same_links_law rest t.links, ne_eqb rest t.links h) refl
 
       module _ (same : rest ≡ t.links) (s : Roots) (recorded : places (end_in env (chain_of rest) t.roots) ≡ places_in env (chain_of rest) s) (long : Bool)
@@ -101,8 +102,8 @@ module _ (n : ℕ) (env : List ℕ) (level : ℕ) (N : Neat n (environment_of en
             (ap places (sym is_b) ∙ recorded)
             ∙ sym (asked (left (chain_of rest)) (length (chain_of rest)))
 
-        pub lives_too_short : long ≡ false → judge_write n (environment_of env) i p (as_value env (value.Of t)) ≡ err (40, i)
-        unfolding judge_write as_value valued need ◌>>=◌
+        pub lives_too_short : long ≡ false → judge_write n (environment_of env) i p (as_value env (Some t)) ≡ err (40, i)
+        unfolding judge_write valued need ◌>>=◌
         lives_too_short h = rw (F.is, F.chain, passed, after_links, same_links_law rest t.links, eq-eqb rest t.links same, lives, h) refl
 
         module _ (enough : long ≡ true) (env' : List ℕ) (W : Written env n to s env') where
@@ -111,6 +112,6 @@ module _ (n : ℕ) (env : List ℕ) (level : ℕ) (N : Neat n (environment_of en
               W.is b (length (chain_of rest)) (λ x h. written_end t.roots s recorded x h ∙ is_b)
               ∙ fun_ext (λ x. write_same (environment_of env) (places_of n (has to) (lengths (environment_of env)) (length (chain_of rest))) F.located.to b (turned F.to) x)
 
-          pub written : judge_write n (environment_of env) i p (as_value env (value.Of t)) ≡ ok (environment_of env', none)
-          unfolding judge_write as_value valued need ◌>>=◌
+          pub written : judge_write n (environment_of env) i p (as_value env (Some t)) ≡ ok (environment_of env', none)
+          unfolding judge_write valued need ◌>>=◌
           written = rw (F.is, F.chain, passed, after_links, same_links_law rest t.links, eq-eqb rest t.links same, lives, enough, ← written_is) refl

@@ -1,8 +1,7 @@
 // Assign (LANGUAGE 3.25): a write to the one variable that a place leads to, or to one of several; then, with the new
 // value in place, whether writing was barred.
-ghost use Rattle.std.specs.Prelude.{◌≡◌, true, ℕ, ◌<◌, leb};
+ghost use Rattle.std.specs.Prelude.{◌≡◌, true, Some, Ok, ℕ, ◌<◌, leb};
 ghost use Rattle.rules.specs.declared.rules.Located.TheVariants as located;
-ghost use Rattle.variables.specs.declared.verdicts.Value.TheVariants as value;
 ghost use Rattle.statics.specs.Places.{every};
 ghost use Rattle.statics.specs.Environment.{level_of};
 ghost use Rattle.statics.specs.Rules.{judge_write};
@@ -14,13 +13,13 @@ ghost use Rattle.rules.specs.RuleAnswers.{LocatedIs};
 
 use notes::notes::{refill, widen};
 use paths::environment::{level_at, lives_at, recorded_roots};
-use rules::rules::{Located, judge_place};
+use rules::rules::{Beyond, Located, judge_place};
 use syntax::fields::index_of;
+use syntax::refusals::Reason;
 use variables::chains::no_shared;
-use variables::refusals;
 use variables::roots::{Roots, is_empty, lowest, without};
 use variables::table::Place;
-use variables::verdicts::{Told, Value, ValueType, fine, refused};
+use variables::verdicts::{ValueType, Verdict};
 
 // The roots live long enough for each variable that may be written (40; LANGUAGE 3.25).
 fn live_long_enough(env: &[u64], variables: usize, roots: Roots, to: Roots) -> bool
@@ -74,21 +73,20 @@ fn write_to(env: &mut [u64], variables: usize, to: Roots, roots: Roots)
 
 // Assign to an own link of the root of the place (LANGUAGE 3.25): no shared link is passed, the same links (39), every
 // borrowed root lives long enough for the root (40), which is whole again.
-fn write_own(env: &mut [u64], variables: usize, place: Place, rest: u32, of: ValueType) -> Told
-    requires { NeatTable env.old variables × ((i : ℕ) → LocatedIs variables (environment_of env.old) i (as_place place) (located.Own rest)) }
-    ensures { ((i : ℕ) → answered env.new i result ≡ judge_write variables (environment_of env.old) i (as_place place) (as_value env.old (value.Of of))) × TableFor env.new variables }
+fn write_own(env: &mut [u64], variables: usize, place: Place, rest: u32, of: ValueType) -> Verdict
+    requires { NeatTable env.old variables × ((i : ℕ) → LocatedIs variables (environment_of env.old) i (as_place place) (Ok (located.Own rest))) }
+    ensures { ((i : ℕ) → answered env.new i result ≡ judge_write variables (environment_of env.old) i (as_place place) (as_value env.old (Some of))) × TableFor env.new variables }
 {
     if rest != of.links {
-        return refused(refusals::OTHER_LINKS);
+        return Err(Reason::OtherLinks);
     }
     let root = index_of(place.root);
-    let of_roots = of.roots;
-    let roots = recorded_roots(rest, of_roots);
+    let roots = recorded_roots(rest, of.roots);
     if !lives_at(env, variables, roots, level_at(env, variables, root)) {
-        return refused(refusals::LIVES_TOO_SHORT);
+        return Err(Reason::LivesTooShort);
     }
     refill(env, variables, root, roots);
-    fine(Value::None)
+    Ok(None)
 }
 
 // Assign beyond a borrow link (LANGUAGE 3.25): no shared link passed (36), the same links (39), every borrowed root
@@ -97,52 +95,53 @@ fn write_beyond(
     env: &mut [u64],
     variables: usize,
     place: Place,
-    links: u32,
-    rest: u32,
-    to: Roots,
+    beyond: Beyond,
     of: ValueType,
-) -> Told
-    requires { NeatTable env.old variables × ((i : ℕ) → LocatedIs variables (environment_of env.old) i (as_place place) (located.At links rest to)) }
-    ensures { ((i : ℕ) → answered env.new i result ≡ judge_write variables (environment_of env.old) i (as_place place) (as_value env.old (value.Of of))) × TableFor env.new variables }
+) -> Verdict
+    requires { NeatTable env.old variables × ((i : ℕ) → LocatedIs variables (environment_of env.old) i (as_place place) (Ok (located.At beyond))) }
+    ensures { ((i : ℕ) → answered env.new i result ≡ judge_write variables (environment_of env.old) i (as_place place) (as_value env.old (Some of))) × TableFor env.new variables }
 {
-    if !no_shared(links, index_of(place.follows)) {
-        return refused(refusals::SHARED_PASSED);
+    if !no_shared(beyond.links, index_of(place.follows)) {
+        return Err(Reason::SharedPassed);
     }
-    if rest != of.links {
-        return refused(refusals::OTHER_LINKS);
+    if beyond.rest != of.links {
+        return Err(Reason::OtherLinks);
     }
-    let of_roots = of.roots;
-    let roots = recorded_roots(rest, of_roots);
-    if !live_long_enough(env, variables, roots, to) {
-        return refused(refusals::LIVES_TOO_SHORT);
+    let roots = recorded_roots(beyond.rest, of.roots);
+    if !live_long_enough(env, variables, roots, beyond.to) {
+        return Err(Reason::LivesTooShort);
     }
-    write_to(env, variables, to, roots);
-    fine(Value::None)
+    write_to(env, variables, beyond.to, roots);
+    Ok(None)
 }
 
 // Assign (LANGUAGE 3.25), after the right side: it has a value (41), the path of the place (31, 32, 33); then by where
 // the place leads. This leaves the new value in place, and 35 still to be judged.
-pub fn judge_write(env: &mut [u64], variables: usize, place: Place, inner: Value) -> Told
+pub fn judge_write(
+    env: &mut [u64],
+    variables: usize,
+    place: Place,
+    inner: Option<ValueType>,
+) -> Verdict
     requires { NeatTable env.old variables }
     ensures { ((i : ℕ) → answered env.new i result ≡ judge_write variables (environment_of env.old) i (as_place place) (as_value env.old inner)) × TableFor env.new variables }
 {
-    let Value::Of(of) = inner else {
-        return refused(refusals::NO_VALUE);
+    let Some(of) = inner else {
+        return Err(Reason::NoValue);
     };
-    let located = judge_place(env, variables, place);
+    let located = judge_place(env, variables, place)?;
     match located {
-        Located::Refused(number) => refused(number),
         Located::Own(rest) => write_own(env, variables, place, rest, of),
-        Located::At(links, rest, to) => write_beyond(env, variables, place, links, rest, to, of),
+        Located::At(beyond) => write_beyond(env, variables, place, beyond, of),
     }
 }
 
 // The end of an assign (LANGUAGE 3.25), with the new value in place: writing the root is not barred (35).
-pub fn judge_written(barred: bool) -> Told
+pub fn judge_written(barred: bool) -> Verdict
     ensures { Writes barred result }
 {
     if barred {
-        return refused(refusals::WRITING_BARRED);
+        return Err(Reason::WritingBarred);
     }
-    fine(Value::None)
+    Ok(None)
 }

@@ -10,10 +10,8 @@ use lib.ListN.{length, get_or, set, length-set}
 use borrow.Author.Tests.{eq-eqb}
 use Rattle.syntax.specs.Result.{need, ◌>>=◌, pick}
 use Rattle.variables.specs.declared.roots.Roots.{Roots}
-use Rattle.variables.specs.declared.verdicts.Value.{Value}
-use Rattle.variables.specs.declared.verdicts.Value.TheVariants as value
+use Rattle.std.specs.Prelude as prelude
 use Rattle.variables.specs.declared.verdicts.ValueType.{ValueType}
-use Rattle.variables.specs.declared.verdicts.Told.{Told}
 use Rattle.statics.specs.Places.{unite}
 use Rattle.statics.specs.Environment.{Borrow, places, borrow_end, Variable, live}
 use Rattle.statics.specs.Choice.{agreeing}
@@ -22,7 +20,7 @@ use Rattle.statics.specs.Roots.{lengths, place_at, left}
 use Rattle.variables.specs.Chains.{chain_of}
 use Rattle.variables.specs.Masks.{has}
 use Rattle.variables.specs.Table.{entry_word, roots_at, long_at, end_in, environment_of, note_at, TableFor}
-use Rattle.variables.specs.Verdicts.{type_of, as_value, Answers, value_of, Joins}
+use Rattle.variables.specs.Verdicts.{Verdict, type_of, as_value, Answers, value_of, Joins}
 use Rattle.choices.specs.Kept.{kept_moved_from, kept_roots, KeptAs, KeepsAll, PutKept}
 use Rattle.variables.proofs.EqualChains.{same_links_law}
 use Rattle.variables.proofs.EntryLaws.{live_status}
@@ -30,10 +28,10 @@ use Rattle.variables.proofs.EndRoots.{end_lengths, live_length, end_united}
 
 -- ---- the value of a choice
 
-pub joins : (first second : Value) (t u : ValueType) (s : Roots) (r : Told) → first ≡ value.Of t → second ≡ value.Of u → t.links ≡ u.links
+pub joins : (first second : prelude.Option ValueType) (t u : ValueType) (s : Roots) (r : Verdict) → first ≡ prelude.Some t → second ≡ prelude.Some u → t.links ≡ u.links
     → ((x : ℕ) → has s x ≡ pick (has t.roots x) true (has u.roots x))
     → Answers r (value_of (λ env. type_of (chain_of t.links) (end_in env (chain_of t.links) s))) → Joins first second r
-unfolding agreeing as_value need ◌>>=◌
+unfolding agreeing need ◌>>=◌
 joins first second t u s r e f l h A env i =
     let b : end_in env (chain_of t.links) s ≡ borrow_end (chain_of t.links) (unite (places (end_in env (chain_of t.links) t.roots)) (places (end_in env (chain_of u.links) u.roots))) =
     end_united (chain_of t.links) (long_at env) (left (chain_of t.links)) t.roots u.roots s h

@@ -9,12 +9,12 @@ ghost use Rattle.variables.specs.Verdicts.{NeatTable, Joins};
 ghost use Rattle.choices.specs.Kept.{kept_roots, joined_with, KeepsAll, Stays, PutKept, Given, Exchanged};
 
 use notes::notes::store;
-use variables::refusals;
+use syntax::refusals::Reason;
 use variables::roots::{Roots, is_empty, less, unite};
 use variables::table::{
     Entry, MOVED_FROM, NOTE, changed_state, end_roots, load, roots_at, word_at,
 };
-use variables::verdicts::{Told, Value, fine, refused, value_of};
+use variables::verdicts::{ValueType, Verdict, value_of};
 
 // The words kept of a number.
 pub const KEPT: usize = 3;
@@ -137,22 +137,14 @@ pub fn join(env: &mut [u64], variables: usize, kept: &[u64], count: usize)
 }
 
 // The value of a choice (LANGUAGE 3.31): those of its blocks have equal links, or both are none (39).
-pub fn judge_either(first: Value, second: Value) -> Told
+pub fn judge_either(first: Option<ValueType>, second: Option<ValueType>) -> Verdict
     ensures { Joins first second result }
 {
-    let Value::Of(one) = first else {
-        let Value::None = second else {
-            return refused(refusals::OTHER_LINKS);
-        };
-        return fine(Value::None);
-    };
-    let Value::Of(other) = second else {
-        return refused(refusals::OTHER_LINKS);
-    };
-    if one.links != other.links {
-        return refused(refusals::OTHER_LINKS);
+    match (first, second) {
+        (None, None) => Ok(None),
+        (Some(one), Some(other)) if one.links == other.links => {
+            value_of(one.links, unite(one.roots, other.roots))
+        }
+        _ => Err(Reason::OtherLinks),
     }
-    let one_roots = one.roots;
-    let other_roots = other.roots;
-    value_of(one.links, unite(one_roots, other_roots))
 }

@@ -8,13 +8,14 @@ use mathlib.Core.List.{List}
 use lib.ListN.{length, length-drop}
 use lib.Dec.{eqb}
 use borrow.Author.Tests.{eqb-true, eq-eqb}
-use denote.Enum.Declared.{tag_of}
 use Rattle.syntax.specs.Result.{pick}
 use Rattle.syntax.specs.Script.{Place}
 use Rattle.variables.specs.declared.roots.Roots.{Roots}
+use Rattle.std.specs.Prelude.{Result, Ok, Err}
+use Rattle.syntax.specs.declared.refusals.Reason.{Reason}
+use Rattle.syntax.specs.declared.refusals.Reason.TheVariants as reason
 use Rattle.paths.specs.declared.follow.Ends.{Ends}
 use Rattle.paths.specs.declared.follow.Ends.TheVariants as ends
-use Rattle.paths.specs.contracts.follow.Ends.{the_type}
 use Rattle.paths.specs.declared.follow.Step.{Step}
 use Rattle.paths.specs.declared.follow.Step.TheVariants as step
 use Rattle.statics.specs.Links.{Link, leading_boxes}
@@ -81,14 +82,14 @@ module _ (env : List ℕ) (n : ℕ) (T : NeatTable env n) (root m : ℕ) (is : e
   root_met = all_reached.1.start root (eq-eqb root root refl)
 
   -- One that is met does not pass.
-  stops_at : (deep : Bool) (x : ℕ) → all_reached.0 x ≡ true → passes_slot deep (live (variable_at env x)) (long_at env x - m) ≡ false → Searched n (environment_of env) root m deep ends.MovedAway
+  stops_at : (deep : Bool) (x : ℕ) → all_reached.0 x ≡ true → passes_slot deep (live (variable_at env x)) (long_at env x - m) ≡ false → Searched n (environment_of env) root m deep (Err reason.MovedAway)
   stops_at deep x met_x h = record {
     met = all_reached.0;
     is = all_reached.1;
-    moved = λ k. not_all (every (passes deep (environment_of env)) (places_of n all_reached.0 (lengths (environment_of env)) m)) refl;
-    own = λ k. absurd (let z : 2 ≡ 0 = ap (tag_of the_type) k in omega arith);
-    passed = λ s k. absurd (let z : 2 ≡ 1 = ap (tag_of the_type) k in omega arith);
-    to = λ s k. absurd (let z : 2 ≡ 1 = ap (tag_of the_type) k in omega arith);
+    moved = λ e k. (cc, not_all (every (passes deep (environment_of env)) (places_of n all_reached.0 (lengths (environment_of env)) m)) refl);
+    own = λ k. absurd cc;
+    passed = λ s k. absurd cc;
+    to = λ s k. absurd cc;
   }
     where
       stops : passing env m deep x ≡ false
@@ -99,7 +100,7 @@ module _ (env : List ℕ) (n : ℕ) (T : NeatTable env n) (root m : ℕ) (is : e
       not_all false k = refl
 
   -- The root is always met.
-  pub root_stops : (deep : Bool) → passes_slot deep (live (variable_at env root)) (long_at env root - m) ≡ false → Searched n (environment_of env) root m deep ends.MovedAway
+  pub root_stops : (deep : Bool) → passes_slot deep (live (variable_at env root)) (long_at env root - m) ≡ false → Searched n (environment_of env) root m deep (Err reason.MovedAway)
   root_stops deep h = stops_at deep root root_met h
 
   -- Where following ends in the root, nothing else is met.
@@ -111,27 +112,27 @@ module _ (env : List ℕ) (n : ℕ) (T : NeatTable env n) (root m : ℕ) (is : e
   }
 
   root_ends : (deep : Bool) → passes_slot deep (live (variable_at env root)) (long_at env root - m) ≡ true → long_at env root - m ≤ leading_boxes (chain_of (links_at env root))
-      → Searched n (environment_of env) root m deep ends.Own
+      → Searched n (environment_of env) root m deep (Ok ends.Own)
   root_ends deep p h = record {
     met = eqb root;
     is = root_alone h;
-    moved = λ e. absurd (let z : 0 ≡ 2 = ap (tag_of the_type) e in omega arith);
+    moved = λ e k. absurd cc;
     own = λ e. (
       (every_root n (eqb root) (environment_of env) m (passes deep (environment_of env))).1 (λ x l k. ap (passing env m deep) (sym (eqb-true root x k)) ∙ passes_at env root m is deep ∙ p),
       ends_at env root m is h,
     );
-    passed = λ s e. absurd (let z : 0 ≡ 1 = ap (tag_of the_type) e in omega arith);
-    to = λ s e. absurd (let z : 0 ≡ 1 = ap (tag_of the_type) e in omega arith);
+    passed = λ s e. absurd cc;
+    to = λ s e. absurd cc;
   }
 
   module _ (deep : Bool) (met todo es : Roots) (S : Searching env root m deep met todo es) where
     -- Nothing is left to do.
-    pub search_over : ((y : ℕ) → has todo y ≡ false) → Searched n (environment_of env) root m deep (ends.At es)
+    pub search_over : ((y : ℕ) → has todo y ≡ false) → Searched n (environment_of env) root m deep (Ok (ends.At es))
     search_over none = record {
       met = has met;
       is = over (eqb root) (leads (environment_of env) m) (has met) (has todo) S.meeting none;
-      moved = λ e. absurd (let z : 1 ≡ 2 = ap (tag_of the_type) e in omega arith);
-      own = λ e. absurd (let z : 1 ≡ 0 = ap (tag_of the_type) e in omega arith);
+      moved = λ e k. absurd cc;
+      own = λ e. absurd cc;
       passed = λ s e. (every_root n (has met) (environment_of env) m (passes deep (environment_of env))).1 (λ x l k. S.passed x k (none x));
       to = λ s e y.
           let z : es ≡ s = cc in
@@ -146,18 +147,18 @@ module _ (env : List ℕ) (n : ℕ) (T : NeatTable env n) (root m : ℕ) (is : e
       in_reach = all_reached.2 x met_x
 
       -- The follows from x are its links, as counted, without those left.
-      module _ (links many : ℕ) (le : links ≡ links_at env x) (ce : many ≡ length (chain_of links)) (r : Step) (step_is : Passed deep (variable_at env x) (many - m) r) where
+      module _ (links many : ℕ) (le : links ≡ links_at env x) (ce : many ≡ length (chain_of links)) (r : Result Step Reason) (step_is : Passed deep (variable_at env x) (many - m) r) where
         P : Passed deep (variable_at env x) (long_at env x - m) r
         P = subst (λ (k : ℕ). Passed deep (variable_at env x) (k - m) r) (ce ∙ ap (λ (l : ℕ). length (chain_of l)) le) step_is
 
-        pub search_stops : r ≡ step.MovedAway → Searched n (environment_of env) root m deep ends.MovedAway
-        search_stops e = stops_at deep x met_x (P.moved e)
+        pub search_stops : (k : Reason) → r ≡ Err k → (o : Result Ends Reason) → o ≡ Err k → Searched n (environment_of env) root m deep o
+        search_stops k e o q = subst (λ (o' : Result Ends Reason). Searched n (environment_of env) root m deep o') (sym (q ∙ ap Err (P.moved k e).0)) (stops_at deep x met_x (P.moved k e).1)
 
         module _ (todo₁ : Roots) (te : (y : ℕ) → has todo₁ y ≡ pick (eqb x y) false (has todo y)) where
           abbrev leading : ℕ → ℕ → Bool
           leading = leads (environment_of env) m
 
-          module _ (e : r ≡ step.Here) where
+          module _ (e : r ≡ (Ok step.Here)) where
             none : (z : ℕ) → leading x z ≡ false
             none = leads_nowhere env x m in_reach.0 (P.here e).1
 
@@ -178,7 +179,7 @@ module _ (env : List ℕ) (n : ℕ) (T : NeatTable env n) (root m : ℕ) (is : e
                 let z = search_less (eqb root) leading (passing env m deep) (ending env m) (has met) (has todo) (has es) S x h (has met) (has todo₁) same_met less_todo n in_reach.2 in
                 omega (arith, z)
 
-          module _ (e : r ≡ step.Through) (roots more met' todo' : Roots) (re : roots ≡ roots_at env x) (me : (z : ℕ) → has more z ≡ pick (has met z) false (has roots z)) (met-is : (z : ℕ) → has met' z ≡ pick (has met z) true (has more z)) (todo-is : (z : ℕ) → has todo' z ≡ pick (has todo₁ z) true (has more z)) where
+          module _ (e : r ≡ (Ok step.Through)) (roots more met' todo' : Roots) (re : roots ≡ roots_at env x) (me : (z : ℕ) → has more z ≡ pick (has met z) false (has roots z)) (met-is : (z : ℕ) → has met' z ≡ pick (has met z) true (has more z)) (todo-is : (z : ℕ) → has todo' z ≡ pick (has todo₁ z) true (has more z)) where
             some : (z : ℕ) → leading x z ≡ has roots z
             some z = leads_to_roots env x m in_reach.0 (P.through e).1 z ∙ ap (λ (k : Roots). has k z) (sym re)
 
@@ -191,12 +192,12 @@ module _ (env : List ℕ) (n : ℕ) (T : NeatTable env n) (root m : ℕ) (is : e
                 in_reach.2
 
   -- The root has been looked at, and leads beyond its borrow link: what it records is to do, `none` is left of the first set.
-  pub search_goes_on : (deep : Bool) → Passed deep (variable_at env root) (long_at env root - m) step.Through → (one roots more met none : Roots) → ((y : ℕ) → has one y ≡ eqb root y)
+  pub search_goes_on : (deep : Bool) → Passed deep (variable_at env root) (long_at env root - m) (Ok step.Through) → (one roots more met none : Roots) → ((y : ℕ) → has one y ≡ eqb root y)
       → roots ≡ roots_at env root → ((z : ℕ) → has more z ≡ pick (has one z) false (has roots z)) → ((z : ℕ) → has met z ≡ pick (has one z) true (has more z)) → ((y : ℕ) → has none y ≡ false)
       → Searching env root m deep met more none
   search_goes_on deep P one roots more met none oe re me met-is ne =
       (through_round deep one one none (search_begins (eqb root) (leads (environment_of env) m) (passing env m deep) (ending env m) (has one) (has none) oe ne) root (oe root ∙ eq-eqb root root refl)
-      (links_at env root) (long_at env root) refl refl step.Through P none (λ y. ne y ∙ gone (eqb root y) (has one y) (oe y)) refl roots more met more re me met-is (λ z. ap (λ (b : Bool). pick b true (has more z)) (sym (ne z)))).0
+      (links_at env root) (long_at env root) refl refl (Ok step.Through) P none (λ y. ne y ∙ gone (eqb root y) (has one y) (oe y)) refl roots more met more re me met-is (λ z. ap (λ (b : Bool). pick b true (has more z)) (sym (ne z)))).0
     where
       gone : (q b : Bool) → b ≡ q → false ≡ pick q false b
       gone true b e = refl
@@ -204,14 +205,16 @@ module _ (env : List ℕ) (n : ℕ) (T : NeatTable env n) (root m : ℕ) (is : e
 
 -- ---- from the root of a place, with its follows: left are the links of the root without them
 
-module _ (env : List ℕ) (n : ℕ) (T : NeatTable env n) (root f : ℕ) (is : environment_of env root ≡ live (variable_at env root)) (fits : f ≤ long_at env root) (r : Step) (P : Passed false (variable_at env root) f r) where
+module _ (env : List ℕ) (n : ℕ) (T : NeatTable env n) (root f : ℕ) (is : environment_of env root ≡ live (variable_at env root)) (fits : f ≤ long_at env root) (r : Result Step Reason) (P : Passed false (variable_at env root) f r) where
   at_root : (k : ℕ) → k ≡ long_at env root → Passed false (variable_at env root) (long_at env root - (k - f)) r
   at_root k e = subst (λ (g : ℕ). Passed false (variable_at env root) g r) (omega arith) P
 
-  pub place_stops : r ≡ step.MovedAway → Searched n (environment_of env) root (long_at env root - f) false ends.MovedAway
-  place_stops e = root_stops env n T root (long_at env root - f) is (omega arith) false ((at_root (long_at env root) refl).moved e)
+  pub place_stops : (k : Reason) → r ≡ Err k → (o : Result Ends Reason) → o ≡ Err k → Searched n (environment_of env) root (long_at env root - f) false o
+  place_stops k e o q =
+      let stops = (at_root (long_at env root) refl).moved k e in
+      subst (λ (o' : Result Ends Reason). Searched n (environment_of env) root (long_at env root - f) false o') (sym (q ∙ ap Err stops.0)) (root_stops env n T root (long_at env root - f) is (omega arith) false stops.1)
 
-  pub place_ends : r ≡ step.Here → Searched n (environment_of env) root (long_at env root - f) false ends.Own
+  pub place_ends : r ≡ (Ok step.Here) → Searched n (environment_of env) root (long_at env root - f) false (Ok ends.Own)
   place_ends e = let here = (at_root (long_at env root) refl).here e in root_ends env n T root (long_at env root - f) is (omega arith) false here.0 here.1
 
   -- Beyond the borrow link, with the links of the root as counted.
@@ -219,8 +222,8 @@ module _ (env : List ℕ) (n : ℕ) (T : NeatTable env n) (root f : ℕ) (is : e
     counted : many ≡ long_at env root
     counted = ce ∙ ap (λ (l : ℕ). length (chain_of l)) le
 
-    pub beyond_asks : r ≡ step.Through → (many - f ≤ long_at env root) × Passed false (variable_at env root) (long_at env root - (many - f)) step.Through
-    beyond_asks e = (omega (arith, counted), subst (λ (k : Step). Passed false (variable_at env root) (long_at env root - (many - f)) k) e (at_root many counted))
+    pub beyond_asks : r ≡ (Ok step.Through) → (many - f ≤ long_at env root) × Passed false (variable_at env root) (long_at env root - (many - f)) (Ok step.Through)
+    beyond_asks e = (omega (arith, counted), subst (λ (k : Result Step Reason). Passed false (variable_at env root) (long_at env root - (many - f)) k) e (at_root many counted))
 
-    pub beyond_found : (found : Ends) → Searched n (environment_of env) root (many - f) false found → Searched n (environment_of env) root (long_at env root - f) false found
+    pub beyond_found : (found : Result Ends Reason) → Searched n (environment_of env) root (many - f) false found → Searched n (environment_of env) root (long_at env root - f) false found
     beyond_found found S = subst (λ (k : ℕ). Searched n (environment_of env) root (k - f) false found) counted S

@@ -8,9 +8,10 @@ use mathlib.Core.Bool.{Bool, true, false, true≢false}
 use mathlib.Core.List.{List, [], ◌∷◌}
 use lib.ListN.{length}
 use borrow.Author.Tests.{le-leb, lt-leb, lt-ltb, le-ltb}
-use denote.Enum.Declared.{tag_of}
+use Rattle.std.specs.Prelude.{Result, Ok, Err}
+use Rattle.syntax.specs.declared.refusals.Reason.{Reason}
+use Rattle.syntax.specs.declared.refusals.Reason.TheVariants as reason
 use Rattle.paths.specs.declared.follow.Step.TheVariants as step
-use Rattle.paths.specs.contracts.follow.Step.{the_type}
 use Rattle.statics.specs.Links.{Link, boxed, shared, exclusive, leading_boxes}
 use Rattle.statics.specs.Environment.{Variable, live, borrow_of, holding}
 use Rattle.statics.specs.Follow.{is_borrow, own_link, own_path, whole_slot}
@@ -61,24 +62,24 @@ module _ (v : Variable) (f : ℕ) where
   -- ---- the answers of a step
 
   module _ (deep : Bool) where
-    pub step_moved : passes_slot deep (live v) f ≡ false → Passed deep v f step.MovedAway
+    pub step_moved : passes_slot deep (live v) f ≡ false → Passed deep v f (Err reason.MovedAway)
     step_moved h = record {
-      moved = λ e. h;
-      here = λ e. absurd (let z : 2 ≡ 0 = ap (tag_of the_type) e in omega arith);
-      through = λ e. absurd (let z : 2 ≡ 1 = ap (tag_of the_type) e in omega arith);
+      moved = λ e k. (cc, h);
+      here = λ e. absurd cc;
+      through = λ e. absurd cc;
     }
 
-    pub step_here : passes_slot deep (live v) f ≡ true → f ≤ leading_boxes v.chain → Passed deep v f step.Here
+    pub step_here : passes_slot deep (live v) f ≡ true → f ≤ leading_boxes v.chain → Passed deep v f (Ok step.Here)
     step_here h l = record {
-      moved = λ e. absurd (let z : 0 ≡ 2 = ap (tag_of the_type) e in omega arith);
+      moved = λ e k. absurd cc;
       here = λ e. (h, l);
-      through = λ e. absurd (let z : 0 ≡ 1 = ap (tag_of the_type) e in omega arith);
+      through = λ e. absurd cc;
     }
 
-    pub step_through : passes_slot deep (live v) f ≡ true → leading_boxes v.chain < f → Passed deep v f step.Through
+    pub step_through : passes_slot deep (live v) f ≡ true → leading_boxes v.chain < f → Passed deep v f (Ok step.Through)
     step_through h l = record {
-      moved = λ e. absurd (let z : 1 ≡ 2 = ap (tag_of the_type) e in omega arith);
-      here = λ e. absurd (let z : 1 ≡ 0 = ap (tag_of the_type) e in omega arith);
+      moved = λ e k. absurd cc;
+      here = λ e. absurd cc;
       through = λ e. (h, l);
     }
 
@@ -107,7 +108,7 @@ module _ (env : List ℕ) (x m : ℕ) (is : environment_of env x ≡ live (varia
   leads_to_roots h z = rw (is, lt-ltb (leading_boxes (chain_of (links_at env x))) (long_at env x - m) h) (end_rooted env (chain_of (links_at env x)) (roots_at env x) z (omega arith))
 
 -- A variable that is whole itself and has a borrow link leads on to the end of its value.
-pub whole_through : (env : List ℕ) (x : ℕ) → leading_boxes (chain_of (links_at env x)) < entry_word env x 4 → (long_at env x ≡ leading_boxes (chain_of (links_at env x)) → ⊥) → Passed true (variable_at env x) (long_at env x - 0) step.Through
+pub whole_through : (env : List ℕ) (x : ℕ) → leading_boxes (chain_of (links_at env x)) < entry_word env x 4 → (long_at env x ≡ leading_boxes (chain_of (links_at env x)) → ⊥) → Passed true (variable_at env x) (long_at env x - 0) (Ok step.Through)
 whole_through env x h n =
     let z = boxes_inside_law (chain_of (links_at env x)) in
     let l : leading_boxes (chain_of (links_at env x)) < long_at env x - 0 = omega (arith, z, n) in

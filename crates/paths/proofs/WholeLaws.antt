@@ -11,6 +11,9 @@ use Rattle.variables.specs.declared.table.BorrowEnd.TheVariants as end
 use Rattle.variables.specs.declared.table.VariableState.{VariableState}
 use Rattle.variables.specs.declared.table.Entry.{Entry}
 use Rattle.variables.specs.declared.table.Entry.TheVariants as entry
+use Rattle.std.specs.Prelude.{Result, Ok, Err, is_ok}
+use Rattle.syntax.specs.declared.refusals.Reason.{Reason}
+use Rattle.syntax.specs.declared.refusals.Reason.TheVariants as reason
 use Rattle.paths.specs.declared.follow.Ends.{Ends}
 use Rattle.paths.specs.declared.follow.Ends.TheVariants as ends
 use Rattle.paths.specs.declared.follow.Step.TheVariants as step
@@ -45,13 +48,14 @@ module _ (env : List ℕ) (n : ℕ) (T : NeatTable env n) (x : ℕ) (is : enviro
       W ∙ ap (λ (k : ℕ). every (λ q. whole_slot (environment_of env q.root)) (places_of n f (lengths (environment_of env)) k)) z
 
   -- So it is what the search says that asks each variable for all of it.
-  pub whole_found : (r : Ends) → Searched n (environment_of env) x 0 true r
-      → (r ≡ ends.Own → true ≡ whole) × ((s : Roots) → r ≡ ends.At s → true ≡ whole) × (r ≡ ends.MovedAway → false ≡ whole)
-  whole_found r S = (λ e. sym (whole_met S.met S.is ∙ (S.own e).0), λ s e. sym (whole_met S.met S.is ∙ S.passed s e), λ e. sym (whole_met S.met S.is ∙ S.moved e))
+  pub whole_found : (r : Result Ends Reason) → Searched n (environment_of env) x 0 true r → is_ok r ≡ whole
+  whole_found (Ok ends.Own) S = sym (whole_met S.met S.is ∙ (S.own refl).0)
+  whole_found (Ok (ends.At s)) S = sym (whole_met S.met S.is ∙ S.passed s refl)
+  whole_found (Err e) S = sym (whole_met S.met S.is ∙ (S.moved e refl).1)
 
   -- Without a search: something of the variable itself is moved away, or nothing is and it has no borrow link.
   moved_there : entry_word env x 4 ≤ leading_boxes (chain_of (links_at env x)) → false ≡ whole
-  moved_there h = (whole_found ends.MovedAway (root_stops env n T x 0 is (omega arith) true (stops_deep (variable_at env x) (long_at env x - 0) true refl h))).2 refl
+  moved_there h = whole_found (Err reason.MovedAway) (root_stops env n T x 0 is (omega arith) true (stops_deep (variable_at env x) (long_at env x - 0) true refl h))
 
   whole_there_law : leading_boxes (chain_of (links_at env x)) < entry_word env x 4 → long_at env x ≡ leading_boxes (chain_of (links_at env x)) → true ≡ whole
   unfolding passes_slot whole_slot holding
@@ -85,7 +89,7 @@ module _ (env : List ℕ) (n : ℕ) (T : NeatTable env n) (x : ℕ) (is : enviro
 
     -- With a borrow link the search goes on from there.
     pub linked_loaded : boxes < v.moved_from → (v.borrow_end ≡ end.None → ⊥)
-        → Passed true (variable_at env x) (long_at env x - 0) step.Through
+        → Passed true (variable_at env x) (long_at env x - 0) (Ok step.Through)
     linked_loaded h some =
         whole_through env x (omega (arith, boxes_are, moved_is))
         (λ z. some (end_is ∙ boxed_none (chain_of (links_at env x)) (roots_at env x) z))

@@ -1,5 +1,8 @@
 -- Where a place leads (LANGUAGE 3.13), as the code searches: from variable to variable, each met once. No rule of the language is stated here.
 use Rattle.std.specs.Prelude.{ℕ, ◌-◌, ◌≤◌, ◌<◌, ◌≡◌, Bool, true, false, List}
+use Rattle.std.specs.Prelude.{Result, Ok, Err}
+use Rattle.syntax.specs.declared.refusals.Reason.{Reason}
+use Rattle.syntax.specs.declared.refusals.Reason.TheVariants as reason
 use Rattle.syntax.specs.Script.{Place}
 use Rattle.variables.specs.declared.roots.Roots.{Roots}
 use Rattle.paths.specs.declared.follow.Ends.{Ends}
@@ -22,21 +25,21 @@ passes_slot false s r = own_path s r
 abbrev pub passes : Bool → Environment → Place → Bool
 passes deep Γ q = passes_slot deep (Γ q.root) q.follows
 
--- What a step says of a variable in scope, with so many follows from it.
-pub record Passed (deep : Bool) (v : Variable) (follows : ℕ) (r : Step) : Type 0 where
-  pub moved : r ≡ step.MovedAway → passes_slot deep (live v) follows ≡ false
-  pub here : r ≡ step.Here → (passes_slot deep (live v) follows ≡ true) × (follows ≤ leading_boxes v.chain)
-  pub through : r ≡ step.Through → (passes_slot deep (live v) follows ≡ true) × (leading_boxes v.chain < follows)
+-- What a step says of a variable in scope, with so many follows from it: it does not pass (33), following ends there, or goes on.
+pub record Passed (deep : Bool) (v : Variable) (follows : ℕ) (r : Result Step Reason) : Type 0 where
+  pub moved : (e : Reason) → r ≡ Err e → (e ≡ reason.MovedAway) × (passes_slot deep (live v) follows ≡ false)
+  pub here : r ≡ Ok step.Here → (passes_slot deep (live v) follows ≡ true) × (follows ≤ leading_boxes v.chain)
+  pub through : r ≡ Ok step.Through → (passes_slot deep (live v) follows ≡ true) × (leading_boxes v.chain < follows)
 
 -- The variables met from x on with m links left are those of `met`. The search says that one of them does not pass, or that all pass, and
 -- then in which of them it ends, or that it ends in x itself.
-pub record Searched (nv : ℕ) (Γ : Environment) (x m : ℕ) (deep : Bool) (r : Ends) : Type 0 where
+pub record Searched (nv : ℕ) (Γ : Environment) (x m : ℕ) (deep : Bool) (r : Result Ends Reason) : Type 0 where
   pub met : ℕ → Bool
   pub is : MetFrom Γ m x met
-  pub moved : r ≡ ends.MovedAway → every (passes deep Γ) (places_of nv met (lengths Γ) m) ≡ false
-  pub own : r ≡ ends.Own → (every (passes deep Γ) (places_of nv met (lengths Γ) m) ≡ true) × (own_link (Γ x) (lengths Γ x - m) ≡ true)
-  pub passed : (s : Roots) → r ≡ ends.At s → every (passes deep Γ) (places_of nv met (lengths Γ) m) ≡ true
-  pub to : (s : Roots) → r ≡ ends.At s → (y : ℕ) → has s y ≡ ends_of Γ m met y
+  pub moved : (e : Reason) → r ≡ Err e → (e ≡ reason.MovedAway) × (every (passes deep Γ) (places_of nv met (lengths Γ) m) ≡ false)
+  pub own : r ≡ Ok ends.Own → (every (passes deep Γ) (places_of nv met (lengths Γ) m) ≡ true) × (own_link (Γ x) (lengths Γ x - m) ≡ true)
+  pub passed : (s : Roots) → r ≡ Ok (ends.At s) → every (passes deep Γ) (places_of nv met (lengths Γ) m) ≡ true
+  pub to : (s : Roots) → r ≡ Ok (ends.At s) → (y : ℕ) → has s y ≡ ends_of Γ m met y
 
 -- The roots that the variables of a set record, all of them.
 pub record BorrowedAt (env : List ℕ) (s r : Roots) : Type 0 where

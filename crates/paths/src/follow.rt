@@ -1,6 +1,6 @@
 // Where a place leads (LANGUAGE 3.13): to own links of variables, through boxes, and beyond borrow links through the
 // borrowed places. With so many links left after it, a place is told by its root, so that what is met is a set of roots.
-ghost use Rattle.std.specs.Prelude.{◌≡◌, true, false, ℕ, ◌≤◌, ◌<◌, ◌+◌, ◌*◌, ◌-◌, length};
+ghost use Rattle.std.specs.Prelude.{◌≡◌, true, false, Ok, ℕ, ◌≤◌, ◌<◌, ◌+◌, ◌*◌, ◌-◌, length};
 ghost use Rattle.paths.specs.declared.follow.Step.TheVariants as step;
 ghost use Rattle.statics.specs.Environment.{live};
 ghost use Rattle.variables.specs.Chains.{chain_of};
@@ -10,30 +10,29 @@ ghost use Rattle.variables.specs.Masks.{has};
 ghost use Rattle.paths.specs.Steps.{Passed, Searched, BorrowedAt};
 ghost use Rattle.variables.specs.Verdicts.{NeatTable};
 
+use syntax::refusals::Reason;
 use variables::chains::{chain_length, leading_boxes};
 use variables::roots::{Roots, is_empty, less, lowest, no_roots, only, unite, without};
 use variables::table::{BorrowEnd, Entry, MOVED_FROM, links_at, load, roots_at, word_at};
 
-// Where a place leads: to an own link of its root, the common case, for which no set is made; to own links of these
-// variables; or something on the way is moved away (33).
+// Where a place leads: to an own link of its root, the common case, for which no set is made; or to own links of these
+// variables.
 #[derive(Clone, Copy)]
 pub enum Ends {
     Own,
     At(Roots),
-    MovedAway,
 }
 
-// One variable on the way: it does not pass (33), following ends at its own link, or goes on from the places it records.
+// One variable on the way that passes: following ends at its own link, or goes on from the places it records.
 #[derive(Clone, Copy)]
 pub enum Step {
     Here,
     Through,
-    MovedAway,
 }
 
-// The variable x on the way, with so many follows from it (LANGUAGE 3.13, 3.14); all of it must be whole if the end of
-// the value is looked for (3.15).
-fn step_at(env: &[u64], x: usize, follows: usize, deep: bool) -> Step
+// The variable x on the way, with so many follows from it (33; LANGUAGE 3.13, 3.14); all of it must be whole if the end
+// of the value is looked for (3.15).
+fn step_at(env: &[u64], x: usize, follows: usize, deep: bool) -> Result<Step, Reason>
     requires { (x * 8 + 8 ≤ length env.now) × (follows ≤ length (chain_of (links_at env.now x))) }
     ensures { Passed deep (variable_at env.now x) follows result }
 {
@@ -42,26 +41,32 @@ fn step_at(env: &[u64], x: usize, follows: usize, deep: bool) -> Step
     let moved_from = word_at(env, x, MOVED_FROM);
     if moved_from <= boxes {
         if deep {
-            return Step::MovedAway;
+            return Err(Reason::MovedAway);
         }
     }
     let follows = follows as u64;
     if follows <= boxes {
         if follows <= moved_from {
-            return Step::Here;
+            return Ok(Step::Here);
         }
-        return Step::MovedAway;
+        return Err(Reason::MovedAway);
     }
     if moved_from <= boxes {
-        return Step::MovedAway;
+        return Err(Reason::MovedAway);
     }
-    Step::Through
+    Ok(Step::Through)
 }
 
 // All that is met beyond the borrow link of the root, with so many links left: each variable once, until one does not
-// pass.
-fn search_beyond(env: &[u64], variables: usize, root: usize, remaining: usize, deep: bool) -> Ends
-    requires { NeatTable env.now variables × (environment_of env.now root ≡ live (variable_at env.now root)) × (remaining ≤ length (chain_of (links_at env.now root))) × Passed deep (variable_at env.now root) (length (chain_of (links_at env.now root)) - remaining) step.Through }
+// pass (33).
+fn search_beyond(
+    env: &[u64],
+    variables: usize,
+    root: usize,
+    remaining: usize,
+    deep: bool,
+) -> Result<Ends, Reason>
+    requires { NeatTable env.now variables × (environment_of env.now root ≡ live (variable_at env.now root)) × (remaining ≤ length (chain_of (links_at env.now root))) × Passed deep (variable_at env.now root) (length (chain_of (links_at env.now root)) - remaining) (Ok step.Through) }
     ensures { Searched variables (environment_of env.now) root remaining deep result }
 {
     let first = only(root);
@@ -72,11 +77,7 @@ fn search_beyond(env: &[u64], variables: usize, root: usize, remaining: usize, d
         let x = lowest(todo);
         todo = without(todo, x);
         let follows = chain_length(links_at(env, x)) - remaining;
-        let step = step_at(env, x, follows, deep);
-        match step {
-            Step::MovedAway => {
-                return Ends::MovedAway;
-            }
+        match step_at(env, x, follows, deep)? {
             Step::Here => {
                 ends = unite(ends, only(x));
             }
@@ -87,19 +88,22 @@ fn search_beyond(env: &[u64], variables: usize, root: usize, remaining: usize, d
             }
         }
     }
-    Ends::At(ends)
+    Ok(Ends::At(ends))
 }
 
-// All that is met from the variable root on, which is in scope, with so many follows from it. Most often that is the
-// root alone; the links left are counted only where its borrow link is passed.
-pub fn search(env: &[u64], variables: usize, root: usize, follows: usize) -> Ends
+// All that is met from the variable root on, which is in scope, with so many follows from it, if nothing on the way is
+// moved away (33). Most often that is the root alone; the links left are counted only where its borrow link is passed.
+pub fn search(
+    env: &[u64],
+    variables: usize,
+    root: usize,
+    follows: usize,
+) -> Result<Ends, Reason>
     requires { NeatTable env.now variables × (environment_of env.now root ≡ live (variable_at env.now root)) × (follows ≤ length (chain_of (links_at env.now root))) }
     ensures { Searched variables (environment_of env.now) root (length (chain_of (links_at env.now root)) - follows) false result }
 {
-    let step = step_at(env, root, follows, false);
-    match step {
-        Step::MovedAway => Ends::MovedAway,
-        Step::Here => Ends::Own,
+    match step_at(env, root, follows, false)? {
+        Step::Here => Ok(Ends::Own),
         Step::Through => search_beyond(
             env,
             variables,
@@ -116,23 +120,16 @@ pub fn value_whole(env: &[u64], variables: usize, x: usize) -> bool
     requires { NeatTable env.now variables × (environment_of env.now x ≡ live (variable_at env.now x)) }
     ensures { result ≡ value_whole variables (environment_of env.now) x (variable_at env.now x) }
 {
-    let entry = load(env, variables, x);
-    let Entry::Live(state) = entry else {
+    let Entry::Live(state) = load(env, variables, x) else {
         return false;
     };
     if state.moved_from <= leading_boxes(state.links) as u64 {
         return false;
     }
-    let end = state.borrow_end;
-    if let BorrowEnd::None = end {
+    if let BorrowEnd::None = state.borrow_end {
         return true;
     }
-    let ends = search_beyond(env, variables, x, 0, true);
-    match ends {
-        Ends::Own => true,
-        Ends::At(_) => true,
-        Ends::MovedAway => false,
-    }
+    search_beyond(env, variables, x, 0, true).is_ok()
 }
 
 // The roots that any of these variables records (LANGUAGE 3.19).

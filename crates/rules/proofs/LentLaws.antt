@@ -12,7 +12,8 @@ use Rattle.syntax.specs.Script.{Place}
 use Rattle.variables.specs.declared.roots.Roots.{Roots}
 use Rattle.paths.specs.declared.follow.Ends.{Ends}
 use Rattle.paths.specs.declared.follow.Ends.TheVariants as ends
-use Rattle.variables.specs.declared.verdicts.Told as verdicts
+use Rattle.std.specs.Prelude.{Result, Ok, Err}
+use Rattle.syntax.specs.declared.refusals.Reason.{Reason}
 use Rattle.statics.specs.Links.{Link, shared, leading_boxes, last_shared, is_number, copies}
 use Rattle.statics.specs.Environment.{places, borrow_end, Variable, live, borrows_at}
 use Rattle.statics.specs.Follow.{past, value_whole}
@@ -25,7 +26,7 @@ use Rattle.variables.specs.Masks.{has}
 use Rattle.variables.specs.Chains.{chain_of}
 use Rattle.paths.specs.Steps.{Searched, BorrowedAt}
 use Rattle.variables.specs.Table.{links_at, long_at, roots_at, variable_at, places_in, end_in, environment_of}
-use Rattle.variables.specs.Verdicts.{NeatTable, type_of, answered, Answers, at_most8}
+use Rattle.variables.specs.Verdicts.{Verdict, NeatTable, type_of, answered, Answers, at_most8}
 use Rattle.rules.specs.RuleAnswers.{PlaceFound, Named, Read, WholeBorrow, LentAt}
 use Rattle.statics.proofs.Answers.{err≢ok}
 use Rattle.statics.proofs.LinkChains.{last_at}
@@ -55,9 +56,9 @@ module _ (env : List ℕ) (nv : ℕ) (T : NeatTable env nv) (i x follows : ℕ) 
   named : Named (environment_of env) (place x follows) rest.0
   named = record { variable = variable_at env x; is = W.is; long = W.long; after = rest.1 }
 
-  module _ (e : Ends) (S : Searched nv (environment_of env) x (long_at env x - follows) false e) where
+  module _ (e : Result Ends Reason) (S : Searched nv (environment_of env) x (long_at env x - follows) false e) where
     -- It ends in the root itself, which borrows what its entry says.
-    pub lent_own : e ≡ ends.Own → (s : Roots) → s ≡ roots_at env x → LentAt nv env i x follows s
+    pub lent_own : e ≡ Ok ends.Own → (s : Roots) → s ≡ roots_at env x → LentAt nv env i x follows s
     lent_own h s r =
         let F = found_own env nv T i (place x follows) named x refl follows refl e S h in
         record {
@@ -69,7 +70,7 @@ module _ (env : List ℕ) (nv : ℕ) (T : NeatTable env nv) (i x follows : ℕ) 
               ∙ ap (places_in env ks) (sym r);
         }
 
-    module _ (to : Roots) (h : e ≡ ends.At to) where
+    module _ (to : Roots) (h : e ≡ Ok (ends.At to)) where
       there : PlaceFound nv (environment_of env) (place x follows) (links_at env x) rest.0 to (judge_place nv (environment_of env) i (place x follows))
       there = place_there env nv T i (place x follows) named x refl follows refl e S to h (links_at env x) refl
 
@@ -90,9 +91,9 @@ module _ (env : List ℕ) (nv : ℕ) (T : NeatTable env nv) (i x follows : ℕ) 
           }
 
     -- Nothing on the way is moved away, since the value is whole.
-    pub never_moved : e ≡ ends.MovedAway → ⊥
-    never_moved h =
-        err≢ok (sym (place_moved env nv T i (place x follows) named x refl follows refl e S h) ∙ (whole_path T.1.1 (place x follows) (variable_at env x) W.is W.long i W.whole).1)
+    pub never_moved : (k : Reason) → e ≡ Err k → ⊥
+    never_moved k h =
+        err≢ok (sym (place_moved env nv T i (place x follows) named x refl follows refl e S k h) ∙ (whole_path T.1.1 (place x follows) (variable_at env x) W.is W.long i W.whole).1)
 
 -- ---- the rules that ask for it, of a place that is named and whose value is whole
 
@@ -199,7 +200,7 @@ module _ (env : List ℕ) (nv : ℕ) (T : NeatTable env nv) (i : ℕ) (p : Place
             let remain : m - n ≡ length (chain_of rest) = omega (arith, behind-link, behind-place, after, long, follows, at_last.0) in
             rw placed (ap ok (ap (λ (ps : List Place). past ps n) lent ∙ past_places (has s) (long_at env) m n fewer long_enough 128 ∙ ap (places_of 128 (has s) (long_at env)) remain))
 
-        pub shared_lent : (v : verdicts.Told) → Answers v (at_most8 (λ e. type_of (shared ∷ chain_of rest) (end_in e (shared ∷ chain_of rest) s))) → answered env i v ≡ judge_shared nv ns (environment_of env) i p
+        pub shared_lent : (v : Verdict) → Answers v (at_most8 (λ e. type_of (shared ∷ chain_of rest) (end_in e (shared ∷ chain_of rest) s))) → answered env i v ≡ judge_shared nv ns (environment_of env) i p
         unfolding judge_shared need ◌>>=◌ borrow_end leading_boxes
         shared_lent v a =
             let last : last_shared (take p.follows R.named.variable.chain) ≡ some j = ap₂ (λ (u : Variable) (k : ℕ). last_shared (take k u.chain)) (is_root env nv T p R.named x at) (sym follows) ∙ passed in

@@ -15,7 +15,8 @@ use Rattle.syntax.specs.Script.{Place}
 use Rattle.variables.specs.declared.roots.Roots.{Roots}
 use Rattle.paths.specs.declared.follow.Ends.{Ends}
 use Rattle.paths.specs.declared.follow.Ends.TheVariants as ends
-use Rattle.variables.specs.declared.verdicts.Value.TheVariants as value
+use Rattle.std.specs.Prelude.{Result, Ok, Some}
+use Rattle.syntax.specs.declared.refusals.Reason.{Reason}
 use Rattle.variables.specs.declared.verdicts.ValueType.{ValueType}
 use Rattle.statics.specs.Links.{Link, boxed, shared, exclusive, leading_boxes, no_shared}
 use Rattle.statics.specs.Places.{member, unite, every, only}
@@ -65,8 +66,8 @@ unite_none ps o = same_list (unite ps []) ps (unite_ordered ps [] tt) o (λ q i.
 module _ (env : List ℕ) (nv : ℕ) (T : NeatTable env nv) (i : ℕ) (p : Place) {rest : ℕ} where
   -- ---- the search that ends in the root
 
-  module _ (F : Named (environment_of env) p rest) (x : ℕ) (at : x ≡ p.root) (f : ℕ) (follows : f ≡ p.follows) (r : Ends)
-      (S : Searched nv (environment_of env) x (long_at env x - f) false r) (e : r ≡ ends.Own) where
+  module _ (F : Named (environment_of env) p rest) (x : ℕ) (at : x ≡ p.root) (f : ℕ) (follows : f ≡ p.follows) (r : Result Ends Reason)
+      (S : Searched nv (environment_of env) x (long_at env x - f) false r) (e : r ≡ Ok ends.Own) where
     abbrev m : ℕ
     m = long_at env x - f
 
@@ -124,8 +125,8 @@ module _ (env : List ℕ) (nv : ℕ) (T : NeatTable env nv) (i : ℕ) (p : Place
     passed = boxes_unshared p.follows F.named.variable.chain F.own
 
     module _ (t : ValueType) where
-      pub own_other_links : (rest ≡ t.links → ⊥) → judge_write nv (environment_of env) i p (as_value env (value.Of t)) ≡ err (39, i)
-      unfolding judge_write as_value valued need ◌>>=◌
+      pub own_other_links : (rest ≡ t.links → ⊥) → judge_write nv (environment_of env) i p (as_value env (Some t)) ≡ err (39, i)
+      unfolding judge_write valued need ◌>>=◌
       own_other_links h = rw (F.is, passed, F.named.after, same_links_law rest t.links, ne_eqb rest t.links h) refl
 
       module _ (same : rest ≡ t.links) (s : Roots) (recorded : places (end_in env (chain_of rest) t.roots) ≡ places_in env (chain_of rest) s) (x : ℕ) (at : x ≡ p.root) (level : ℕ)
@@ -142,8 +143,8 @@ module _ (env : List ℕ) (nv : ℕ) (T : NeatTable env nv) (i : ℕ) (p : Place
             ap₂ (λ (ps : List Place) (l : ℕ). every (λ q. leb (level_of (environment_of env q.root)) l) ps) (ap places (sym is_b) ∙ recorded) (ap (λ (y : ℕ). level_of (environment_of env y)) (sym at) ∙ sym level_is)
             ∙ sym (asked (left (chain_of rest)))
 
-        pub own_too_short : long ≡ false → judge_write nv (environment_of env) i p (as_value env (value.Of t)) ≡ err (40, i)
-        unfolding judge_write as_value valued need every ◌>>=◌
+        pub own_too_short : long ≡ false → judge_write nv (environment_of env) i p (as_value env (Some t)) ≡ err (40, i)
+        unfolding judge_write valued need every ◌>>=◌
         own_too_short h = rw (F.is, passed, F.named.after, same_links_law rest t.links, eq-eqb rest t.links same, lives, h) refl
 
         module _ (enough : long ≡ true) (env' : List ℕ) (E : environment_of env' ≡ update (environment_of env) x (refilled (environment_of env x) (end_in env (chain_of (links_at env x)) s))) where
@@ -154,6 +155,6 @@ module _ (env : List ℕ) (nv : ℕ) (T : NeatTable env nv) (i : ℕ) (p : Place
               ∙ ap (λ (c : Borrow). update (environment_of env) p.root (refilled (environment_of env p.root) c)) (own_end s ∙ end_recorded env (chain_of rest) t.roots s recorded ∙ is_b)
               ∙ fun_ext (λ y. sym (write_one (environment_of env) p.root p.follows b y))
 
-          pub own_written : judge_write nv (environment_of env) i p (as_value env (value.Of t)) ≡ ok (environment_of env', none)
-          unfolding judge_write as_value valued need every ◌>>=◌
+          pub own_written : judge_write nv (environment_of env) i p (as_value env (Some t)) ≡ ok (environment_of env', none)
+          unfolding judge_write valued need every ◌>>=◌
           own_written = rw (F.is, passed, F.named.after, same_links_law rest t.links, eq-eqb rest t.links same, lives, enough, ← written_is) refl

@@ -13,9 +13,10 @@ use Rattle.syntax.specs.Script.{Place}
 use Rattle.variables.specs.declared.roots.Roots.{Roots}
 use Rattle.paths.specs.declared.follow.Ends.{Ends}
 use Rattle.paths.specs.declared.follow.Ends.TheVariants as ends
-use Rattle.rules.specs.declared.rules.Readable.{Readable}
-use Rattle.rules.specs.declared.rules.Readable.TheVariants as readable
-use Rattle.variables.specs.declared.verdicts.Told as verdicts
+use Rattle.std.specs.Prelude.{Result, Ok, Err}
+use Rattle.syntax.specs.declared.refusals.Reason.{Reason}
+use Rattle.syntax.specs.declared.refusals.Reason.TheVariants as reason
+use Rattle.syntax.specs.Refusals.{number_of}
 use Rattle.statics.specs.Links.{Link, shared, exclusive, max_links, leading_boxes, no_shared, last_shared, is_number, copies}
 use Rattle.statics.specs.Places.{every}
 use Rattle.statics.specs.Environment.{Borrow, shared_of, exclusive_of, borrow_end, Variable, Slot, free, used, live, Environment, Ty, borrows_at}
@@ -30,7 +31,7 @@ use Rattle.variables.specs.Masks.{has}
 use Rattle.variables.specs.Chains.{chain_of}
 use Rattle.paths.specs.Steps.{passes_slot, passes, Searched}
 use Rattle.variables.specs.Table.{entry_word, links_at, long_at, variable_at, end_in, environment_of}
-use Rattle.variables.specs.Verdicts.{NeatTable, type_of, answered, Answers, at_most8}
+use Rattle.variables.specs.Verdicts.{NeatTable, Verdict, type_of, answered, Answers, at_most8}
 use Rattle.rules.specs.RuleAnswers.{PlaceFound, Named, NamedIs, Read, ReadableIs, WholeIs, NumberIs}
 use Rattle.statics.proofs.RootLaws.{same_roots}
 use Rattle.statics.proofs.RootSets.{one_place}
@@ -41,61 +42,57 @@ use Rattle.rules.proofs.ValueLaws.{number_type}
 
 -- ---- the answer, by its case
 
-module _ (nv : ℕ) (Γ : Environment) (i : ℕ) (p : Place) {r : Readable} where
-  pub named_at : NamedIs nv Γ i p r → {rest : ℕ} → r ≡ readable.Rest rest → Named Γ p rest
-  named_at answer e = subst (λ (k : Readable). NamedIs nv Γ i p k) e answer
+module _ (nv : ℕ) (Γ : Environment) (i : ℕ) (p : Place) {r : Result ℕ Reason} where
+  pub named_at : NamedIs nv Γ i p r → {rest : ℕ} → r ≡ Ok rest → Named Γ p rest
+  named_at answer e = subst (λ (k : Result ℕ Reason). NamedIs nv Γ i p k) e answer
 
-  pub named_refused : NamedIs nv Γ i p r → {n : ℕ} → r ≡ readable.Refused n → judge_place nv Γ i p ≡ err (n, i)
-  named_refused answer {n} e = let both : NamedIs nv Γ i p (readable.Refused n) = subst (λ (k : Readable). NamedIs nv Γ i p k) e answer in both.0
+  pub named_refused : NamedIs nv Γ i p r → {n : Reason} → r ≡ Err n → judge_place nv Γ i p ≡ err (number_of n, i)
+  named_refused answer {n} e = let both : NamedIs nv Γ i p (Err n) = subst (λ (k : Result ℕ Reason). NamedIs nv Γ i p k) e answer in both.0
 
-  pub move_refused : NamedIs nv Γ i p r → {n : ℕ} → r ≡ readable.Refused n → (ns : Unfinished) → judge_move nv ns Γ i p ≡ err (n, i)
-  move_refused answer {n} e = let both : NamedIs nv Γ i p (readable.Refused n) = subst (λ (k : Readable). NamedIs nv Γ i p k) e answer in both.1
+  pub move_refused : NamedIs nv Γ i p r → {n : Reason} → r ≡ Err n → (ns : Unfinished) → judge_move nv ns Γ i p ≡ err (number_of n, i)
+  move_refused answer {n} e = let both : NamedIs nv Γ i p (Err n) = subst (λ (k : Result ℕ Reason). NamedIs nv Γ i p k) e answer in both.1
 
-module _ (nv : ℕ) (ns : Unfinished) (Γ : Environment) (i : ℕ) (p : Place) {r : Readable} where
-  pub read_at : ReadableIs nv ns Γ i p r → {rest : ℕ} → r ≡ readable.Rest rest → Read nv ns Γ i p rest
-  read_at answer e = subst (λ (k : Readable). ReadableIs nv ns Γ i p k) e answer
+module _ (nv : ℕ) (ns : Unfinished) (Γ : Environment) (i : ℕ) (p : Place) {r : Result ℕ Reason} where
+  pub read_at : ReadableIs nv ns Γ i p r → {rest : ℕ} → r ≡ Ok rest → Read nv ns Γ i p rest
+  read_at answer e = subst (λ (k : Result ℕ Reason). ReadableIs nv ns Γ i p k) e answer
 
-  pub read_refused : ReadableIs nv ns Γ i p r → {n : ℕ} → r ≡ readable.Refused n → judge_readable nv ns Γ i p ≡ err (n, i)
-  read_refused answer e = subst (λ (k : Readable). ReadableIs nv ns Γ i p k) e answer
+  pub read_refused : ReadableIs nv ns Γ i p r → {n : Reason} → r ≡ Err n → judge_readable nv ns Γ i p ≡ err (number_of n, i)
+  read_refused answer e = subst (λ (k : Result ℕ Reason). ReadableIs nv ns Γ i p k) e answer
 
   -- A refusal of the place is one of reading it.
-  pub readable_refused : NamedIs nv Γ i p r → {n : ℕ} → r ≡ readable.Refused n → ReadableIs nv ns Γ i p r
+  pub readable_refused : NamedIs nv Γ i p r → {n : Reason} → r ≡ Err n → judge_readable nv ns Γ i p ≡ err (number_of n, i)
   unfolding judge_readable ◌>>=◌
-  readable_refused answer {n} e =
-      let h : judge_readable nv ns Γ i p ≡ err (n, i) = rw (named_refused nv Γ i p answer e) in
-      subst (λ (k : Readable). ReadableIs nv ns Γ i p k) (sym e) h
+  readable_refused answer e = rw (named_refused nv Γ i p answer e)
 
   -- A refusal of reading it is one of a number there.
-  pub number_refused : ReadableIs nv ns Γ i p r → {n : ℕ} → r ≡ readable.Refused n → NumberIs (judge_number nv ns Γ i p) i r
+  pub number_refused : ReadableIs nv ns Γ i p r → {n : Reason} → r ≡ Err n → judge_number nv ns Γ i p ≡ err (number_of n, i)
   unfolding judge_number ◌>>=◌
-  number_refused answer {n} e =
-      let h : judge_number nv ns Γ i p ≡ err (n, i) = rw (read_refused answer e) in
-      subst (NumberIs (judge_number nv ns Γ i p) i) (sym e) h
+  number_refused answer e = rw (read_refused answer e)
 
-module _ (nv : ℕ) (Γ : Environment) (p : Place) {r : Readable} where
-  pub whole_at : WholeIs nv Γ p r → {rest : ℕ} → r ≡ readable.Rest rest → (F : Named Γ p rest) × (value_whole nv Γ p.root F.variable ≡ true)
-  whole_at answer e = subst (λ (k : Readable). WholeIs nv Γ p k) e answer
+module _ (nv : ℕ) (Γ : Environment) (p : Place) {r : Result ℕ Reason} where
+  pub whole_at : WholeIs nv Γ p r → {rest : ℕ} → r ≡ Ok rest → (F : Named Γ p rest) × (value_whole nv Γ p.root F.variable ≡ true)
+  whole_at answer e = subst (λ (k : Result ℕ Reason). WholeIs nv Γ p k) e answer
 
-  pub whole_there_law : {rest : ℕ} → r ≡ readable.Rest rest → (F : Named Γ p rest) → value_whole nv Γ p.root F.variable ≡ true → WholeIs nv Γ p r
-  whole_there_law e F w = subst (λ (k : Readable). WholeIs nv Γ p k) (sym e) (F, w)
+  pub whole_there_law : {rest : ℕ} → r ≡ Ok rest → (F : Named Γ p rest) → value_whole nv Γ p.root F.variable ≡ true → WholeIs nv Γ p r
+  whole_there_law e F w = subst (λ (k : Result ℕ Reason). WholeIs nv Γ p k) (sym e) (F, w)
 
-  pub whole_refused : {n : ℕ} → r ≡ readable.Refused n → WholeIs nv Γ p r
-  whole_refused e = subst (λ (k : Readable). WholeIs nv Γ p k) (sym e) tt
+  pub whole_refused : {n : Reason} → r ≡ Err n → WholeIs nv Γ p r
+  whole_refused e = subst (λ (k : Result ℕ Reason). WholeIs nv Γ p k) (sym e) tt
 
-module _ (judged : Judged (Unit {0})) (i : ℕ) {r : Readable} where
-  pub number_at : NumberIs judged i r → {rest : ℕ} → r ≡ readable.Rest rest → judged ≡ ok tt
+module _ (judged : Judged (Unit {0})) (i : ℕ) {r : Result (Unit {0}) Reason} where
+  pub number_at : NumberIs judged i r → {u : Unit {0}} → r ≡ Ok u → judged ≡ ok tt
   number_at answer e = subst (NumberIs judged i) e answer
 
-  pub no_number : NumberIs judged i r → {n : ℕ} → r ≡ readable.Refused n → judged ≡ err (n, i)
+  pub no_number : NumberIs judged i r → {n : Reason} → r ≡ Err n → judged ≡ err (number_of n, i)
   no_number answer e = subst (NumberIs judged i) e answer
 
 -- ---- a place named
 
-pub name_unknown : (nv : ℕ) (Γ : Environment) (i : ℕ) (p : Place) (x : ℕ) → x ≡ p.root → in_scope (Γ x) (31, i) ≡ err (31, i) → NamedIs nv Γ i p (readable.Refused 31)
+pub name_unknown : (nv : ℕ) (Γ : Environment) (i : ℕ) (p : Place) (x : ℕ) → x ≡ p.root → in_scope (Γ x) (31, i) ≡ err (31, i) → NamedIs nv Γ i p (Err reason.NotInScope)
 unfolding judge_place judge_move ◌>>=◌
 name_unknown nv Γ i p x at h = let k : in_scope (Γ p.root) (31, i) ≡ err (31, i) = subst (λ (y : ℕ). in_scope (Γ y) (31, i) ≡ err (31, i)) at h in (rw k, λ ns. rw k)
 
-pub name_short : (nv : ℕ) (Γ : Environment) (i : ℕ) (p : Place) (v : Variable) → Γ p.root ≡ live v → length v.chain < p.follows → NamedIs nv Γ i p (readable.Refused 32)
+pub name_short : (nv : ℕ) (Γ : Environment) (i : ℕ) (p : Place) (v : Variable) → Γ p.root ≡ live v → length v.chain < p.follows → NamedIs nv Γ i p (Err reason.ChainTooShort)
 unfolding judge_place judge_move in_scope need ◌>>=◌
 name_short nv Γ i p v e l = (rw (e, lt-leb p.follows (length v.chain) l), λ ns. rw (e, lt-leb p.follows (length v.chain) l))
 
@@ -167,7 +164,7 @@ module _ (env : List ℕ) (nv : ℕ) (T : NeatTable env nv) (i : ℕ) (p : Place
       left : m ≡ length (chain_of rest)
       left = sym remaining ∙ sym (length-drop p.follows (chain_of (links_at env p.root))) ∙ ap (λ (ks : List Link). length ks) (on_chain env p F)
 
-      module _ (r : Ends) (S : Searched nv (environment_of env) x m false r) where
+      module _ (r : Result Ends Reason) (S : Searched nv (environment_of env) x m false r) where
         abbrev ByRoots : ℕ → Type 0
         ByRoots k =
             (ends : List Place) × (SameSet ends (places_of nv (ends_of (environment_of env) k S.met) (lengths (environment_of env)) k))
@@ -183,10 +180,12 @@ module _ (env : List ℕ) (nv : ℕ) (T : NeatTable env nv) (i : ℕ) (p : Place
             subst ByRoots remaining
             (paths.place_by_roots T.1.1 p (variable_at env p.root) (named_live env p F p.root refl) (long_enough env p F) S.met (subst (λ (k : ℕ). MetFrom (environment_of env) k p.root S.met) (sym remaining) from_root) i)
 
-        pub place_moved : r ≡ ends.MovedAway → judge_place nv (environment_of env) i p ≡ err (33, i)
-        place_moved e = by_roots.2 ∙ ap (λ (b : Bool). pick b (ok (paths.located (variable_at env p.root) by_roots.0)) (err (33, i))) (S.moved e)
+        pub place_moved : (k : Reason) → r ≡ Err k → judge_place nv (environment_of env) i p ≡ err (number_of k, i)
+        place_moved k e =
+            by_roots.2 ∙ ap (λ (b : Bool). pick b (ok (paths.located (variable_at env p.root) by_roots.0)) (err (33, i))) (S.moved k e).1
+            ∙ ap (λ (m : Reason). err (number_of m, i)) (sym (S.moved k e).0)
 
-        pub place_there : (s : Roots) → r ≡ ends.At s → (links : ℕ) → links ≡ links_at env x → PlaceFound nv (environment_of env) p links rest s (judge_place nv (environment_of env) i p)
+        pub place_there : (s : Roots) → r ≡ Ok (ends.At s) → (links : ℕ) → links ≡ links_at env x → PlaceFound nv (environment_of env) p links rest s (judge_place nv (environment_of env) i p)
         place_there s e links same = record {
           located = paths.located (variable_at env p.root) by_roots.0;
           is = by_roots.2 ∙ ap (λ (b : Bool). pick b (ok (paths.located (variable_at env p.root) by_roots.0)) (err (33, i))) (S.passed s e);
@@ -252,7 +251,7 @@ module _ (env : List ℕ) (nv : ℕ) (T : NeatTable env nv) (i : ℕ) (p : Place
             unfolding judge_exclusive need ◌>>=◌
             exclusive_barred h = rw ((path yes-whole).1, whole_is env p F x at nv w true whole yes-whole, unshared_is true yes-unshared, sym barred ∙ h)
 
-            pub exclusive_there : b ≡ false → (r : Roots) → ((y : ℕ) → has r y ≡ eqb x y) → (v : verdicts.Told)
+            pub exclusive_there : b ≡ false → (r : Roots) → ((y : ℕ) → has r y ≡ eqb x y) → (v : Verdict)
                 → Answers v (at_most8 (λ e. type_of (exclusive ∷ chain_of rest) (end_in e (exclusive ∷ chain_of rest) r))) → answered env i v ≡ judge_exclusive nv ns (environment_of env) i p
             unfolding judge_exclusive need ◌>>=◌ borrow_end leading_boxes
             exclusive_there h r o v a =
@@ -264,7 +263,7 @@ module _ (env : List ℕ) (nv : ℕ) (T : NeatTable env nv) (i : ℕ) (p : Place
 
   module _ {ns : Unfinished} (R : Read nv ns (environment_of env) i p rest) where
     -- Shared borrow (LANGUAGE 3.21), of a place that passes no shared link.
-    pub shared_there : (x : ℕ) → x ≡ p.root → last_shared (take p.follows (chain_of (links_at env x))) ≡ none → (r : Roots) → ((y : ℕ) → has r y ≡ eqb x y) → (v : verdicts.Told)
+    pub shared_there : (x : ℕ) → x ≡ p.root → last_shared (take p.follows (chain_of (links_at env x))) ≡ none → (r : Roots) → ((y : ℕ) → has r y ≡ eqb x y) → (v : Verdict)
         → Answers v (at_most8 (λ e. type_of (shared ∷ chain_of rest) (end_in e (shared ∷ chain_of rest) r))) → answered env i v ≡ judge_shared nv ns (environment_of env) i p
     unfolding judge_shared recorded_places need ◌>>=◌ borrow_end leading_boxes
     shared_there x at none_passed r o v a =

@@ -13,9 +13,7 @@ use Rattle.variables.specs.declared.roots.Roots.{Roots}
 use Rattle.variables.specs.declared.table.BorrowEnd.{BorrowEnd}
 use Rattle.variables.specs.declared.table.VariableState.{VariableState}
 use Rattle.variables.specs.declared.verdicts.ValueType.{ValueType}
-use Rattle.variables.specs.declared.verdicts.Value.{Value}
-use Rattle.variables.specs.declared.verdicts.Value.TheVariants as value
-use Rattle.variables.specs.declared.verdicts.Verdict.TheVariants as verdict
+use Rattle.std.specs.Prelude.{Option, None, Some, Ok}
 use Rattle.statics.specs.Links.{Link, boxed, shared, exclusive, leading_boxes, is_number, copies}
 use Rattle.statics.specs.Places.{every, some_of, rooted}
 use Rattle.statics.specs.Environment.{Borrow, places, borrow_end, Variable, Slot, free, used, live, Environment, Ty, update, fresh, moved_away, moved_away_at, level_of, borrow_of, borrows_at, lives_at, leave}
@@ -27,7 +25,7 @@ use Rattle.variables.specs.Masks.{has}
 use Rattle.variables.specs.Chains.{chain_of}
 use Rattle.paths.specs.Steps.{BorrowedAt}
 use Rattle.variables.specs.Table.{links_at, long_at, roots_at, places_in, end_in, variable_at, environment_of, borrow_end_of, as_variable, Fits, Unrecorded, SameLinks}
-use Rattle.variables.specs.Verdicts.{type_of, as_value, answered_as, RootsIn}
+use Rattle.variables.specs.Verdicts.{type_of, as_value, answered, RootsIn}
 use Rattle.statics.proofs.Slots.{used≢live}
 use Rattle.statics.proofs.LinkChains.{boxes_drop, same_behind, same_end}
 use Rattle.statics.proofs.SetLaws.{rooted_out, borrows_out, borrows_in}
@@ -59,16 +57,14 @@ end_recorded env ks s r h = ap (borrow_end ks) (sym h) ∙ sym (end_again ks (pl
 
 -- ---- the roots of a value
 
-pub roots_none : (v : Value) (r : Roots) → v ≡ value.None → ((y : ℕ) → has r y ≡ false) → RootsIn v r
-unfolding as_value
-roots_none v r e h = λ env nv. (0, ap (λ (w : Value). places (borrow_in nv (as_value env w))) e ∙ sym (no_places 128 (has r) (long_at env) 0 h))
+pub roots_none : (v : Option ValueType) (r : Roots) → v ≡ None → ((y : ℕ) → has r y ≡ false) → RootsIn v r
+roots_none v r e h = λ env nv. (0, ap (λ (w : Option ValueType). places (borrow_in nv (as_value env w))) e ∙ sym (no_places 128 (has r) (long_at env) 0 h))
 
-pub roots_of : (v : Value) (t : ValueType) (r : Roots) → v ≡ value.Of t → ((env : List ℕ) → places (end_in env (chain_of t.links) t.roots) ≡ places_in env (chain_of t.links) r) → RootsIn v r
-unfolding as_value
-roots_of v t r e h = λ env nv. (left (chain_of t.links), ap (λ (w : Value). places (borrow_in nv (as_value env w))) e ∙ h env)
+pub roots_of : (v : Option ValueType) (t : ValueType) (r : Roots) → v ≡ Some t → ((env : List ℕ) → places (end_in env (chain_of t.links) t.roots) ≡ places_in env (chain_of t.links) r) → RootsIn v r
+roots_of v t r e h = λ env nv. (left (chain_of t.links), ap (λ (w : Option ValueType). places (borrow_in nv (as_value env w))) e ∙ h env)
 
 -- Whether they live long enough (LANGUAGE 3.28).
-pub value_lives : (env : List ℕ) (nv level : ℕ) (v : Value) (r : Roots) (b : Bool) → RootsIn v r
+pub value_lives : (env : List ℕ) (nv level : ℕ) (v : Option ValueType) (r : Roots) (b : Bool) → RootsIn v r
     → ((m : ℕ) → b ≡ every (λ p. leb (level_of (environment_of env p.root)) level) (places_of 128 (has r) (long_at env) m)) → lives_at (environment_of env) (borrow_in nv (as_value env v)) level ≡ b
 unfolding lives_at
 value_lives env nv level v r b R h = let k = R env nv in ap (every (λ p. leb (level_of (environment_of env p.root)) level)) k.1 ∙ sym (h k.0)
@@ -76,15 +72,14 @@ value_lives env nv level v r b R h = let k = R env nv in ap (every (λ p. leb (l
 -- ---- a table in which all links are as before
 
 module _ (env env' : List ℕ) (S : SameLinks env env') where
-  pub value_kept : (v : Value) → as_value env' v ≡ as_value env v
-  unfolding as_value
-  value_kept value.None = refl
-  value_kept (value.Of t) = ap (λ (b : Borrow). some (type_of (chain_of t.links) b)) (kept_end env env' S (chain_of t.links) t.roots)
+  pub value_kept : (v : Option ValueType) → as_value env' v ≡ as_value env v
+  value_kept None = refl
+  value_kept (Some t) = ap (λ (b : Borrow). some (type_of (chain_of t.links) b)) (kept_end env env' S (chain_of t.links) t.roots)
 
   -- The end of a block (LANGUAGE 3.28).
-  pub block_left : (nv level i : ℕ) (v : Value) → lives_at (environment_of env) (borrow_in nv (as_value env v)) level ≡ true → environment_of env' ≡ leave level (environment_of env)
-      → answered_as env' i (verdict.Fine v) ≡ judge_block_end nv level (environment_of env) i (as_value env v)
-  unfolding judge_block_end answered_as need ◌>>=◌
+  pub block_left : (nv level i : ℕ) (v : Option ValueType) → lives_at (environment_of env) (borrow_in nv (as_value env v)) level ≡ true → environment_of env' ≡ leave level (environment_of env)
+      → answered env' i (Ok v) ≡ judge_block_end nv level (environment_of env) i (as_value env v)
+  unfolding judge_block_end need ◌>>=◌
   block_left nv level i v h e = rw (h, e, value_kept v)
 
   -- What a move leaves, and its value (LANGUAGE 3.20): the links from the place on, with the variable's borrow end. The code has its root as x.
@@ -124,8 +119,8 @@ module _ (env : List ℕ) (t : ValueType) (d level : ℕ) (e : BorrowEnd) (whole
       ∙ told_variable env t.links (suc (leading_boxes (chain_of t.links))) t.roots level
 
   -- A number that is taken is recorded nowhere, nor by the value.
-  pub unrecorded : (nv at x : ℕ) (v : Value) → Neat nv (environment_of env) at → environment_of env x ≡ used → v ≡ value.Of t → NeatValue (environment_of env) level (as_value env v) → Unrecorded env x (as_variable env given).borrow
-  unfolding as_value borrow_of rooted some_of
+  pub unrecorded : (nv at x : ℕ) (v : Option ValueType) → Neat nv (environment_of env) at → environment_of env x ≡ used → v ≡ Some t → NeatValue (environment_of env) level (as_value env v) → Unrecorded env x (as_variable env given).borrow
+  unfolding borrow_of rooted some_of
   unrecorded nv at x v N u o W = (
     λ y. go y (environment_of env y) refl,
     ap (λ (w : Variable). rooted (places w.borrow) x) let_variable
@@ -138,9 +133,9 @@ module _ (env : List ℕ) (t : ValueType) (d level : ℕ) (e : BorrowEnd) (whole
       go y (live v) q = unrecorded_in (environment_of env) v.chain v.level v.borrow x (N.holds y v q) u
 
   -- Let (LANGUAGE 3.24): the variable is in scope.
-  pub let_there : (env' : List ℕ) (nv i x : ℕ) (v : Value) → v ≡ value.Of t → environment_of env' ≡ update (environment_of env) x (live (as_variable env given))
-      → answered_as env' i (verdict.Fine value.None) ≡ judge_let nv level (environment_of env) i x (as_value env v)
-  unfolding judge_let answered_as as_value valued ◌>>=◌
+  pub let_there : (env' : List ℕ) (nv i x : ℕ) (v : Option ValueType) → v ≡ Some t → environment_of env' ≡ update (environment_of env) x (live (as_variable env given))
+      → answered env' i (Ok None) ≡ judge_let nv level (environment_of env) i x (as_value env v)
+  unfolding judge_let valued ◌>>=◌
   let_there env' nv i x v o h = rw o (ap (λ (Δ : Environment). ok (Δ, none)) (h ∙ ap (λ (w : Variable). update (environment_of env) x (live w)) let_variable))
 
 -- ---- what is borrowed at the ends of a place

@@ -1,15 +1,16 @@
 -- What judging a place, the beginning of a let and an answer gives, in the rules' terms (LANGUAGE 3.16 to 3.24, 3.29).
 use Rattle.std.specs.Prelude.{ℕ, ◌<◌, ◌≤◌, ◌≡◌, true, List, [], ◌∷◌, length, drop}
 use Rattle.std.proofs.Math.Option.{Option}
+use Rattle.std.specs.Prelude as prelude
+use Rattle.std.specs.Prelude.{Ok, Err}
+use Rattle.syntax.specs.declared.refusals.Reason.{Reason}
+use Rattle.syntax.specs.declared.refusals.Refusal.{Refusal}
+use Rattle.syntax.specs.Refusals.{number_of, refusal_of, told}
 use Rattle.syntax.specs.Result.{ok, err, need, ◌>>=◌}
 use Rattle.syntax.specs.Script as script
 use Rattle.variables.specs.declared.roots.Roots.{Roots}
 use Rattle.rules.specs.declared.rules.Located.{Located}
 use Rattle.rules.specs.declared.rules.Located.TheVariants as located
-use Rattle.rules.specs.declared.rules.Readable.{Readable}
-use Rattle.rules.specs.declared.rules.Readable.TheVariants as readable
-use Rattle.rules.specs.declared.rules.Requirement.{Requirement}
-use Rattle.rules.specs.declared.rules.Requirement.TheVariants as requirement
 use Rattle.statics.specs.Links.{leading_boxes}
 use Rattle.statics.specs.Environment.{Variable, used, live, Environment, Ty, update, is_free, borrows_at}
 use Rattle.statics.specs.Uses.{Unfinished}
@@ -49,16 +50,16 @@ pub record OwnFound (nv : ℕ) (Γ : Environment) (i : ℕ) (p : script.Place) (
   pub own : p.follows ≤ leading_boxes named.variable.chain
   pub is : rules.judge_place nv Γ i p ≡ ok (record { root = named.variable; to = p ∷ [] })
 
-abbrev pub LocatedIs : (nv : ℕ) → Environment → ℕ → script.Place → Located → Type 0
-LocatedIs nv Γ i p (located.Own rest) = OwnFound nv Γ i p rest
-LocatedIs nv Γ i p (located.At links rest s) = PlaceFound nv Γ p links rest s (rules.judge_place nv Γ i p)
-LocatedIs nv Γ i p (located.Refused n) = rules.judge_place nv Γ i p ≡ err (n, i)
+abbrev pub LocatedIs : (nv : ℕ) → Environment → ℕ → script.Place → prelude.Result Located Reason → Type 0
+LocatedIs nv Γ i p (Ok (located.Own rest)) = OwnFound nv Γ i p rest
+LocatedIs nv Γ i p (Ok (located.At b)) = PlaceFound nv Γ p b.links b.rest b.to (rules.judge_place nv Γ i p)
+LocatedIs nv Γ i p (Err r) = rules.judge_place nv Γ i p ≡ err (number_of r, i)
 
 -- What 31 and 32 say of a place: a refusal is the rule's, of the place and of its move, which asks 38 before 33 (LANGUAGE 3.20); otherwise 33 is
 -- still to be judged.
-abbrev pub NamedIs : (nv : ℕ) → Environment → ℕ → script.Place → Readable → Type 0
-NamedIs nv Γ i p (readable.Rest rest) = Named Γ p rest
-NamedIs nv Γ i p (readable.Refused n) = (rules.judge_place nv Γ i p ≡ err (n, i)) × ((ns : Unfinished) → rules.judge_move nv ns Γ i p ≡ err (n, i))
+abbrev pub NamedIs : (nv : ℕ) → Environment → ℕ → script.Place → prelude.Result ℕ Reason → Type 0
+NamedIs nv Γ i p (Ok rest) = Named Γ p rest
+NamedIs nv Γ i p (Err r) = (rules.judge_place nv Γ i p ≡ err (number_of r, i)) × ((ns : Unfinished) → rules.judge_move nv ns Γ i p ≡ err (number_of r, i))
 
 -- A place that may be read (LANGUAGE 3.19), and the links after it; where it leads is not told.
 pub record Read (nv : ℕ) (ns : Unfinished) (Γ : Environment) (i : ℕ) (p : script.Place) (rest : ℕ) : Type 0 where
@@ -66,14 +67,14 @@ pub record Read (nv : ℕ) (ns : Unfinished) (Γ : Environment) (i : ℕ) (p : s
   pub to : List script.Place
   pub is : rules.judge_readable nv ns Γ i p ≡ ok (record { root = named.variable; to = to })
 
-abbrev pub ReadableIs : (nv : ℕ) → Unfinished → Environment → ℕ → script.Place → Readable → Type 0
-ReadableIs nv ns Γ i p (readable.Rest rest) = Read nv ns Γ i p rest
-ReadableIs nv ns Γ i p (readable.Refused n) = rules.judge_readable nv ns Γ i p ≡ err (n, i)
+abbrev pub ReadableIs : (nv : ℕ) → Unfinished → Environment → ℕ → script.Place → prelude.Result ℕ Reason → Type 0
+ReadableIs nv ns Γ i p (Ok rest) = Read nv ns Γ i p rest
+ReadableIs nv ns Γ i p (Err r) = rules.judge_readable nv ns Γ i p ≡ err (number_of r, i)
 
 -- What such an answer says whatever `barred` was: the place is named, and its value whole.
-abbrev pub WholeIs : (nv : ℕ) → Environment → script.Place → Readable → Type 0
-WholeIs nv Γ p (readable.Rest rest) = (named : Named Γ p rest) × (value_whole nv Γ p.root named.variable ≡ true)
-WholeIs nv Γ p (readable.Refused n) = Unit {0}
+abbrev pub WholeIs : (nv : ℕ) → Environment → script.Place → prelude.Result ℕ Reason → Type 0
+WholeIs nv Γ p (Ok rest) = (named : Named Γ p rest) × (value_whole nv Γ p.root named.variable ≡ true)
+WholeIs nv Γ p (Err r) = Unit {0}
 
 -- After so many follows from x, whose value is whole, comes a borrow link, or boxes and then one.
 pub record WholeBorrow (env : List ℕ) (nv x follows : ℕ) : Type 0 where
@@ -89,13 +90,12 @@ pub record LentAt (nv : ℕ) (env : List ℕ) (i x follows : ℕ) (s : Roots) : 
   pub borrowed : borrows_at (environment_of env) to ≡ places_in env (drop follows (chain_of (links_at env x))) s
 
 -- A place that is to be a number (LANGUAGE 3.27, 3.31): `judged` is the rule's answer at the term i.
-abbrev pub NumberIs : Judged (Unit {0}) → ℕ → Readable → Type 0
-NumberIs judged i (readable.Rest rest) = judged ≡ ok tt
-NumberIs judged i (readable.Refused n) = judged ≡ err (n, i)
+abbrev pub NumberIs : Judged (Unit {0}) → ℕ → prelude.Result (Unit {0}) Reason → Type 0
+NumberIs judged i (Ok u) = judged ≡ ok tt
+NumberIs judged i (Err r) = judged ≡ err (number_of r, i)
 
-unfoldable pub as_requirement : Requirement → Judged (Unit {0})
-as_requirement requirement.Met = ok tt
-as_requirement (requirement.Refused n at) = err (n, at)
+abbrev pub as_requirement : prelude.Result (Unit {0}) Refusal → Judged (Unit {0})
+as_requirement r = told (λ _. tt) r
 
 -- ---- lets
 
@@ -104,9 +104,8 @@ abbrev pub begin_let : Environment → ℕ → ℕ → Judged Environment
 begin_let Γ i x = need (is_free (Γ x)) (30, i) >>= λ _. ok (update Γ x used)
 
 -- The answer of the beginning of a let (LANGUAGE 3.24), with the environment afterwards.
-unfoldable pub begun : Environment → Requirement → Judged Environment
-begun Γ requirement.Met = ok Γ
-begun Γ (requirement.Refused n at) = err (n, at)
+abbrev pub begun : Environment → prelude.Result (Unit {0}) Refusal → Judged Environment
+begun Γ r = told (λ _. Γ) r
 
 -- The answer is a number (43 at 0; LANGUAGE 3.29).
 abbrev pub judge_answer : ℕ → Option Ty → Judged (Unit {0})

@@ -16,99 +16,85 @@ use notes::notes::{declare, move_away, take_number};
 use paths::environment::{is_free, leave_blocks, lives_at, recorded_roots};
 use paths::follow::{Ends, borrows_at, search, value_whole};
 use syntax::fields::index_of;
+use syntax::refusals::{Reason, Refusal};
 use variables::chains::{
-    BOX, EXCLUSIVE, Rest, SHARED, SharedPassed, is_copied, is_number, last_shared, leading_boxes,
-    links_from, no_shared,
+    Link, is_copied, is_number, last_shared, leading_boxes, links_from, no_shared,
 };
-use variables::refusals;
 use variables::roots::{Roots, no_roots, only};
 use variables::table::{
     LIVE, Place, STATUS, VariableState, borrow_end_of, links_at, nothing_moved, roots_at, word_at,
 };
-use variables::verdicts::{Told, Value, fine, longer_value, number_value, refused, value_of};
+use variables::verdicts::{ValueType, Verdict, longer_value, number_value, value_of};
 
-// The place leads to an own link of its root, with these links after the follows; or beyond a borrow link: the links of
-// the root, those of them after the follows, and the variables to whose own links the place may lead (LANGUAGE 3.13);
-// or the refusal.
+// Where a place leads beyond a borrow link (LANGUAGE 3.13): the links of its root, those of them after the follows, and
+// the variables to whose own links the place may lead.
+#[derive(Clone, Copy)]
+pub struct Beyond {
+    pub links: u32,
+    pub rest: u32,
+    pub to: Roots,
+}
+
+// The place leads to an own link of its root, with these links after the follows; or beyond a borrow link.
 #[derive(Clone, Copy)]
 pub enum Located {
     Own(u32),
-    At(u32, u32, Roots),
-    Refused(u32),
-}
-
-#[derive(Clone, Copy)]
-pub enum Requirement {
-    Met,
-    Refused(u32, usize),
-}
-
-// The links after a place that is named rightly (31, 32), or that may be read; or the refusal.
-#[derive(Clone, Copy)]
-pub enum Readable {
-    Rest(u32),
-    Refused(u32),
+    At(Beyond),
 }
 
 // The root of the place is in scope (31), the chain long enough (32; LANGUAGE 3.16). Where the value must be whole, that
 // says that nothing is moved away on the path, so that the place need not be followed.
-fn judge_named(env: &[u64], variables: usize, place: Place) -> Readable
+fn judge_named(env: &[u64], variables: usize, place: Place) -> Result<u32, Reason>
     requires { TableFor env.now variables }
     ensures { (i : ℕ) → NamedIs variables (environment_of env.now) i (as_place place) result }
 {
     let root = index_of(place.root);
     if variables <= root {
-        return Readable::Refused(refusals::NOT_IN_SCOPE);
+        return Err(Reason::NotInScope);
     }
     if word_at(env, root, STATUS) < LIVE {
-        return Readable::Refused(refusals::NOT_IN_SCOPE);
+        return Err(Reason::NotInScope);
     }
-    let after = links_from(links_at(env, root), index_of(place.follows));
-    let Rest::Links(rest) = after else {
-        return Readable::Refused(refusals::CHAIN_TOO_SHORT);
+    let Some(rest) = links_from(links_at(env, root), index_of(place.follows)) else {
+        return Err(Reason::ChainTooShort);
     };
-    Readable::Rest(rest)
+    Ok(rest)
 }
 
 // Judging a place (LANGUAGE 3.16): the root is in scope (31), the chain long enough (32), and of each place met while
 // following it the own path is not moved away (33).
-pub fn judge_place(env: &[u64], variables: usize, place: Place) -> Located
+pub fn judge_place(env: &[u64], variables: usize, place: Place) -> Result<Located, Reason>
     requires { NeatTable env.now variables }
     ensures { (i : ℕ) → LocatedIs variables (environment_of env.now) i (as_place place) result }
 {
-    let named = judge_named(env, variables, place);
-    match named {
-        Readable::Refused(number) => Located::Refused(number),
-        Readable::Rest(rest) => {
-            let root = index_of(place.root);
-            let ends = search(env, variables, root, index_of(place.follows));
-            match ends {
-                Ends::Own => Located::Own(rest),
-                Ends::At(to) => Located::At(links_at(env, root), rest, to),
-                Ends::MovedAway => Located::Refused(refusals::MOVED_AWAY),
-            }
-        }
+    let rest = judge_named(env, variables, place)?;
+    let root = index_of(place.root);
+    let ends = search(env, variables, root, index_of(place.follows))?;
+    match ends {
+        Ends::Own => Ok(Located::Own(rest)),
+        Ends::At(to) => Ok(Located::At(Beyond {
+            links: links_at(env, root),
+            rest,
+            to,
+        })),
     }
 }
 
 // The place of a copy, a shared borrow, a below, a sum and a choice (LANGUAGE 3.19, 3.21, 3.27, 3.31): named, its value
 // whole (33), reading not barred (34).
-fn judge_readable(env: &[u64], variables: usize, place: Place, barred: bool) -> Readable
+fn judge_readable(env: &[u64], variables: usize, place: Place, barred: bool) -> Result<u32, Reason>
     requires { NeatTable env.now variables }
     ensures { ((i : ℕ) (ns : Unfinished) → (barred ≡ read_barred variables ns (environment_of env.now) (as_place place).root) → ReadableIs variables ns (environment_of env.now) i (as_place place) result) × WholeIs variables (environment_of env.now) (as_place place) result }
 {
-    let named = judge_named(env, variables, place);
-    let Readable::Rest(_) = named else {
-        return named;
-    };
+    let rest = judge_named(env, variables, place)?;
     let root = index_of(place.root);
     if !value_whole(env, variables, root) {
-        return Readable::Refused(refusals::MOVED_AWAY);
+        return Err(Reason::MovedAway);
     }
     if barred {
-        return Readable::Refused(refusals::READING_BARRED);
+        return Err(Reason::ReadingBarred);
     }
-    named
+    Ok(rest)
 }
 
 // The roots that are borrowed where the place with so many follows may lead (LANGUAGE 3.19, 3.21). The value of its root
@@ -117,172 +103,149 @@ fn lent_at(env: &[u64], variables: usize, root: usize, follows: usize) -> Roots
     requires { NeatTable env.now variables × WholeBorrow env.now variables root follows }
     ensures { (i : ℕ) → LentAt variables env.now i root follows result }
 {
-    let ends = search(env, variables, root, follows);
+    let Ok(ends) = search(env, variables, root, follows) else {
+        unreachable!();
+    };
     match ends {
         Ends::Own => roots_at(env, root),
         Ends::At(to) => borrows_at(env, variables, to),
-        Ends::MovedAway => no_roots(),
     }
 }
 
 // Copy (LANGUAGE 3.19): the place is readable, then a number or a shared link (37). The copy borrows what is borrowed
 // where the place may lead; a number borrows nothing, so that only a borrow is followed.
-pub fn judge_copy(env: &[u64], variables: usize, place: Place, barred: bool) -> Told
+pub fn judge_copy(env: &[u64], variables: usize, place: Place, barred: bool) -> Verdict
     requires { NeatTable env.now variables }
     ensures { (i : ℕ) (ns : Unfinished) → (barred ≡ read_barred variables ns (environment_of env.now) (as_place place).root) → answered env.now i result ≡ judge_copy variables ns (environment_of env.now) i (as_place place) }
 {
-    let readable = judge_readable(env, variables, place, barred);
-    match readable {
-        Readable::Refused(number) => refused(number),
-        Readable::Rest(rest) => {
-            if !is_copied(rest) {
-                return refused(refusals::NOT_COPIED);
-            }
-            if is_number(rest) {
-                return number_value();
-            }
-            let roots = lent_at(
-                env,
-                variables,
-                index_of(place.root),
-                index_of(place.follows),
-            );
-            value_of(rest, roots)
-        }
+    let rest = judge_readable(env, variables, place, barred)?;
+    if !is_copied(rest) {
+        return Err(Reason::NotCopied);
     }
+    if is_number(rest) {
+        return number_value();
+    }
+    let root = index_of(place.root);
+    let roots = lent_at(env, variables, root, index_of(place.follows));
+    value_of(rest, roots)
 }
 
 // Move (LANGUAGE 3.20): 31 and 32 of the place, no borrow link passed (38), the value whole (33), writing not barred
 // (35). Then the links from the place on are moved away.
-pub fn judge_move(env: &mut [u64], variables: usize, place: Place, barred: bool) -> Told
+pub fn judge_move(env: &mut [u64], variables: usize, place: Place, barred: bool) -> Verdict
     requires { NeatTable env.old variables }
     ensures { ((i : ℕ) (ns : Unfinished) → (barred ≡ write_barred variables ns (environment_of env.old) (as_place place).root) → answered env.new i result ≡ judge_move variables ns (environment_of env.old) i (as_place place)) × TableFor env.new variables }
 {
     let root = index_of(place.root);
-    let named = judge_named(env, variables, place);
-    match named {
-        Readable::Refused(number) => refused(number),
-        Readable::Rest(rest) => {
-            if leading_boxes(links_at(env, root)) < index_of(place.follows) {
-                return refused(refusals::BORROW_PASSED);
-            }
-            if !value_whole(env, variables, root) {
-                return refused(refusals::MOVED_AWAY);
-            }
-            if barred {
-                return refused(refusals::WRITING_BARRED);
-            }
-            let roots = roots_at(env, root);
-            move_away(env, variables, root, place.follows as u64);
-            value_of(rest, roots)
-        }
+    let rest = judge_named(env, variables, place)?;
+    if leading_boxes(links_at(env, root)) < index_of(place.follows) {
+        return Err(Reason::BorrowPassed);
     }
+    if !value_whole(env, variables, root) {
+        return Err(Reason::MovedAway);
+    }
+    if barred {
+        return Err(Reason::WritingBarred);
+    }
+    let roots = roots_at(env, root);
+    move_away(env, variables, root, place.follows as u64);
+    value_of(rest, roots)
 }
 
 // Shared borrow (LANGUAGE 3.21): the place is readable, then a shared link more makes at most 8 (42). With shared links
 // passed it borrows what the last of them does.
-pub fn judge_shared(env: &[u64], variables: usize, place: Place, barred: bool) -> Told
+pub fn judge_shared(env: &[u64], variables: usize, place: Place, barred: bool) -> Verdict
     requires { NeatTable env.now variables }
     ensures { (i : ℕ) (ns : Unfinished) → (barred ≡ read_barred variables ns (environment_of env.now) (as_place place).root) → answered env.now i result ≡ judge_shared variables ns (environment_of env.now) i (as_place place) }
 {
-    let readable = judge_readable(env, variables, place, barred);
-    match readable {
-        Readable::Refused(number) => refused(number),
-        Readable::Rest(rest) => {
-            let root = index_of(place.root);
-            let passed = last_shared(links_at(env, root), index_of(place.follows));
-            match passed {
-                SharedPassed::None => longer_value(SHARED, rest, only(root)),
-                SharedPassed::After(follows) => {
-                    longer_value(SHARED, rest, lent_at(env, variables, root, follows))
-                }
-            }
-        }
+    let rest = judge_readable(env, variables, place, barred)?;
+    let root = index_of(place.root);
+    let passed = last_shared(links_at(env, root), index_of(place.follows));
+    match passed {
+        None => longer_value(Link::Shared, rest, only(root)),
+        Some(follows) => longer_value(Link::Shared, rest, lent_at(env, variables, root, follows)),
     }
 }
 
 // Exclusive borrow (LANGUAGE 3.22): the place, its value whole (33), no shared link passed (36), writing not barred
 // (35), at most 8 links (42).
-pub fn judge_exclusive(env: &[u64], variables: usize, place: Place, barred: bool) -> Told
+pub fn judge_exclusive(env: &[u64], variables: usize, place: Place, barred: bool) -> Verdict
     requires { NeatTable env.now variables }
     ensures { (i : ℕ) (ns : Unfinished) → (barred ≡ write_barred variables ns (environment_of env.now) (as_place place).root) → answered env.now i result ≡ judge_exclusive variables ns (environment_of env.now) i (as_place place) }
 {
     let root = index_of(place.root);
-    let named = judge_named(env, variables, place);
-    match named {
-        Readable::Refused(number) => refused(number),
-        Readable::Rest(rest) => {
-            if !value_whole(env, variables, root) {
-                return refused(refusals::MOVED_AWAY);
-            }
-            if !no_shared(links_at(env, root), index_of(place.follows)) {
-                return refused(refusals::SHARED_PASSED);
-            }
-            if barred {
-                return refused(refusals::WRITING_BARRED);
-            }
-            longer_value(EXCLUSIVE, rest, only(root))
-        }
+    let rest = judge_named(env, variables, place)?;
+    if !value_whole(env, variables, root) {
+        return Err(Reason::MovedAway);
     }
+    if !no_shared(links_at(env, root), index_of(place.follows)) {
+        return Err(Reason::SharedPassed);
+    }
+    if barred {
+        return Err(Reason::WritingBarred);
+    }
+    longer_value(Link::Exclusive, rest, only(root))
 }
 
 // Box (LANGUAGE 3.23), after the inner term: it has a value (41), and a box link more makes at most 8 (42).
-pub fn judge_box(inner: Value) -> Told
+pub fn judge_box(inner: Option<ValueType>) -> Verdict
     ensures { Boxes inner result }
 {
-    let Value::Of(of) = inner else {
-        return refused(refusals::NO_VALUE);
+    let Some(of) = inner else {
+        return Err(Reason::NoValue);
     };
-    let roots = of.roots;
-    longer_value(BOX, of.links, roots)
+    longer_value(Link::Box, of.links, of.roots)
 }
 
 // The beginning of a let (LANGUAGE 3.24): its number is free (30), and taken from here on, not yet in scope.
-pub fn begin_let(env: &mut [u64], variables: usize, term: usize, x: usize) -> Requirement
+pub fn begin_let(env: &mut [u64], variables: usize, term: usize, x: usize) -> Result<(), Refusal>
     requires { TableFor env.old variables × (x < variables) }
     ensures { (begun (environment_of env.new) result ≡ begin_let (environment_of env.old) term x) × TableFor env.new variables }
 {
     if !is_free(env, variables, x) {
-        return Requirement::Refused(refusals::NUMBER_TAKEN, term);
+        return Err(Refusal {
+            reason: Reason::NumberTaken,
+            place: term,
+        });
     }
     take_number(env, variables, x);
-    Requirement::Met
+    Ok(())
 }
 
 // Let (LANGUAGE 3.24), after the inner term: it has a value (41), and x, which `begin_let` took, is in scope.
-pub fn judge_let(env: &mut [u64], variables: usize, level: u64, x: usize, inner: Value) -> Told
+pub fn judge_let(
+    env: &mut [u64],
+    variables: usize,
+    level: u64,
+    x: usize,
+    inner: Option<ValueType>,
+) -> Verdict
     requires { NeatTable env.old variables × (x < variables) × (environment_of env.old x ≡ used) × NeatValue (environment_of env.old) level (as_value env.old inner) }
     ensures { ((i : ℕ) → answered env.new i result ≡ judge_let variables level (environment_of env.old) i x (as_value env.old inner)) × TableFor env.new variables }
 {
-    let Value::Of(of) = inner else {
-        return refused(refusals::NO_VALUE);
+    let Some(of) = inner else {
+        return Err(Reason::NoValue);
     };
-    let roots = of.roots;
     let state = VariableState {
         links: of.links,
         moved_from: nothing_moved(of.links),
-        borrow_end: borrow_end_of(of.links, roots),
-        level: level,
+        borrow_end: borrow_end_of(of.links, of.roots),
+        level,
     };
     declare(env, variables, x, state);
-    fine(Value::None)
+    Ok(None)
 }
 
 // A place of a below, a sum or a choice (LANGUAGE 3.27, 3.31): readable, then a number (39).
-pub fn judge_number(env: &[u64], variables: usize, place: Place, barred: bool) -> Readable
+pub fn judge_number(env: &[u64], variables: usize, place: Place, barred: bool) -> Result<(), Reason>
     requires { NeatTable env.now variables }
     ensures { (i : ℕ) (ns : Unfinished) → (barred ≡ read_barred variables ns (environment_of env.now) (as_place place).root) → NumberIs (judge_number variables ns (environment_of env.now) i (as_place place)) i result }
 {
-    let readable = judge_readable(env, variables, place, barred);
-    match readable {
-        Readable::Refused(_) => readable,
-        Readable::Rest(rest) => {
-            if is_number(rest) {
-                return readable;
-            }
-            Readable::Refused(refusals::OTHER_LINKS)
-        }
+    let rest = judge_readable(env, variables, place, barred)?;
+    if !is_number(rest) {
+        return Err(Reason::OtherLinks);
     }
+    Ok(())
 }
 
 // Below and sum (LANGUAGE 3.27): the first place, then the second.
@@ -293,31 +256,22 @@ pub fn judge_below(
     first_barred: bool,
     second: Place,
     second_barred: bool,
-) -> Told
+) -> Verdict
     requires { NeatTable env.now variables }
     ensures { (i : ℕ) (ns : Unfinished) → (first_barred ≡ read_barred variables ns (environment_of env.now) (as_place first).root) → (second_barred ≡ read_barred variables ns (environment_of env.now) (as_place second).root) → answered env.now i result ≡ judge_below variables ns (environment_of env.now) i (as_place first) (as_place second) }
 {
-    let left = judge_number(env, variables, first, first_barred);
-    if let Readable::Refused(number) = left {
-        return refused(number);
-    }
-    let right = judge_number(env, variables, second, second_barred);
-    if let Readable::Refused(number) = right {
-        return refused(number);
-    }
+    judge_number(env, variables, first, first_barred)?;
+    judge_number(env, variables, second, second_barred)?;
     number_value()
 }
 
 // The roots that the value records (LANGUAGE 3.3), if there is a value.
-fn roots_in(value: Value) -> Roots
+fn roots_in(value: Option<ValueType>) -> Roots
     ensures { RootsIn value result }
 {
     match value {
-        Value::None => no_roots(),
-        Value::Of(of) => {
-            let roots = of.roots;
-            recorded_roots(of.links, roots)
-        }
+        None => no_roots(),
+        Some(of) => recorded_roots(of.links, of.roots),
     }
 }
 
@@ -328,28 +282,31 @@ pub fn judge_block_end(
     variables: usize,
     level: u64,
     before: Roots,
-    last: Value,
-) -> Told
+    last: Option<ValueType>,
+) -> Verdict
     requires { TableFor env.old variables × Around env.old before level }
     ensures { ((i : ℕ) → answered env.new i result ≡ judge_block_end variables level (environment_of env.old) i (as_value env.old last)) × TableFor env.new variables }
 {
     if !lives_at(env, variables, roots_in(last), level) {
-        return refused(refusals::LIVES_TOO_SHORT);
+        return Err(Reason::LivesTooShort);
     }
     leave_blocks(env, variables, before);
-    fine(last)
+    Ok(last)
 }
 
 // The script (LANGUAGE 3.29): the answer is a number (43 at 0).
-pub fn judge_answer(answer: Value) -> Requirement
+pub fn judge_answer(answer: Option<ValueType>) -> Result<(), Refusal>
     ensures { (nv : ℕ) (env : List ℕ) → as_requirement result ≡ judge_answer nv (as_value env answer) }
 {
-    let Value::Of(of) = answer else {
-        return Requirement::Refused(refusals::ANSWER_NO_NUMBER, 0);
+    let no_number = Refusal {
+        reason: Reason::AnswerNoNumber,
+        place: 0,
     };
-    if is_number(of.links) {
-        Requirement::Met
-    } else {
-        Requirement::Refused(refusals::ANSWER_NO_NUMBER, 0)
+    let Some(of) = answer else {
+        return Err(no_number);
+    };
+    if !is_number(of.links) {
+        return Err(no_number);
     }
+    Ok(())
 }

@@ -6,17 +6,21 @@ use native.Mathlib.Numerals.{sub-one}
 use native.Mathlib.Decide.{ℕ_discrete, dec_lt}
 use mathlib.Core.Path.{◌≡◌, refl, sym, ap, ◌∙◌}
 use mathlib.Core.Logic.{◌⊎◌, inl, inr}
-use mathlib.Core.Bool.{true, false}
+use mathlib.Core.Bool.{Bool, true, false, not, false≢true}
 use mathlib.Core.Option.{Option, none, some}
 use mathlib.Core.List.{List, [], ◌∷◌}
+use denote.Enum.Bare.{sameb}
+use denote.Enum.Declared.{tag_of}
 use lib.Dec.{leb, ltb, eqb}
 use lib.ListN.{length, take, drop}
 use borrow.Author.Tests.{eq-eqb, ne_eqb, lt-ltb, le-ltb, le-leb, lt-leb, leb-true}
 use Rattle.syntax.specs.Result.{pick}
-use Rattle.variables.specs.declared.chains.Rest.{Rest}
-use Rattle.variables.specs.declared.chains.Rest.TheVariants as rest
-use Rattle.statics.specs.Links.{Link, shared, max_links, leading_boxes, no_shared, last_shared_with, last_shared, is_number, copies}
-use Rattle.variables.specs.Chains.{link_of, chain_by, chain_of, rest_of, as_rest, one_more_fits}
+use Rattle.std.specs.Prelude as prelude
+use Rattle.statics.specs.Links.{Link, same_link, boxed, shared, exclusive, max_links, leading_boxes, no_shared, last_shared_with, last_shared, is_number, copies}
+use Rattle.variables.specs.declared.chains.Link as code
+use Rattle.variables.specs.declared.chains.Link.TheVariants as link
+use Rattle.variables.specs.contracts.chains.Link.{the_type}
+use Rattle.variables.specs.Chains.{link_of, chain_by, chain_of, as_link, rest_of, as_rest, as_passed, one_more_fits}
 
 -- Any bound that is large enough gives the same chain.
 bounded : (f g n : ℕ) → n ≤ f → n ≤ g → chain_by f n ≡ chain_by g n
@@ -33,7 +37,7 @@ chain_suc : (n : ℕ) → chain_of (suc n) ≡ link_of (n % 3) ∷ chain_of (n /
 unfolding chain_of chain_by
 chain_suc n = ap (λ (l : List Link). link_of (n % 3) ∷ l) (bounded n (n / 3) (n / 3) (omega arith) (omega arith))
 
-chain_pos : (n : ℕ) → 0 < n → chain_of n ≡ link_of ((n - 1) % 3) ∷ chain_of ((n - 1) / 3)
+pub chain_pos : (n : ℕ) → 0 < n → chain_of n ≡ link_of ((n - 1) % 3) ∷ chain_of ((n - 1) / 3)
 chain_pos zero h = absurd (omega arith)
 chain_pos (suc n) h = rw sub-one (chain_suc n)
 
@@ -49,29 +53,48 @@ chain_digit n d a b e h = let z : (n - 1) % 3 ≡ d - 1 = omega arith in rw (cha
 pub chain_more : (d n : ℕ) → 0 < d → d ≤ 3 → chain_of (n * 3 + d) ≡ link_of (d - 1) ∷ chain_of n
 chain_more d n a b = let z : (n * 3 + d - 1) / 3 ≡ n = omega arith in rw (chain_digit (n * 3 + d) d a b (omega arith) (omega arith), z)
 
+-- The digit of a link.
+pub digit_is : (l : code.Link) → (tag_of the_type l + 1 ≤ 3) × ((n : ℕ) → chain_of (n * 3 + (tag_of the_type l + 1)) ≡ as_link l ∷ chain_of n)
+digit_is link.Box = (omega arith, λ n. chain_more 1 n (omega arith) (omega arith))
+digit_is link.Shared = (omega arith, λ n. chain_more 2 n (omega arith) (omega arith))
+digit_is link.Exclusive = (omega arith, λ n. chain_more 3 n (omega arith) (omega arith))
+
 -- A number, and what is copied.
 pub number_test : (n : ℕ) → eqb n 0 ≡ is_number (chain_of n)
 unfolding is_number
 number_test zero = rw (chain_none 0 (omega arith))
 number_test (suc n) = rw (ne_eqb (suc n) 0 (λ w. omega arith), chain_suc n)
 
-pub copies_number : (n : ℕ) → n ≡ 0 → true ≡ copies (chain_of n)
-unfolding copies
-copies_number n e = rw (chain_none n (omega arith))
+-- Which link is shared, as the code asks.
+abbrev pub is_shared : code.Link → Bool
+is_shared link.Box = false
+is_shared link.Shared = true
+is_shared link.Exclusive = false
 
-copied_first : (d : ℕ) (ks : List Link) → (d ≡ 1 → ⊥) → copies (link_of d ∷ ks) ≡ false
-unfolding copies
-copied_first zero ks h = refl
-copied_first (suc zero) ks h = absurd (h refl)
-copied_first (suc (suc d)) ks h = refl
+pub same_shared : (l : code.Link) → sameb the_type l link.Shared ≡ is_shared l
+same_shared link.Box = refl
+same_shared link.Shared = refl
+same_shared link.Exclusive = refl
 
-pub copies_test : (n : ℕ) → (n ≡ 0 → ⊥) → eqb (n % 3) 2 ≡ copies (chain_of n)
+abbrev pub not_box : code.Link → Bool
+not_box link.Box = false
+not_box link.Shared = true
+not_box link.Exclusive = true
+
+pub differs_box : (l : code.Link) → not (sameb the_type l link.Box) ≡ not_box l
+differs_box link.Box = refl
+differs_box link.Shared = refl
+differs_box link.Exclusive = refl
+
+pub copies_none : true ≡ copies []
 unfolding copies
-copies_test n h = go (ℕ_discrete (n % 3) 2)
-  where
-    go : Dec (n % 3 ≡ 2) → eqb (n % 3) 2 ≡ copies (chain_of n)
-    go (yes e) = rw (eq-eqb (n % 3) 2 e, chain_digit n 2 (omega arith) (omega arith) e (omega arith))
-    go (no e) = rw (ne_eqb (n % 3) 2 e, chain_pos n (omega arith), copied_first ((n - 1) % 3) (chain_of ((n - 1) / 3)) (λ q. e (omega arith)))
+copies_none = refl
+
+pub copies_first : (l : code.Link) (ks : List Link) → is_shared l ≡ copies (as_link l ∷ ks)
+unfolding copies
+copies_first link.Box ks = refl
+copies_first link.Shared ks = refl
+copies_first link.Exclusive ks = refl
 
 -- The length.
 pub length_pos : (n : ℕ) → 0 < n → length (chain_of n) ≡ suc (length (chain_of ((n - 1) / 3)))
@@ -118,28 +141,21 @@ fits_below n e = go (dec_lt n 3280)
     go (no h) = absurd (omega (arith, long 7 n (omega arith), leb-true (suc (length (chain_of n))) 8 e))
 
 -- The boxes before the first borrow link.
-other_first : (d : ℕ) (ks : List Link) → (d ≡ 0 → ⊥) → leading_boxes (link_of d ∷ ks) ≡ 0
+pub boxes_none : leading_boxes [] ≡ 0
 unfolding leading_boxes
-other_first zero ks h = absurd (h refl)
-other_first (suc zero) ks h = refl
-other_first (suc (suc d)) ks h = refl
+boxes_none = refl
 
-pub boxes_more : (n : ℕ) → n % 3 ≡ 1 → leading_boxes (chain_of n) ≡ suc (leading_boxes (chain_of (n / 3)))
+pub boxes_more : (l : code.Link) (ks : List Link) → not_box l ≡ false → leading_boxes (as_link l ∷ ks) ≡ suc (leading_boxes ks)
 unfolding leading_boxes
-boxes_more n h = let z : (n - 1) / 3 ≡ n / 3 = omega arith in rw (chain_digit n 1 (omega arith) (omega arith) h (omega arith), z)
+boxes_more link.Box ks h = refl
+boxes_more link.Shared ks h = absurd (false≢true (sym h))
+boxes_more link.Exclusive ks h = absurd (false≢true (sym h))
 
-pub boxes_end : (n : ℕ) → (n % 3 ≡ 1 → ⊥) → leading_boxes (chain_of n) ≡ 0
+pub boxes_end : (l : code.Link) (ks : List Link) → not_box l ≡ true → leading_boxes (as_link l ∷ ks) ≡ 0
 unfolding leading_boxes
-boxes_end zero h = rw (chain_none 0 (omega arith))
-boxes_end (suc n) h = rw (chain_suc n) (other_first (n % 3) (chain_of (n / 3)) (λ e. h (omega arith)))
-
--- One link after another.
-pub without_pos : (n : ℕ) → 0 < n → chain_of ((n - 1) / 3) ≡ drop 1 (chain_of n)
-without_pos n h = rw (chain_pos n h)
-
-pub without_none : (n : ℕ) → n ≤ 0 → chain_of 0 ≡ drop 1 (chain_of n)
-unfolding chain_of chain_by
-without_none n h = rw (chain_none n h)
+boxes_end link.Box ks h = absurd (false≢true h)
+boxes_end link.Shared ks h = refl
+boxes_end link.Exclusive ks h = refl
 
 -- The links after some of them are a number too.
 pub rest_number : (k n : ℕ) → (m : ℕ) × (drop k (chain_of n) ≡ chain_of m)
@@ -150,9 +166,10 @@ rest_number (suc k) n = go (rest_number k ((n - 1) / 3)) (dec_lt 0 n)
     go r (yes h) = (r.0, ap (λ (ks : List Link). drop (suc k) ks) (chain_pos n h) ∙ r.1)
     go r (no h) = (0, ap (λ (ks : List Link). drop (suc k) ks) (chain_none n (omega arith)) ∙ sym (chain_none 0 (omega arith)))
 
-pub rest_short : (n left : ℕ) → 0 < left → n ≡ 0 → rest_of left (chain_of n) ≡ none
+-- The links from one on, after one link more.
+pub rest_short : (left : ℕ) → 0 < left → rest_of left [] ≡ none
 unfolding rest_of
-rest_short n left h e = rw (chain_none n (omega arith), lt-leb left 0 h)
+rest_short left h = rw (lt-leb left 0 h)
 
 rest_less : (j : ℕ) (k : Link) (ks : List Link) → rest_of j ks ≡ rest_of (suc j) (k ∷ ks)
 unfolding rest_of
@@ -162,19 +179,18 @@ rest_less j k ks = go (dec_lt (length ks) j)
     go (yes h) = rw (lt-leb j (length ks) h, lt-leb (suc j) (suc (length ks)) (omega arith))
     go (no h) = rw (le-leb j (length ks) (omega arith), le-leb (suc j) (suc (length ks)) (omega arith))
 
-pub rest_more : (n r left : ℕ) → 0 < left → (n ≡ 0 → ⊥) → chain_of r ≡ drop 1 (chain_of n) → rest_of (left - 1) (chain_of r) ≡ rest_of left (chain_of n)
-rest_more n r zero h z e = absurd (omega arith)
-rest_more n r (suc j) h z e = rw (sub-one, e, chain_pos n (omega arith)) (rest_less j (link_of ((n - 1) % 3)) (chain_of ((n - 1) / 3)))
+pub rest_more : (left j : ℕ) (k : Link) (ks : List Link) → left ≡ suc j → rest_of j ks ≡ rest_of left (k ∷ ks)
+rest_more left j k ks h = rw h (rest_less j k ks)
 
-pub rest_end : (left n : ℕ) → left ≤ 0 → rest_of left (chain_of n) ≡ some (chain_of n)
+pub rest_end : (left : ℕ) (ks : List Link) → left ≤ 0 → rest_of left ks ≡ some ks
 unfolding rest_of
-rest_end zero n h = rw (le-leb 0 (length (chain_of n)) (omega arith))
-rest_end (suc j) n h = absurd (omega arith)
+rest_end zero ks h = rw (le-leb 0 (length ks) (omega arith))
+rest_end (suc j) ks h = absurd (omega arith)
 
 -- What the code is told of the chain from link k on.
-module _ {r : Rest} (k : ℕ) (ks : List Link) (answered : as_rest r ≡ rest_of k ks) where
-  pub rest_there : {n : ℕ} → r ≡ rest.Links n → (k ≤ length ks) × (drop k ks ≡ chain_of n)
-  unfolding as_rest rest_of
+module _ {r : prelude.Option ℕ} (k : ℕ) (ks : List Link) (answered : as_rest r ≡ rest_of k ks) where
+  pub rest_there : {n : ℕ} → r ≡ prelude.Some n → (k ≤ length ks) × (drop k ks ≡ chain_of n)
+  unfolding rest_of
   rest_there {n} e = go (dec_lt (length ks) k)
     where
       told : some (chain_of n) ≡ pick (leb k (length ks)) (some (drop k ks)) none
@@ -184,8 +200,8 @@ module _ {r : Rest} (k : ℕ) (ks : List Link) (answered : as_rest r ≡ rest_of
       go (yes h) = let w = told ∙ ap (λ b. pick b (some (drop k ks)) none) (lt-leb k (length ks) h) in let z : ◌≡◌ {A = ℕ} 0 1 = cc in absurd (omega arith)
       go (no h) = let w = told ∙ ap (λ b. pick b (some (drop k ks)) none) (le-leb k (length ks) (omega arith)) in (omega arith, cc)
 
-  pub rest_missing : r ≡ rest.TooShort → length ks < k
-  unfolding as_rest rest_of
+  pub rest_missing : r ≡ prelude.None → length ks < k
+  unfolding rest_of
   rest_missing e = go (dec_lt (length ks) k)
     where
       told : none ≡ pick (leb k (length ks)) (some (drop k ks)) none
@@ -194,35 +210,6 @@ module _ {r : Rest} (k : ℕ) (ks : List Link) (answered : as_rest r ≡ rest_of
       go : Dec (length ks < k) → length ks < k
       go (yes h) = h
       go (no h) = let w = told ∙ ap (λ b. pick b (some (drop k ks)) none) (le-leb k (length ks) (omega arith)) in let z : ◌≡◌ {A = ℕ} 0 1 = cc in absurd (omega arith)
-
--- Only boxes and exclusive links.
-shared_none : (j : ℕ) → no_shared (take j []) ≡ true
-unfolding no_shared
-shared_none zero = refl
-shared_none (suc j) = refl
-
-pub shared_over : (n left : ℕ) → n ≡ 0 → no_shared (take left (chain_of n)) ≡ true
-shared_over n left e = rw (chain_none n (omega arith)) (shared_none left)
-
-pub shared_first : (n left : ℕ) → 0 < left → n % 3 ≡ 2 → no_shared (take left (chain_of n)) ≡ false
-unfolding no_shared
-shared_first n zero h e = absurd (omega arith)
-shared_first n (suc j) h e = rw (chain_digit n 2 (omega arith) (omega arith) e (omega arith))
-
-not_shared : (d j : ℕ) (ks : List Link) → (d ≡ 1 → ⊥) → no_shared (take j ks) ≡ no_shared (take (suc j) (link_of d ∷ ks))
-unfolding no_shared
-not_shared zero j ks h = refl
-not_shared (suc zero) j ks h = absurd (h refl)
-not_shared (suc (suc d)) j ks h = refl
-
-pub shared_more : (n r left : ℕ) → 0 < left → (n ≡ 0 → ⊥) → (n % 3 ≡ 2 → ⊥) → chain_of r ≡ drop 1 (chain_of n) → no_shared (take (left - 1) (chain_of r)) ≡ no_shared (take left (chain_of n))
-shared_more n r zero h z e q = absurd (omega arith)
-shared_more n r (suc j) h z e q = rw (sub-one, q, chain_pos n (omega arith)) (not_shared ((n - 1) % 3) j (chain_of ((n - 1) / 3)) (λ w. e (omega arith)))
-
-pub shared_end : (left n : ℕ) → left ≤ 0 → no_shared (take left (chain_of n)) ≡ true
-unfolding no_shared
-shared_end zero n h = refl
-shared_end (suc j) n h = absurd (omega arith)
 
 -- The last shared link, with n links passed: it is among those still to pass, or was passed before.
 pub last_of : Option ℕ → ℕ → Option ℕ → Option ℕ
@@ -239,37 +226,53 @@ last_start k rest = rw (sub-zero k) (go (last_shared (take k (chain_of rest))))
     go (some j) = ap some (omega arith)
 
 -- No link is left, or none to pass.
-pub last_over : (before : Option ℕ) (n rest left : ℕ) → rest ≡ 0 → before ≡ last_of before n (last_shared (take left (chain_of rest)))
+pub last_over : (before : Option ℕ) (n left : ℕ) → before ≡ last_of before n (last_shared (take left []))
 unfolding last_of last_shared
-last_over before n rest zero e = refl
-last_over before n rest (suc j) e = rw (chain_none rest (omega arith))
+last_over before n zero = refl
+last_over before n (suc j) = refl
 
-pub last_end : (before : Option ℕ) (n rest left : ℕ) → left ≤ 0 → before ≡ last_of before n (last_shared (take left (chain_of rest)))
+pub last_end : (before : Option ℕ) (n left : ℕ) (ks : List Link) → left ≤ 0 → before ≡ last_of before n (last_shared (take left ks))
 unfolding last_of last_shared
-last_end before n rest zero h = refl
-last_end before n rest (suc j) h = absurd (omega arith)
+last_end before n zero ks h = refl
+last_end before n (suc j) ks h = absurd (omega arith)
 
--- One link more is passed.
-last_first : (before : Option ℕ) (n d : ℕ) (m : Option ℕ) → (d ≡ 1 → ⊥) → last_of before (n + 1) m ≡ last_of before n (last_shared_with (link_of d) m)
+-- One link more is passed: it is shared, or the last shared one is the same as before.
+last_first : (before : Option ℕ) (n : ℕ) (l : code.Link) (m : Option ℕ) → last_of (pick (is_shared l) (some n) before) (n + 1) m ≡ last_of before n (last_shared_with (as_link l) m)
 unfolding last_of last_shared_with
-last_first before n d (some j) h = ap some (omega arith)
-last_first before n zero none h = refl
-last_first before n (suc zero) none h = absurd (h refl)
-last_first before n (suc (suc d)) none h = refl
+last_first before n l (some j) = ap some (omega arith)
+last_first before n link.Box none = refl
+last_first before n link.Shared none = ap some (omega arith)
+last_first before n link.Exclusive none = refl
 
-shared_last : (before : Option ℕ) (n : ℕ) (m : Option ℕ) → last_of (some n) (n + 1) m ≡ last_of before n (last_shared_with shared m)
-unfolding last_of last_shared_with
-shared_last before n none = ap some (omega arith)
-shared_last before n (some j) = ap some (omega arith)
+pub last_more : (before last : Option ℕ) (n left j : ℕ) (l : code.Link) (ks : List Link) → left ≡ suc j → last ≡ pick (is_shared l) (some n) before
+    → last_of last (n + 1) (last_shared (take j ks)) ≡ last_of before n (last_shared (take left (as_link l ∷ ks)))
+unfolding last_shared
+last_more before last n left j l ks h e = rw (h, e) (last_first before n l (last_shared (take j ks)))
 
-module _ (before : Option ℕ) (n k rest r : ℕ) (h : n < k) (z : rest ≡ 0 → ⊥) (q : chain_of r ≡ drop 1 (chain_of rest)) where
-  one_less : k - n ≡ suc (k - (n + 1))
-  one_less = omega arith
+-- Only boxes and exclusive links, where no link is the last shared one.
+is_none : Option ℕ → Bool
+is_none none = true
+is_none (some j) = false
 
-  -- The link that is passed is shared, or the last shared one is the same as before.
-  pub last_more : (last : Option ℕ) → ((rest % 3 ≡ 2) × (last ≡ some n)) ⊎ ((rest % 3 ≡ 2 → ⊥) × (last ≡ before))
-      → last_of last (n + 1) (last_shared (take (k - (n + 1)) (chain_of r))) ≡ last_of before n (last_shared (take (k - n) (chain_of rest)))
-  unfolding last_shared
-  last_more last (inl e) =
-      rw (one_less, q, chain_digit rest 2 (omega arith) (omega arith) e.0 (omega arith), e.1) (shared_last before n (last_shared (take (k - (n + 1)) (chain_of ((rest - 1) / 3)))))
-  last_more last (inr e) = rw (one_less, q, chain_pos rest (omega arith), e.1) (last_first before n ((rest - 1) % 3) (last_shared (take (k - (n + 1)) (chain_of ((rest - 1) / 3)))) (λ w. e.0 (omega arith)))
+none_with : (k : Link) (m : Option ℕ) → is_none (last_shared_with k m) ≡ pick (same_link k shared) false (is_none m)
+unfolding is_none last_shared_with same_link
+none_with boxed none = refl
+none_with boxed (some j) = refl
+none_with shared none = refl
+none_with shared (some j) = refl
+none_with exclusive none = refl
+none_with exclusive (some j) = refl
+
+none_shared : (ks : List Link) → is_none (last_shared ks) ≡ no_shared ks
+unfolding is_none last_shared no_shared same_link
+none_shared [] = refl
+none_shared (boxed ∷ ks) = none_with boxed (last_shared ks) ∙ none_shared ks
+none_shared (shared ∷ ks) = none_with shared (last_shared ks)
+none_shared (exclusive ∷ ks) = none_with exclusive (last_shared ks) ∙ none_shared ks
+
+pub none_passed : (o : prelude.Option ℕ) (ks : List Link) (r : Bool) → as_passed o ≡ last_shared ks → prelude.is_some o ≡ not r → r ≡ no_shared ks
+unfolding is_none
+none_passed prelude.None ks true e h = ap is_none e ∙ none_shared ks
+none_passed prelude.None ks false e h = absurd (false≢true h)
+none_passed (prelude.Some j) ks true e h = absurd (false≢true (sym h))
+none_passed (prelude.Some j) ks false e h = ap is_none e ∙ none_shared ks

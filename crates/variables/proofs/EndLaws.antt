@@ -16,35 +16,33 @@ use Rattle.statics.specs.Places.{rooted}
 use Rattle.statics.specs.Environment.{Borrow, no_borrow, shared_of, exclusive_of, places, borrow_end}
 use Rattle.statics.specs.Neat.{Among}
 use Rattle.statics.specs.Roots.{places_from, places_of, left}
-use Rattle.variables.specs.Chains.{link_of, chain_of}
+use Rattle.variables.specs.declared.chains.Link as code
+use Rattle.variables.specs.declared.chains.Link.TheVariants as link
+use Rattle.variables.specs.Chains.{chain_of, as_link}
 use Rattle.variables.specs.Masks.{has}
 use Rattle.variables.specs.Table.{long_at, places_in, end_in, variable_of, borrow_end_of, end_roots, as_borrow, as_variable}
-use Rattle.variables.proofs.ChainLaws.{chain_none, chain_more}
 use Rattle.variables.proofs.MaskLaws.{has_below, in_none}
 use Rattle.statics.proofs.SetLaws.{rooted_in, rooted_out, end_out}
 use Rattle.statics.proofs.RootLaws.{from_out, rooted_places}
 
--- ---- the borrow end of links that are a number, by its lowest digit
+-- ---- the borrow end by the first link
 
-digit : (n m d : ℕ) → 0 < d → d ≤ 3 → n ≡ m * 3 + d → chain_of n ≡ link_of (d - 1) ∷ chain_of m
-digit n m d a b e = ap chain_of e ∙ chain_more d m a b
+pub end_number : (n : ℕ) (s : Roots) → chain_of n ≡ [] → borrow_end_of (chain_of n) s ≡ end.None
+unfolding borrow_end_of
+end_number n s e = rw e
 
-module _ (n : ℕ) (s : Roots) where
-  pub end_number : n ≡ 0 → borrow_end_of (chain_of n) s ≡ end.None
+module _ (n after : ℕ) (l : code.Link) (s : Roots) (e : chain_of n ≡ as_link l ∷ chain_of after) where
+  pub end_boxed : l ≡ link.Box → borrow_end_of (chain_of n) s ≡ borrow_end_of (chain_of after) s
   unfolding borrow_end_of
-  end_number e = rw (chain_none n (omega arith)) refl
+  end_boxed h = rw (e, h)
 
-  pub end_boxed : n % 3 ≡ 1 → borrow_end_of (chain_of n) s ≡ borrow_end_of (chain_of (n / 3)) s
+  pub end_shared : l ≡ link.Shared → borrow_end_of (chain_of n) s ≡ end.Shared s
   unfolding borrow_end_of
-  end_boxed e = rw (digit n (n / 3) 1 (omega arith) (omega arith) (omega arith)) refl
+  end_shared h = rw (e, h)
 
-  pub end_shared : n % 3 ≡ 2 → borrow_end_of (chain_of n) s ≡ end.Shared s
+  pub end_exclusive : l ≡ link.Exclusive → borrow_end_of (chain_of n) s ≡ end.Exclusive s
   unfolding borrow_end_of
-  end_shared e = rw (digit n (n / 3) 2 (omega arith) (omega arith) (omega arith)) refl
-
-  pub end_exclusive : (n ≡ 0 → ⊥) → (n % 3 ≡ 1 → ⊥) → (n % 3 ≡ 2 → ⊥) → borrow_end_of (chain_of n) s ≡ end.Exclusive s
-  unfolding borrow_end_of
-  end_exclusive a b c = rw (digit n (n / 3 - 1) 3 (omega arith) (omega arith) (omega arith)) refl
+  end_exclusive h = rw (e, h)
 
 -- ---- what the code's borrow end says of the rules'
 

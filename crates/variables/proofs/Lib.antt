@@ -1,5 +1,5 @@
 -- Laws on the table's words.
-pub mod ToldLaws
+pub mod QuestionLaws
 pub mod ChainLaws
 pub mod EqualChains
 pub mod MaskLaws

@@ -1,13 +1,12 @@
 -- What the rules' functions answer, in the rules' terms: the refusal or the values of each case (LANGUAGE 3.17).
+use Rattle.std.specs.Prelude as prelude
 use Rattle.std.specs.Prelude.{ℕ, ◌+◌, ◌-◌, ◌%◌, ◌≡◌, Bool, false, not, List, length, leb, eqb}
 use Rattle.std.proofs.Math.Option.{Option, none, some}
+use Rattle.syntax.specs.declared.refusals.Reason.{Reason}
+use Rattle.syntax.specs.Refusals.{number_of}
 use Rattle.syntax.specs.Result.{ok, err, pick, need, ◌>>=◌}
 use Rattle.variables.specs.declared.roots.Roots.{Roots}
-use Rattle.variables.specs.declared.verdicts.Told.{Told}
-use Rattle.variables.specs.declared.verdicts.Value.{Value}
-use Rattle.variables.specs.declared.verdicts.Value.TheVariants as value
-use Rattle.variables.specs.declared.verdicts.Verdict.{Verdict}
-use Rattle.variables.specs.declared.verdicts.Verdict.TheVariants as verdict
+use Rattle.variables.specs.declared.verdicts.ValueType.{ValueType}
 use Rattle.statics.specs.Links.{Link, max_links}
 use Rattle.statics.specs.Environment.{Borrow, places, Ty}
 use Rattle.statics.specs.Rules as rules
@@ -23,32 +22,21 @@ abbrev pub type_of : List Link → Borrow → Ty
 type_of ks b = record { links = ks; borrow = b }
 
 -- The value, by the table in which its roots are.
-unfoldable pub as_value : List ℕ → Value → Option Ty
-as_value env value.None = none
-as_value env (value.Of t) = some (type_of (chain_of t.links) (end_in env (chain_of t.links) t.roots))
+abbrev pub as_value : List ℕ → prelude.Option ValueType → Option Ty
+as_value env prelude.None = none
+as_value env (prelude.Some t) = some (type_of (chain_of t.links) (end_in env (chain_of t.links) t.roots))
 
--- The verdict that is told in numbers: 0 where there is no value, one more than the links of a value, and from 2 ^ 40 on the number of a refusal.
-unfoldable pub verdict_of : Told → Verdict
-verdict_of t =
-    pick (leb 1099511627776 t.code) (verdict.Refused ((t.code - 1099511627776) % 4294967296))
-    (pick (eqb t.code 0) (verdict.Fine value.None) (verdict.Fine (value.Of (record { links = (t.code - 1) % 4294967296; roots = t.roots }))))
-
--- The one way in which a verdict is told: with these numbers, and with no roots but a value's.
-unfoldable pub ToldAs : Verdict → Told → Type 0
-ToldAs (verdict.Refused n) t = (t.code ≡ 1099511627776 + n) × ((x : ℕ) → has t.roots x ≡ false)
-ToldAs (verdict.Fine value.None) t = (t.code ≡ 0) × ((x : ℕ) → has t.roots x ≡ false)
-ToldAs (verdict.Fine (value.Of v)) t = (t.code ≡ v.links + 1) × (t.roots ≡ v.roots)
+-- What judging a term answers.
+abbrev pub Verdict : Type 0
+Verdict = prelude.Result (prelude.Option ValueType) Reason
 
 -- The verdict of the term i, with the table afterwards: its own refusals are at i.
-unfoldable pub answered_as : List ℕ → ℕ → Verdict → Judged Out
-answered_as env i (verdict.Fine v) = ok (environment_of env, as_value env v)
-answered_as env i (verdict.Refused n) = err (n, i)
-
-abbrev pub answered : List ℕ → ℕ → Told → Judged Out
-answered env i t = answered_as env i (verdict_of t)
+abbrev pub answered : List ℕ → ℕ → Verdict → Judged Out
+answered env i (prelude.Ok v) = ok (environment_of env, as_value env v)
+answered env i (prelude.Err r) = err (number_of r, i)
 
 -- The roots of the places that the value borrows, if there are any (LANGUAGE 3.3).
-abbrev pub RootsIn : Value → Roots → Type 0
+abbrev pub RootsIn : prelude.Option ValueType → Roots → Type 0
 RootsIn v r = (env : List ℕ) (nv : ℕ) → (m : ℕ) × (places (rules.borrow_in nv (as_value env v)) ≡ places_of 128 (has r) (long_at env) m)
 
 -- The table of a neat state, at some level.
@@ -58,7 +46,7 @@ NeatTable env n = TableFor env n × ((level : ℕ) × Neat n (environment_of env
 -- ---- values
 
 -- The verdict of a term that leaves every table as it is.
-abbrev pub Answers : Told → (List ℕ → ℕ → Judged Out) → Type 0
+abbrev pub Answers : Verdict → (List ℕ → ℕ → Judged Out) → Type 0
 Answers r judged = (env : List ℕ) (i : ℕ) → answered env i r ≡ judged env i
 
 abbrev pub value_of : (List ℕ → Ty) → List ℕ → ℕ → Judged Out
@@ -69,13 +57,13 @@ abbrev pub at_most8 : (List ℕ → Ty) → List ℕ → ℕ → Judged Out
 at_most8 t env i = need (leb (length (t env).links) max_links) (42, i) >>= λ _. value_of t env i
 
 -- The verdict of a box (LANGUAGE 3.23).
-abbrev pub Boxes : Value → Told → Type 0
+abbrev pub Boxes : prelude.Option ValueType → Verdict → Type 0
 Boxes inner r = (nv : ℕ) → Answers r (λ env i. judge_box nv (environment_of env) i (as_value env inner))
 
 -- The end of an assign (LANGUAGE 3.25): writing is not barred (35).
-abbrev pub Writes : Bool → Told → Type 0
+abbrev pub Writes : Bool → Verdict → Type 0
 Writes barred r = Answers r (λ env i. need (not barred) (35, i) >>= λ _. ok (environment_of env, none))
 
 -- The value of a choice (LANGUAGE 3.31): the values of its blocks agree (39), and it has the places of both.
-abbrev pub Joins : Value → Value → Told → Type 0
+abbrev pub Joins : prelude.Option ValueType → prelude.Option ValueType → Verdict → Type 0
 Joins first second r = Answers r (λ env i. need (agreeing (as_value env first) (as_value env second)) (39, i) >>= λ _. ok (environment_of env, either (as_value env first) (as_value env second)))

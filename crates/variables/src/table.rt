@@ -5,7 +5,7 @@ ghost use Rattle.statics.specs.Links.{leading_boxes};
 ghost use Rattle.variables.specs.Chains.{chain_of};
 ghost use Rattle.variables.specs.Table.{TableFor, entry_word, links_at, roots_at, holders_at, borrow_end_of, end_roots, changed_state, entry_at, put_at, put_set};
 
-use crate::chains::{BOX, SHARED, leading_boxes};
+use crate::chains::{Link, leading_boxes, split_first};
 use crate::roots::Roots;
 
 // A place (LANGUAGE 2.5).
@@ -139,16 +139,14 @@ pub fn borrow_end_of(links: u32, roots: Roots) -> BorrowEnd
     ensures { result ≡ borrow_end_of (chain_of links) roots }
 {
     let mut rest = links;
-    while rest % 3 == BOX {
-        rest = rest / 3;
+    while let Some((link, after)) = split_first(rest) {
+        match link {
+            Link::Box => rest = after,
+            Link::Shared => return BorrowEnd::Shared(roots),
+            Link::Exclusive => return BorrowEnd::Exclusive(roots),
+        }
     }
-    if rest == 0 {
-        return BorrowEnd::None;
-    }
-    if rest % 3 == SHARED {
-        return BorrowEnd::Shared(roots);
-    }
-    BorrowEnd::Exclusive(roots)
+    BorrowEnd::None
 }
 
 // The roots of the places that the borrow end stands for (LANGUAGE 3.3).

@@ -3,12 +3,14 @@ use Prim.Native.Nat.{ℕ}
 use native.Mathlib.Omega.{arith}
 use mathlib.Core.Path.{ap, ◌∙◌}
 use lib.ListN.{length}
+use Rattle.std.specs.Prelude.{Ok}
 use Rattle.variables.specs.Chains.{chain_of}
+use Rattle.variables.proofs.QuestionLaws.{left_with}
 use Rattle.paths.proofs.SearchLaws.{place_stops, place_ends, beyond_asks, beyond_found}
 use Rattle.paths.proofs.follow.search.Goals as goal
 
-pub step_at-step-requires : goal.step_at-step-requires
-step_at-step-requires c = (omega (arith, c.requires.0.0.0, c.requires.0.1.1.low _ _ c.requires.1), c.requires.2)
+pub step_at-requires : goal.step_at-requires
+step_at-requires c = (omega (arith, c.requires.0.0.0, c.requires.0.1.1.low _ _ c.requires.1), c.requires.2)
 
 pub links_at-requires : goal.links_at-requires
 links_at-requires c = omega (arith, c.requires.0.0.0, c.requires.0.1.1.low _ _ c.requires.1)
@@ -20,18 +22,18 @@ overflow_sub-chain_length c =
 
 pub search_beyond-requires : goal.search_beyond-requires
 search_beyond-requires c =
-    let step = c.step_at-step.ensures in
-    let asks = beyond_asks _ _ c.requires.0 _ _ c.requires.1 c.requires.2 _ step _ _ c.links_at.ensures c.chain_length.ensures.0 c.in-Through.is in
+    let step = c.step_at.ensures in
+    let asks = beyond_asks _ _ c.requires.0 _ _ c.requires.1 c.requires.2 _ step _ _ c.links_at.ensures c.chain_length.ensures.0 (c.in_ok-step_at.was ∙ ap Ok c.in-Through.is) in
     (c.requires.0, c.requires.1, asks.0, asks.1)
 
-pub returns-in-MovedAway : goal.returns-in-MovedAway
-returns-in-MovedAway c =
-    place_stops _ _ c.requires.0 _ _ c.requires.1 c.requires.2 _ c.step_at-step.ensures c.in-MovedAway.is
+pub returns-in_err-step_at : goal.returns-in_err-step_at
+returns-in_err-step_at c =
+    place_stops _ _ c.requires.0 _ _ c.requires.1 c.requires.2 _ c.step_at.ensures _ c.in_err-step_at.was _ (left_with _ _ c.from_residual.ensures.1)
 
 pub returns-in-Here : goal.returns-in-Here
 returns-in-Here c =
-    place_ends _ _ c.requires.0 _ _ c.requires.1 c.requires.2 _ c.step_at-step.ensures c.in-Here.is
+    place_ends _ _ c.requires.0 _ _ c.requires.1 c.requires.2 _ c.step_at.ensures (c.in_ok-step_at.was ∙ ap Ok c.in-Here.is)
 
 pub returns-in-Through : goal.returns-in-Through
 returns-in-Through c =
-    beyond_found _ _ c.requires.0 _ _ c.requires.1 c.requires.2 _ c.step_at-step.ensures _ _ c.links_at.ensures c.chain_length.ensures.0 _ c.search_beyond.ensures
+    beyond_found _ _ c.requires.0 _ _ c.requires.1 c.requires.2 _ c.step_at.ensures _ _ c.links_at.ensures c.chain_length.ensures.0 _ c.search_beyond.ensures

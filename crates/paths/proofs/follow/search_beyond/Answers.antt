@@ -4,10 +4,12 @@ use Prim.Native.Nat.{ℕ, ◌≤◌, ◌<◌}
 use native.Mathlib.Omega.{arith}
 use mathlib.Core.Path.{◌≡◌, sym, ap, ◌∙◌}
 use lib.ListN.{length}
+use Rattle.std.specs.Prelude.{Ok}
 use Rattle.variables.specs.Chains.{chain_of}
 use Rattle.variables.specs.Masks.{has}
 use Rattle.variables.specs.Table.{links_at}
 use Rattle.statics.proofs.ClosureLoop.{count, waiting}
+use Rattle.variables.proofs.QuestionLaws.{left_with}
 use Rattle.variables.proofs.MaskLaws.{none_in}
 use Rattle.paths.proofs.SearchLaws.{Searching, search_goes_on, search_over, in_reach, search_stops, here_again, here_less, through_round}
 use Rattle.paths.proofs.follow.search_beyond.Goals as goal
@@ -47,25 +49,25 @@ overflow_sub-follows c =
     let at = goal.at.overflow_sub-follows c in
     omega (arith, long at.After-chain_length, (reached at.After-without-todo).0)
 
-pub step_at-step-requires : goal.step_at-step-requires
-step_at-step-requires c =
-    let at = goal.at.step_at-step-requires c in
+pub step_at-requires : goal.step_at-requires
+step_at-requires c =
+    let at = goal.at.step_at-requires c in
     (omega (arith, c.requires.0.0.0, (reached at.After-without-todo).1), omega (arith, long at.After-chain_length))
 
-pub returns-in-MovedAway : goal.returns-in-MovedAway
-returns-in-MovedAway c =
-    search_stops _ _ c.requires.0 _ _ c.requires.1 c.requires.2 _ _ _ _ c.loop-todo.invariant _ c.lowest-x.ensures.0 _ _ c.links_at.ensures c.chain_length.ensures.0 _ c.step_at-step.ensures c.in-MovedAway.is
+pub returns-in_err-step_at : goal.returns-in_err-step_at
+returns-in_err-step_at c =
+    search_stops _ _ c.requires.0 _ _ c.requires.1 c.requires.2 _ _ _ _ c.loop-todo.invariant _ c.lowest-x.ensures.0 _ _ c.links_at.ensures c.chain_length.ensures.0 _ c.step_at.ensures _ c.in_err-step_at.was _ (left_with _ _ c.from_residual.ensures.1)
 
 pub only-requires : goal.only-requires
 only-requires c = c.lowest-x.ensures.1
 
 pub loop-todo-smaller-in-Here : goal.loop-todo-smaller-in-Here
 loop-todo-smaller-in-Here c =
-    here_less _ _ c.requires.0 _ _ c.requires.1 c.requires.2 _ _ _ _ c.loop-todo.invariant _ c.lowest-x.ensures.0 _ _ c.links_at.ensures c.chain_length.ensures.0 _ c.step_at-step.ensures _ c.without-todo.ensures c.in-Here.is
+    here_less _ _ c.requires.0 _ _ c.requires.1 c.requires.2 _ _ _ _ c.loop-todo.invariant _ c.lowest-x.ensures.0 _ _ c.links_at.ensures c.chain_length.ensures.0 _ c.step_at.ensures _ c.without-todo.ensures (c.in_ok-step_at.was ∙ ap Ok c.in-Here.is)
 
 pub loop-todo-preserved-in-Here : goal.loop-todo-preserved-in-Here
 loop-todo-preserved-in-Here c =
-    here_again _ _ c.requires.0 _ _ c.requires.1 c.requires.2 _ _ _ _ c.loop-todo.invariant _ c.lowest-x.ensures.0 _ _ c.links_at.ensures c.chain_length.ensures.0 _ c.step_at-step.ensures _ c.without-todo.ensures c.in-Here.is _ _ c.only.ensures c.unite-ends.ensures
+    here_again _ _ c.requires.0 _ _ c.requires.1 c.requires.2 _ _ _ _ c.loop-todo.invariant _ c.lowest-x.ensures.0 _ _ c.links_at.ensures c.chain_length.ensures.0 _ c.step_at.ensures _ c.without-todo.ensures (c.in_ok-step_at.was ∙ ap Ok c.in-Here.is) _ _ c.only.ensures c.unite-ends.ensures
 
 pub roots_at-requires-in-Through : goal.roots_at-requires-in-Through
 roots_at-requires-in-Through c =
@@ -75,7 +77,7 @@ roots_at-requires-in-Through c =
 beyond : (c : After-unite-todo) → Searching c.args.env.now c.args.root c.args.remaining c.args.deep c.unite-met-in-Through.result c.unite-todo.result c.loop-todo.ends
     × (count (waiting (has c.unite-met-in-Through.result) (has c.unite-todo.result)) c.args.variables < count (waiting (has c.loop-todo.met) (has c.loop-todo.todo)) c.args.variables)
 beyond c =
-    through_round _ _ c.requires.0 _ _ c.requires.1 c.requires.2 _ _ _ _ c.loop-todo.invariant _ c.lowest-x.ensures.0 _ _ c.links_at.ensures c.chain_length.ensures.0 _ c.step_at-step.ensures _ c.without-todo.ensures c.in-Through.is _ _ _ _ c.roots_at-in-Through.ensures c.less-more.ensures c.unite-met-in-Through.ensures c.unite-todo.ensures
+    through_round _ _ c.requires.0 _ _ c.requires.1 c.requires.2 _ _ _ _ c.loop-todo.invariant _ c.lowest-x.ensures.0 _ _ c.links_at.ensures c.chain_length.ensures.0 _ c.step_at.ensures _ c.without-todo.ensures (c.in_ok-step_at.was ∙ ap Ok c.in-Through.is) _ _ _ _ c.roots_at-in-Through.ensures c.less-more.ensures c.unite-met-in-Through.ensures c.unite-todo.ensures
 
 pub loop-todo-smaller : goal.loop-todo-smaller
 loop-todo-smaller c = (beyond (goal.at.loop-todo-smaller c).After-unite-todo).1

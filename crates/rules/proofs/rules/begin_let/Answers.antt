@@ -5,7 +5,7 @@ use Rattle.rules.specs.RuleAnswers.{begun}
 use Rattle.rules.proofs.rules.begin_let.Goals as goal
 
 pub returns-then-not-is_free : goal.returns-then-not-is_free
-unfolding begun need ◌>>=◌
+unfolding need ◌>>=◌
 returns-then-not-is_free c =
     (rw (← c.is_free.ensures, c.if-not-is_free.true), c.requires.0)
 
@@ -14,6 +14,6 @@ take_number-requires c =
     (c.requires.0, c.requires.1, sym c.is_free.ensures ∙ c.if-not-is_free.false)
 
 pub returns : goal.returns
-unfolding begun need ◌>>=◌
+unfolding need ◌>>=◌
 returns c =
     (rw (← c.is_free.ensures, c.if-not-is_free.false, c.take_number.ensures.0), c.take_number.ensures.1)

@@ -5,15 +5,15 @@ use Rattle.variables.specs.Verdicts.{as_value}
 use Rattle.rules.proofs.rules.judge_answer.Goals as goal
 
 pub returns-in_default : goal.returns-in_default
-unfolding as_requirement as_value need
+unfolding need
 returns-in_default c = λ nv env. rw c.in_default.is
 
-pub returns-then-is_number : goal.returns-then-is_number
-unfolding as_requirement as_value need
-returns-then-is_number c =
-    λ nv env. rw (c.in-Of.is, ← c.is_number.ensures, c.if-is_number.true)
+pub returns-then-not-is_number : goal.returns-then-not-is_number
+unfolding need
+returns-then-not-is_number c =
+    λ nv env. rw (c.in-Some.is, ← c.is_number.ensures, c.if-not-is_number.true)
 
-pub returns-else-is_number : goal.returns-else-is_number
-unfolding as_requirement as_value need
-returns-else-is_number c =
-    λ nv env. rw (c.in-Of.is, ← c.is_number.ensures, c.if-is_number.false)
+pub returns : goal.returns
+unfolding need
+returns c =
+    λ nv env. rw (c.in-Some.is, ← c.is_number.ensures, c.if-not-is_number.false)

@@ -1,25 +1,26 @@
 -- `rules::rules::judge_below` meets its contract. Assumes nothing.
+use mathlib.Core.Path.{ap, ◌∙◌}
 use Rattle.syntax.specs.Result.{◌>>=◌}
 use Rattle.statics.specs.Rules.{judge_below}
-use Rattle.variables.proofs.ToldLaws.{told_refused}
+use Rattle.variables.specs.Verdicts.{answered}
+use Rattle.variables.proofs.QuestionLaws.{left_with}
 use Rattle.rules.proofs.PlaceLaws.{number_at, no_number}
 use Rattle.rules.proofs.rules.judge_below.Goals as goal
 
-pub returns-in-Refused : goal.returns-in-Refused
+pub returns-in_err-judge_number : goal.returns-in_err-judge_number
 unfolding judge_below ◌>>=◌
-returns-in-Refused c =
-    λ i ns first second. rw (no_number _ i (c.judge_number-left.ensures i ns first) c.in-Refused.is) (told_refused _ _ c.refused.ensures.0 _ i)
+returns-in_err-judge_number c =
+    λ i ns first second. ap (answered _ i) (left_with _ _ c.from_residual.ensures.1) ∙ rw (no_number _ i (c.judge_number.ensures i ns first) c.in_err-judge_number.was)
 
-pub returns-in-Refused-right : goal.returns-in-Refused-right
+pub returns-in_err-judge_number-2 : goal.returns-in_err-judge_number-2
 unfolding judge_below ◌>>=◌
-returns-in-Refused-right c =
-    λ i ns first second.
-    rw (number_at _ i (c.judge_number-left.ensures i ns first) c.in_default.is, no_number _ i (c.judge_number-right.ensures i ns second) c.in-Refused-right.is)
-    (told_refused _ _ c.refused-in-Refused-right.ensures.0 _ i)
+returns-in_err-judge_number-2 c =
+    λ i ns first second. ap (answered _ i) (left_with _ _ c.from_residual-in_err-judge_number-2.ensures.1)
+    ∙ rw (number_at _ i (c.judge_number.ensures i ns first) c.in_ok-judge_number.was, no_number _ i (c.judge_number-2.ensures i ns second) c.in_err-judge_number-2.was)
 
 pub returns : goal.returns
 unfolding judge_below ◌>>=◌
 returns c =
     λ i ns first second.
-    rw (number_at _ i (c.judge_number-left.ensures i ns first) c.in_default.is, number_at _ i (c.judge_number-right.ensures i ns second) c.in_default-right.is)
+    rw (number_at _ i (c.judge_number.ensures i ns first) c.in_ok-judge_number.was, number_at _ i (c.judge_number-2.ensures i ns second) c.in_ok-judge_number-2.was)
     (c.number_value.ensures _ i)

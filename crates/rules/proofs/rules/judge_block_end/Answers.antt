@@ -2,8 +2,7 @@
 use mathlib.Core.Path.{ap, ◌∙◌}
 use Rattle.syntax.specs.Result.{need, ◌>>=◌}
 use Rattle.statics.specs.Rules.{judge_block_end}
-use Rattle.variables.specs.Verdicts.{answered_as}
-use Rattle.variables.proofs.ToldLaws.{told_refused}
+use Rattle.variables.specs.Verdicts.{answered}
 use Rattle.rules.proofs.ValueLaws.{value_lives, block_left}
 use Rattle.paths.proofs.LeavingLaws.{around_in}
 use Rattle.rules.proofs.rules.judge_block_end.Goals as goal
@@ -12,7 +11,7 @@ pub returns-then-not-lives_at : goal.returns-then-not-lives_at
 unfolding judge_block_end need ◌>>=◌
 returns-then-not-lives_at c =
     let short = value_lives _ c.args.variables _ _ _ _ c.roots_in.ensures c.lives_at.ensures ∙ c.if-not-lives_at.true in
-    (λ i. told_refused _ _ c.refused.ensures.0 _ i ∙ rw short, c.requires.0)
+    (λ i. rw short, c.requires.0)
 
 pub leave_blocks-requires : goal.leave_blocks-requires
 leave_blocks-requires c = (c.requires.0, around_in c.args.env.now _ c.args.level c.requires.1)
@@ -21,4 +20,4 @@ pub returns : goal.returns
 returns c =
     let long = value_lives _ c.args.variables _ _ _ _ c.roots_in.ensures c.lives_at.ensures ∙ c.if-not-lives_at.false in
     let left = c.leave_blocks.ensures.0 _ c.requires.1 in
-    (λ i. ap (answered_as _ i) c.fine.ensures.0 ∙ block_left _ _ c.leave_blocks.ensures.2 _ _ i _ long left, c.leave_blocks.ensures.1)
+    (λ i. block_left _ _ c.leave_blocks.ensures.2 _ _ i _ long left, c.leave_blocks.ensures.1)

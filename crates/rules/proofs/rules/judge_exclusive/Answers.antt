@@ -1,20 +1,21 @@
 -- `rules::rules::judge_exclusive` meets its contract. Assumes nothing.
 use Prim.Native.Nat.{ℕ, ◌<◌}
 use native.Mathlib.Omega.{arith}
-use mathlib.Core.Path.{◌≡◌, sym, ◌∙◌}
+use mathlib.Core.Path.{◌≡◌, sym, ap, ◌∙◌}
 use mathlib.Core.List.{List}
 use Rattle.syntax.specs.Result.{◌>>=◌}
 use Rattle.syntax.specs.Script.{Place}
 use Rattle.statics.specs.Rules.{judge_exclusive}
 use Rattle.variables.specs.Table.{environment_of, as_place}
 use Rattle.rules.specs.RuleAnswers.{Named}
-use Rattle.variables.proofs.ToldLaws.{told_refused}
 use Rattle.rules.proofs.PlaceLaws.{named_at, named_refused, named_live, named_inside, exclusive_moved, exclusive_shared, exclusive_barred, exclusive_there}
+use Rattle.variables.specs.Verdicts.{answered}
+use Rattle.variables.proofs.QuestionLaws.{left_with}
 use Rattle.rules.proofs.rules.judge_exclusive.Goals as goal
-use Rattle.rules.proofs.rules.judge_exclusive.Goals.{In-Rest}
+use Rattle.rules.proofs.rules.judge_exclusive.Goals.{In_ok-rest}
 
 -- Where the place is named; the code has its root as `root`.
-module _ (k : In-Rest) where
+module _ (k : In_ok-rest) where
   abbrev env : List ℕ
   env = k.args.env.now
 
@@ -30,48 +31,45 @@ module _ (k : In-Rest) where
   is_root : root ≡ p.root
   is_root = k.index_of-root.ensures
 
-  named : Named (environment_of env) p k.in-Rest.rest
-  named = named_at nv (environment_of env) 0 p (k.judge_named-named.ensures 0) k.in-Rest.is
+  named : Named (environment_of env) p k.in_ok-rest.rest
+  named = named_at nv (environment_of env) 0 p (k.judge_named.ensures 0) k.in_ok-rest.was
 
   inside : root < nv
   inside = named_inside env p named root is_root nv k.requires
 
-pub judge_named-named-requires : goal.judge_named-named-requires
-judge_named-named-requires c = c.requires.0
+pub judge_named-requires : goal.judge_named-requires
+judge_named-requires c = c.requires.0
 
 pub value_whole-requires : goal.value_whole-requires
-value_whole-requires c = (c.requires, named_live c.args.env.now (p (goal.at.value_whole-requires c).In-Rest) (named (goal.at.value_whole-requires c).In-Rest) _ (is_root (goal.at.value_whole-requires c).In-Rest))
+value_whole-requires c = (c.requires, named_live c.args.env.now (p (goal.at.value_whole-requires c).In_ok-rest) (named (goal.at.value_whole-requires c).In_ok-rest) _ (is_root (goal.at.value_whole-requires c).In_ok-rest))
 
 pub returns-then-not-value_whole : goal.returns-then-not-value_whole
 returns-then-not-value_whole c =
-    λ i ns barred. told_refused _ _ c.refused-then-not-value_whole.ensures.0 _ i
-    ∙ sym (exclusive_moved c.args.env.now c.args.variables c.requires i (p (goal.at.returns-then-not-value_whole c).In-Rest) (named (goal.at.returns-then-not-value_whole c).In-Rest) _ (is_root (goal.at.returns-then-not-value_whole c).In-Rest) _ c.value_whole.ensures ns (c.if-not-value_whole.true))
+    λ i ns barred. sym (exclusive_moved c.args.env.now c.args.variables c.requires i (p (goal.at.returns-then-not-value_whole c).In_ok-rest) (named (goal.at.returns-then-not-value_whole c).In_ok-rest) _ (is_root (goal.at.returns-then-not-value_whole c).In_ok-rest) _ c.value_whole.ensures ns (c.if-not-value_whole.true))
 
 pub links_at-requires : goal.links_at-requires
 links_at-requires c =
-    omega (arith, inside (goal.at.links_at-requires c).In-Rest, c.requires.0.0)
+    omega (arith, inside (goal.at.links_at-requires c).In_ok-rest, c.requires.0.0)
 
 pub returns-then-not-no_shared : goal.returns-then-not-no_shared
 returns-then-not-no_shared c =
-    λ i ns barred. told_refused _ _ c.refused-then-not-no_shared.ensures.0 _ i
-    ∙ sym (exclusive_shared c.args.env.now c.args.variables c.requires i (p (goal.at.returns-then-not-no_shared c).In-Rest) (named (goal.at.returns-then-not-no_shared c).In-Rest) _ (is_root (goal.at.returns-then-not-no_shared c).In-Rest) _ c.value_whole.ensures ns c.if-not-value_whole.false _ _ c.index_of.ensures c.links_at.ensures _ c.no_shared.ensures (c.if-not-no_shared.true))
+    λ i ns barred. sym (exclusive_shared c.args.env.now c.args.variables c.requires i (p (goal.at.returns-then-not-no_shared c).In_ok-rest) (named (goal.at.returns-then-not-no_shared c).In_ok-rest) _ (is_root (goal.at.returns-then-not-no_shared c).In_ok-rest) _ c.value_whole.ensures ns c.if-not-value_whole.false _ _ c.index_of.ensures c.links_at.ensures _ c.no_shared.ensures (c.if-not-no_shared.true))
 
 pub returns-then-barred : goal.returns-then-barred
 returns-then-barred c =
-    λ i ns barred. told_refused _ _ c.refused-then-barred.ensures.0 _ i
-    ∙ sym (exclusive_barred c.args.env.now c.args.variables c.requires i (p (goal.at.returns-then-barred c).In-Rest) (named (goal.at.returns-then-barred c).In-Rest) _ (is_root (goal.at.returns-then-barred c).In-Rest) _ c.value_whole.ensures ns c.if-not-value_whole.false _ _ c.index_of.ensures c.links_at.ensures _ c.no_shared.ensures c.if-not-no_shared.false _ barred c.if-barred.true)
+    λ i ns barred. sym (exclusive_barred c.args.env.now c.args.variables c.requires i (p (goal.at.returns-then-barred c).In_ok-rest) (named (goal.at.returns-then-barred c).In_ok-rest) _ (is_root (goal.at.returns-then-barred c).In_ok-rest) _ c.value_whole.ensures ns c.if-not-value_whole.false _ _ c.index_of.ensures c.links_at.ensures _ c.no_shared.ensures c.if-not-no_shared.false _ barred c.if-barred.true)
 
 pub only-requires : goal.only-requires
 only-requires c =
-    omega (arith, inside (goal.at.only-requires c).In-Rest, c.requires.0.1)
+    omega (arith, inside (goal.at.only-requires c).In_ok-rest, c.requires.0.1)
 
-pub returns-in-Refused : goal.returns-in-Refused
+pub returns-in_err-rest : goal.returns-in_err-rest
 unfolding judge_exclusive ◌>>=◌
-returns-in-Refused c =
+returns-in_err-rest c =
     λ i ns barred.
-    let refused = named_refused c.args.variables (environment_of c.args.env.now) i (as_place c.args.place) (c.judge_named-named.ensures i) c.in-Refused.is in
-    told_refused _ _ c.refused.ensures.0 _ i ∙ rw refused
+    let refused = named_refused c.args.variables (environment_of c.args.env.now) i (as_place c.args.place) (c.judge_named.ensures i) c.in_err-rest.was in
+    ap (answered _ i) (left_with _ _ c.from_residual.ensures.1) ∙ rw refused
 
-pub returns-else-barred : goal.returns-else-barred
-returns-else-barred c =
-    λ i ns barred. exclusive_there c.args.env.now c.args.variables c.requires i (p (goal.at.returns-else-barred c).In-Rest) (named (goal.at.returns-else-barred c).In-Rest) _ (is_root (goal.at.returns-else-barred c).In-Rest) _ c.value_whole.ensures ns c.if-not-value_whole.false _ _ c.index_of.ensures c.links_at.ensures _ c.no_shared.ensures c.if-not-no_shared.false _ barred c.if-barred.false _ c.only.ensures _ c.longer_value.ensures
+pub returns : goal.returns
+returns c =
+    λ i ns barred. exclusive_there c.args.env.now c.args.variables c.requires i (p (goal.at.returns c).In_ok-rest) (named (goal.at.returns c).In_ok-rest) _ (is_root (goal.at.returns c).In_ok-rest) _ c.value_whole.ensures ns c.if-not-value_whole.false _ _ c.index_of.ensures c.links_at.ensures _ c.no_shared.ensures c.if-not-no_shared.false _ barred c.if-barred.false _ c.only.ensures _ c.longer_value.ensures

@@ -2,15 +2,14 @@
 use mathlib.Core.Path.{ap, ◌∙◌}
 use Rattle.syntax.specs.Result.{◌>>=◌}
 use Rattle.statics.specs.Rules.{valued, judge_let}
-use Rattle.variables.specs.Verdicts.{as_value, answered_as}
-use Rattle.variables.proofs.ToldLaws.{told_refused}
+use Rattle.variables.specs.Verdicts.{as_value, answered}
 use Rattle.rules.proofs.ValueLaws.{let_fits, unrecorded, let_there}
 use Rattle.rules.proofs.rules.judge_let.Goals as goal
 
 pub returns-in_default : goal.returns-in_default
-unfolding judge_let as_value valued ◌>>=◌
+unfolding judge_let valued ◌>>=◌
 returns-in_default c =
-    (λ i. rw c.in_default.is (told_refused _ _ c.refused.ensures.0 _ i), c.requires.0.0)
+    (λ i. rw c.in_default.is, c.requires.0.0)
 
 pub declare-requires : goal.declare-requires
 declare-requires c =
@@ -19,13 +18,12 @@ declare-requires c =
       c.requires.1,
       c.requires.2,
       let_fits env _ _ c.args.level _ c.nothing_moved.ensures c.borrow_end_of.ensures,
-      unrecorded env _ _ _ _ c.nothing_moved.ensures c.borrow_end_of.ensures _ _ _ _ c.requires.0.1.1 c.requires.2 c.in-Of.is c.requires.3,
+      unrecorded env _ _ _ _ c.nothing_moved.ensures c.borrow_end_of.ensures _ _ _ _ c.requires.0.1.1 c.requires.2 c.in-Some.is c.requires.3,
     )
 
 pub returns : goal.returns
 returns c = (
   λ i.
-      ap (answered_as _ i) c.fine.ensures.0
-      ∙ let_there c.args.env.now _ _ _ _ c.nothing_moved.ensures c.borrow_end_of.ensures _ _ i _ _ c.in-Of.is c.declare.ensures.0,
+      let_there c.args.env.now _ _ _ _ c.nothing_moved.ensures c.borrow_end_of.ensures _ _ i _ _ c.in-Some.is c.declare.ensures.0,
   c.declare.ensures.1,
 )

@@ -37,13 +37,13 @@ returns-in_default c =
     let nv = c.args.variables in
     let p = as_place c.args.place in
     let live = named_root env _ _ c.index_of-root.ensures (omega (arith, c.word_at.ensures, c.if-word_at-lt-LIVE.false)) in
-    let told = c.links_from-after.ensures ∙ ap₂ (λ (k l : ℕ). rest_of k (chain_of l)) c.index_of.ensures (c.links_at.ensures ∙ ap (links_at env) c.index_of-root.ensures) in
+    let told = c.links_from.ensures ∙ ap₂ (λ (k l : ℕ). rest_of k (chain_of l)) c.index_of.ensures (c.links_at.ensures ∙ ap (links_at env) c.index_of-root.ensures) in
     λ i. name_short nv (environment_of env) i p _ live (rest_missing _ _ told c.in_default.is)
 
 pub returns : goal.returns
 returns c =
     let env = c.args.env.now in
     let live = named_root env _ _ c.index_of-root.ensures (omega (arith, c.word_at.ensures, c.if-word_at-lt-LIVE.false)) in
-    let told = c.links_from-after.ensures ∙ ap₂ (λ (k l : ℕ). rest_of k (chain_of l)) c.index_of.ensures (c.links_at.ensures ∙ ap (links_at env) c.index_of-root.ensures) in
-    let there = rest_there _ _ told c.in-Links.is in
+    let told = c.links_from.ensures ∙ ap₂ (λ (k l : ℕ). rest_of k (chain_of l)) c.index_of.ensures (c.links_at.ensures ∙ ap (links_at env) c.index_of-root.ensures) in
+    let there = rest_there _ _ told c.in-Some.is in
     λ i. record { variable = _; is = live; long = there.0; after = there.1 }

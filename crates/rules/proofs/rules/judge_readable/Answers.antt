@@ -1,30 +1,31 @@
 -- `rules::rules::judge_readable` meets its contract. Assumes nothing.
 use mathlib.Core.Path.{◌≡◌, sym, subst}
 use mathlib.Core.Bool.{true}
-use Rattle.rules.specs.declared.rules.Readable.{Readable}
 use Rattle.variables.specs.Table.{environment_of, as_place}
 use Rattle.rules.specs.RuleAnswers.{Named, ReadableIs}
-use Rattle.rules.proofs.PlaceLaws.{named_at, named_live, whole_is, whole_there_law, whole_refused, readable_refused, readable_moved, readable_barred, readable_there}
+use Rattle.rules.proofs.PlaceLaws.{named_at, named_live, whole_is, whole_refused, readable_refused, readable_moved, readable_barred, readable_there}
+use Rattle.variables.proofs.QuestionLaws.{left_with}
 use Rattle.rules.proofs.rules.judge_readable.Goals as goal
 use Rattle.rules.proofs.rules.judge_readable.Goals.{After-index_of-root}
 
 -- Where the place is named, and the code has its root.
 module _ (b : After-index_of-root) where
-  named : Named (environment_of b.args.env.now) (as_place b.args.place) b.in-Rest.field-0
-  named = named_at _ _ 0 _ (b.judge_named-named.ensures 0) b.in-Rest.is
+  named : Named (environment_of b.args.env.now) (as_place b.args.place) b.in_ok-rest.rest
+  named = named_at _ _ 0 _ (b.judge_named.ensures 0) b.in_ok-rest.was
 
   is_root : b.index_of-root.result ≡ (as_place b.args.place).root
   is_root = b.index_of-root.ensures
 
-pub judge_named-named-requires : goal.judge_named-named-requires
-judge_named-named-requires c = c.requires.0
+pub judge_named-requires : goal.judge_named-requires
+judge_named-requires c = c.requires.0
 
-pub returns-in_default : goal.returns-in_default
-returns-in_default c =
+pub returns-in_err-rest : goal.returns-in_err-rest
+returns-in_err-rest c =
     let nv = c.args.variables in
     let Γ = environment_of c.args.env.now in
     let p = as_place c.args.place in
-    (λ i ns barred. readable_refused nv ns Γ i p (c.judge_named-named.ensures i) c.in_default.is, whole_refused nv Γ p c.in_default.is)
+    let left = left_with _ _ c.from_residual.ensures.1 in
+    (λ i ns barred. rw left (readable_refused nv ns Γ i p (c.judge_named.ensures i) c.in_err-rest.was), whole_refused nv Γ p left)
 
 pub value_whole-requires : goal.value_whole-requires
 value_whole-requires c = (c.requires, named_live _ _ (named (goal.at.value_whole-requires c).After-index_of-root) _ (is_root (goal.at.value_whole-requires c).After-index_of-root))
@@ -42,9 +43,7 @@ returns c =
     let nv = c.args.variables in
     let env = c.args.env.now in
     let p = as_place c.args.place in
-    let told = c.in-Rest.is in (
-      λ i ns barred.
-          let found = readable_there _ _ c.requires i _ (named (goal.at.returns c).After-index_of-root) _ (is_root (goal.at.returns c).After-index_of-root) _ c.value_whole.ensures ns c.if-not-value_whole.false _ barred c.if-barred.false in
-          subst (λ (k : Readable). ReadableIs nv ns (environment_of env) i p k) (sym told) found,
-      whole_there_law nv (environment_of env) p told (named (goal.at.returns c).After-index_of-root) (whole_is env p (named (goal.at.returns c).After-index_of-root) _ (is_root (goal.at.returns c).After-index_of-root) nv _ true c.value_whole.ensures c.if-not-value_whole.false),
+    let k = (goal.at.returns c).After-index_of-root in (
+      λ i ns barred. readable_there _ _ c.requires i _ (named k) _ (is_root k) _ c.value_whole.ensures ns c.if-not-value_whole.false _ barred c.if-barred.false,
+      (named k, whole_is env p (named k) _ (is_root k) nv _ true c.value_whole.ensures c.if-not-value_whole.false),
     )

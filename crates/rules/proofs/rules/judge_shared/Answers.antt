@@ -16,9 +16,10 @@ use Rattle.statics.specs.Rules.{judge_shared}
 use Rattle.variables.specs.Chains.{chain_of, as_passed}
 use Rattle.variables.specs.Table.{links_at, environment_of, as_place}
 use Rattle.rules.specs.RuleAnswers.{Named, Read}
-use Rattle.variables.proofs.ToldLaws.{told_refused}
 use Rattle.rules.proofs.PlaceLaws.{whole_at, read_at, read_refused, named_inside, shared_there}
 use Rattle.rules.proofs.LentLaws.{shared_asks, shared_lent}
+use Rattle.variables.specs.Verdicts.{answered}
+use Rattle.variables.proofs.QuestionLaws.{left_with}
 use Rattle.rules.proofs.rules.judge_shared.Goals as goal
 use Rattle.rules.proofs.rules.judge_shared.Goals.{After-index_of-root, After-last_shared-passed}
 
@@ -34,14 +35,14 @@ module _ (k : After-index_of-root) where
   root = k.index_of-root.result
 
   abbrev rest : ℕ
-  rest = k.in-Rest.rest
+  rest = k.in_ok-rest.rest
 
   -- Its value is whole, whatever was told of bars.
   named : (F : Named (environment_of env) p rest) × (value_whole k.args.variables (environment_of env) p.root F.variable ≡ true)
-  named = whole_at _ _ _ k.judge_readable-readable.ensures.1 k.in-Rest.is
+  named = whole_at _ _ _ k.judge_readable.ensures.1 k.in_ok-rest.was
 
   read : (i : ℕ) (ns : Unfinished) → k.args.barred ≡ read_barred k.args.variables ns (environment_of env) p.root → Read k.args.variables ns (environment_of env) i p rest
-  read i ns barred = read_at _ ns _ i _ (k.judge_readable-readable.ensures.0 i ns barred) k.in-Rest.is
+  read i ns barred = read_at _ ns _ i _ (k.judge_readable.ensures.0 i ns barred) k.in_ok-rest.was
 
   inside : root < k.args.variables
   inside = named_inside _ _ named.0 _ k.index_of-root.ensures _ k.requires
@@ -63,30 +64,27 @@ only-requires c =
     omega (arith, inside k, k.requires.0.1)
 
 pub lent_at-requires : goal.lent_at-requires
-unfolding as_passed
 lent_at-requires c =
     let k = (goal.at.lent_at-requires c).After-index_of-root in (
       k.requires,
-      shared_asks _ _ k.requires _ (named k).0 _ k.index_of-root.ensures _ c.index_of.ensures (named k).1 _ (last (goal.at.lent_at-requires c).After-last_shared-passed ∙ ap as_passed c.in-After.is),
+      shared_asks _ _ k.requires _ (named k).0 _ k.index_of-root.ensures _ c.index_of.ensures (named k).1 _ (last (goal.at.lent_at-requires c).After-last_shared-passed ∙ ap as_passed c.in-Some.is),
     )
 
-pub returns-in-Refused : goal.returns-in-Refused
+pub returns-in_err-rest : goal.returns-in_err-rest
 unfolding judge_shared ◌>>=◌
-returns-in-Refused c =
+returns-in_err-rest c =
     λ i ns barred.
-    let none = read_refused c.args.variables ns (environment_of c.args.env.now) i (as_place c.args.place) (c.judge_readable-readable.ensures.0 i ns barred) c.in-Refused.is in
-    rw none (told_refused _ _ c.refused.ensures.0 _ i)
+    let none = read_refused c.args.variables ns (environment_of c.args.env.now) i (as_place c.args.place) (c.judge_readable.ensures.0 i ns barred) c.in_err-rest.was in
+    ap (answered _ i) (left_with _ _ c.from_residual.ensures.1) ∙ rw none
 
 pub returns-in-None : goal.returns-in-None
-unfolding as_passed
 returns-in-None c =
     let k = (goal.at.returns-in-None c).After-index_of-root in
     let unpassed : last_shared (take (p k).follows (chain_of (links_at (env k) (root k)))) ≡ none =
     ap (λ (n : ℕ). last_shared (take n (chain_of (links_at (env k) (root k))))) (sym c.index_of.ensures) ∙ last (goal.at.returns-in-None c).After-last_shared-passed ∙ ap as_passed c.in-None.is in
     λ i ns barred. shared_there _ _ k.requires i _ (read k i ns barred) _ k.index_of-root.ensures unpassed _ c.only.ensures _ c.longer_value.ensures
 
-pub returns-in-After : goal.returns-in-After
-unfolding as_passed
-returns-in-After c =
-    let k = (goal.at.returns-in-After c).After-index_of-root in
-    λ i ns barred. shared_lent _ _ k.requires i _ (read k i ns barred) _ k.index_of-root.ensures _ c.index_of.ensures _ (last (goal.at.returns-in-After c).After-last_shared-passed ∙ ap as_passed c.in-After.is) _ (c.lent_at.ensures i) _ c.longer_value-in-After.ensures
+pub returns-in-Some : goal.returns-in-Some
+returns-in-Some c =
+    let k = (goal.at.returns-in-Some c).After-index_of-root in
+    λ i ns barred. shared_lent _ _ k.requires i _ (read k i ns barred) _ k.index_of-root.ensures _ c.index_of.ensures _ (last (goal.at.returns-in-Some c).After-last_shared-passed ∙ ap as_passed c.in-Some.is) _ (c.lent_at.ensures i) _ c.longer_value-in-Some.ensures

@@ -1,12 +1,14 @@
 -- `rules::rules::lent_at` meets its contract. Assumes nothing.
 use native.Mathlib.Omega.{arith}
+use mathlib.Core.Path.{ap, ◌∙◌}
+use Rattle.std.specs.Prelude.{Ok}
 use Rattle.variables.specs.Table.{variable_at}
 use Rattle.variables.proofs.EntryLaws.{live_inside}
 use Rattle.rules.proofs.LentLaws.{lent_own, lent_low, lent_there, never_moved}
 use Rattle.rules.proofs.rules.lent_at.Goals as goal
 
-pub search-ends-requires : goal.search-ends-requires
-search-ends-requires c = let pre = c.requires in (pre.0, pre.1.is, pre.1.long)
+pub search-requires : goal.search-requires
+search-requires c = let pre = c.requires in (pre.0, pre.1.is, pre.1.long)
 
 pub roots_at-requires : goal.roots_at-requires
 roots_at-requires c =
@@ -17,17 +19,16 @@ roots_at-requires c =
 pub borrows_at-requires : goal.borrows_at-requires
 borrows_at-requires c = (
   omega (arith, c.requires.0.0.0),
-  lent_low _ _ c.requires.0 0 _ _ c.requires.1 _ c.search-ends.ensures _ c.in-At.is,
+  lent_low _ _ c.requires.0 0 _ _ c.requires.1 _ c.search.ensures _ (c.in-Ok.is ∙ ap Ok c.in-At.is),
 )
 
 pub returns-in-Own : goal.returns-in-Own
 returns-in-Own c =
-    λ i. lent_own _ _ c.requires.0 i _ _ c.requires.1 _ c.search-ends.ensures c.in-Own.is _ c.roots_at.ensures
+    λ i. lent_own _ _ c.requires.0 i _ _ c.requires.1 _ c.search.ensures (c.in-Ok.is ∙ ap Ok c.in-Own.is) _ c.roots_at.ensures
 
 pub returns-in-At : goal.returns-in-At
 returns-in-At c =
-    λ i. lent_there _ _ c.requires.0 i _ _ c.requires.1 _ c.search-ends.ensures _ c.in-At.is _ c.borrows_at.ensures
+    λ i. lent_there _ _ c.requires.0 i _ _ c.requires.1 _ c.search.ensures _ (c.in-Ok.is ∙ ap Ok c.in-At.is) _ c.borrows_at.ensures
 
-pub returns-in-MovedAway : goal.returns-in-MovedAway
-returns-in-MovedAway c =
-    absurd (never_moved _ _ c.requires.0 0 _ _ c.requires.1 _ c.search-ends.ensures c.in-MovedAway.is)
+pub unreachable-requires : goal.unreachable-requires
+unreachable-requires c = never_moved _ _ c.requires.0 0 _ _ c.requires.1 _ c.search.ensures _ c.in_default.is

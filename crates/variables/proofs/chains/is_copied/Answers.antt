@@ -1,9 +1,10 @@
 -- `variables::chains::is_copied` meets its contract. Assumes nothing.
-use Rattle.variables.proofs.ChainLaws.{copies_number, copies_test}
+use Rattle.std.proofs.Common.{◌∙◌}
+use Rattle.variables.proofs.ChainLaws.{same_shared, copies_none, copies_first}
 use Rattle.variables.proofs.chains.is_copied.Goals as goal
 
-pub returns-then-links-eq0 : goal.returns-then-links-eq0
-returns-then-links-eq0 c = copies_number _ c.if-links-eq0.true
+pub returns-in-None : goal.returns-in-None
+returns-in-None c = rw c.in-None.ensures copies_none
 
-pub returns : goal.returns
-returns c = copies_test _ c.if-links-eq0.false
+pub returns-in-Some : goal.returns-in-Some
+returns-in-Some c = rw c.in-Some.ensures.0 (c.eq.ensures ∙ same_shared c.in-Some.link ∙ copies_first c.in-Some.link _)

@@ -1,19 +1,19 @@
 -- `variables::chains::leading_boxes` meets its contract. Assumes nothing.
-use native.Mathlib.Omega.{arith}
-use Rattle.variables.proofs.ChainLaws.{boxes_more, boxes_end}
+use Rattle.std.proofs.Common.{sym, ◌∙◌, ap, arith}
+use Rattle.statics.specs.Links.{leading_boxes}
+use Rattle.variables.specs.Chains.{chain_of}
+use Rattle.variables.proofs.ChainLaws.{differs_box, boxes_none, boxes_more, boxes_end}
 use Rattle.variables.proofs.chains.leading_boxes.Goals as goal
 
-pub loop-rest-init : goal.loop-rest-init
-loop-rest-init c = (omega arith, omega arith)
+pub returns-then-ne : goal.returns-then-ne
+returns-then-ne c =
+    let other = sym (differs_box c.in-Some.link) ∙ sym c.ne.ensures ∙ c.if-ne.true in
+    (omega (arith, ap leading_boxes c.in-Some.ensures.0, boxes_end c.in-Some.link (chain_of c.in-Some.after) other), omega arith)
 
-pub overflow_add-count : goal.overflow_add-count
-overflow_add-count c = omega arith
-
-pub loop-rest-smaller : goal.loop-rest-smaller
-loop-rest-smaller c = omega arith
-
-pub loop-rest-preserved : goal.loop-rest-preserved
-loop-rest-preserved c = (omega (arith, boxes_more _ c.loop-rest-test.true), omega arith)
+pub loop-link-preserved : goal.loop-link-preserved
+loop-link-preserved c =
+    let box = sym (differs_box c.in-Some.link) ∙ sym c.ne.ensures ∙ c.if-ne.false in
+    (omega (arith, ap leading_boxes c.in-Some.ensures.0, boxes_more c.in-Some.link (chain_of c.in-Some.after) box), omega (arith, c.in-Some.ensures.1))
 
 pub returns : goal.returns
-returns c = (omega (arith, boxes_end _ c.loop-rest-test.false), omega arith)
+returns c = (omega (arith, ap leading_boxes c.in_default.ensures, boxes_none), omega arith)

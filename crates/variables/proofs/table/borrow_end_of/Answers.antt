@@ -1,24 +1,19 @@
 -- `variables::table::borrow_end_of` meets its contract. The rest of the links, without boxes before it, has the same borrow end. Assumes nothing.
-use native.Mathlib.Omega.{arith}
-use mathlib.Core.Path.{refl, sym, ◌∙◌}
-use Rattle.variables.proofs.EndLaws.{end_boxed, end_number, end_shared, end_exclusive}
+use Rattle.std.proofs.Common.{sym, ◌∙◌, arith}
+use Rattle.variables.proofs.EndLaws.{end_number, end_boxed, end_shared, end_exclusive}
 use Rattle.variables.proofs.table.borrow_end_of.Goals as goal
 
-pub loop-rest-init : goal.loop-rest-init
-loop-rest-init c = refl
+pub loop-link-smaller : goal.loop-link-smaller
+loop-link-smaller c = omega (arith, c.in-Some.ensures.1)
 
-pub loop-rest-smaller : goal.loop-rest-smaller
-loop-rest-smaller c = omega arith
+pub loop-link-preserved : goal.loop-link-preserved
+loop-link-preserved c = sym (end_boxed _ _ _ c.args.roots c.in-Some.ensures.0 c.in-Box.is) ∙ c.loop-link.invariant
 
-pub loop-rest-preserved : goal.loop-rest-preserved
-loop-rest-preserved c = sym (end_boxed _ _ c.loop-rest-test.true) ∙ c.before.loop-rest.invariant
+pub returns-in-Shared : goal.returns-in-Shared
+returns-in-Shared c = sym (end_shared _ _ _ c.args.roots c.in-Some.ensures.0 c.in-Shared.is) ∙ c.loop-link.invariant
 
-pub returns-then-rest-eq0 : goal.returns-then-rest-eq0
-returns-then-rest-eq0 c = sym (end_number _ _ c.if-rest-eq0.true) ∙ c.before.before.loop-rest.invariant
-
-pub returns-then-rest-eq-SHARED : goal.returns-then-rest-eq-SHARED
-returns-then-rest-eq-SHARED c = sym (end_shared _ _ c.if-rest-eq-SHARED.true) ∙ c.before.before.before.loop-rest.invariant
+pub returns-in-Exclusive : goal.returns-in-Exclusive
+returns-in-Exclusive c = sym (end_exclusive _ _ _ c.args.roots c.in-Some.ensures.0 c.in-Exclusive.is) ∙ c.loop-link.invariant
 
 pub returns : goal.returns
-returns c =
-    sym (end_exclusive _ _ c.before.if-rest-eq0.false c.before.before.loop-rest-test.false c.if-rest-eq-SHARED.false) ∙ c.before.before.before.loop-rest.invariant
+returns c = sym (end_number c.loop-link.rest c.args.roots c.in_default.ensures) ∙ c.loop-link.invariant
