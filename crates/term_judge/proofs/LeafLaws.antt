@@ -3,7 +3,7 @@ use Prim.Native.Nat.{ℕ, ◌+◌, ◌-◌, ◌<◌}
 use mathlib.Core.Path.{◌≡◌, refl, sym, ◌∙◌}
 use mathlib.Core.Logic.{⊎_elim}
 use mathlib.Core.Bool.{Bool, true, false, false≢true}
-use mathlib.Core.Option.{some}
+use mathlib.Core.Option.{Option, none, some}
 use mathlib.Core.List.{List, ◌++◌}
 use lib.Dec.{ltb}
 use Rattle.syntax.specs.Result.{ok}
@@ -11,7 +11,10 @@ use Rattle.syntax.specs.Script as script
 use Rattle.syntax.specs.Script.{Term}
 use Rattle.syntax.specs.declared.kinds.Kind.{Kind}
 use Rattle.syntax.specs.declared.kinds.Kind.TheVariants as kind
-use Rattle.syntax.specs.Kinds.{wraps_of, byte_of}
+use Rattle.syntax.specs.Kinds as table
+use Rattle.syntax.specs.Kinds.{newest, kind_of, wraps_of, byte_of}
+use Rattle.syntax.specs.Parts.{IsKind}
+use Rattle.syntax.proofs.KindBytes.{found}
 use Rattle.syntax.specs.KindNumbers.{number_in, as_kind}
 use Rattle.syntax.specs.RowParts.{field_at}
 use Rattle.syntax.specs.RowTrees.{place_at, RowTree, IsTree, only_if, kind_at, tree_at}
@@ -22,11 +25,10 @@ use Rattle.statics.specs.Uses.{Unfinished, finishing, names}
 use Rattle.statics.specs.Rules.{number_ty, judge_below}
 use Rattle.statics.specs.Judge.{judge}
 use Rattle.variables.specs.Table.{as_place}
-use Rattle.term_judge.specs.declared.terms.JudgedTerm.{JudgedTerm}
 use Rattle.uses.specs.RowUses.{names_of}
 use Rattle.uses.specs.RowPlaces.{row_place}
-use Rattle.term_judge.specs.JudgeRows.{at_row, ended, judged_at, judge_at, judge_leaf}
-use Rattle.uses.proofs.KindNames.{NamesBoth, kind_read, row_kind}
+use Rattle.term_judge.specs.JudgeRows.{Ended, at_row, judged_at, judge_at, judge_leaf}
+use Rattle.uses.proofs.KindNames.{NamesBoth, byte_kind, kind_read, row_kind}
 use Rattle.term_judge.proofs.TreeNames.{row_below}
 
 -- The rule of below and sum, which names two places.
@@ -51,25 +53,25 @@ leaf_number_law nv kind.Block i p q ns Γ a b c d e f = refl
 leaf_number_law nv kind.Choice i p q ns Γ a b c d e f = refl
 leaf_number_law nv kind.Sum i p q ns Γ a b c d e f = absurd (f refl)
 
-pub leaf_judged : (nv l : ℕ) (rows : List ℕ) (i : ℕ) → IsTree (tree_at nv l rows i) → (level : ℕ) (later : ℕ → Unfinished) (Γ : Environment) (k : Kind) → number_in k ≡ field_at rows i 0 → wraps_of (field_at rows i 0) ≡ false → (k ≡ kind.Block → ⊥) → (k ≡ kind.Choice → ⊥) → (p q : Place) → p ≡ row_place rows i 1 → q ≡ row_place rows i 3 → (env : List ℕ) (out : JudgedTerm)
-    → ((t : Term) → tree_at nv l rows i ≡ some (t, i + 1) → ended env out ≡ at_row (i + 1) (judge_leaf nv (some (as_kind k)) i (as_place p) (as_place q) (finishing t ++ later (i + 1)) Γ)) → ended env out ≡ judge_at nv (tree_at nv l rows i) level later Γ
+pub leaf_judged : (nv l : ℕ) (rows : List ℕ) (i : ℕ) → IsTree (tree_at nv l rows i) → (level : ℕ) (later : ℕ → Unfinished) (Γ : Environment) (k : Kind) → number_in k ≡ field_at rows i 0 → wraps_of (field_at rows i 0) ≡ false → (k ≡ kind.Block → ⊥) → (k ≡ kind.Choice → ⊥) → (p q : Place) → p ≡ row_place rows i 1 → q ≡ row_place rows i 3 → (E : Ended)
+    → ((t : Term) → tree_at nv l rows i ≡ some (t, i + 1) → E ≡ at_row (i + 1) (judge_leaf nv (some (as_kind k)) i (as_place p) (as_place q) (finishing t ++ later (i + 1)) Γ)) → E ≡ judge_at nv (tree_at nv l rows i) level later Γ
 unfolding judged_at judge kind_at judge_leaf wraps_of byte_of
-leaf_judged nv l rows i good level later Γ k ek n d c p q ep eq env out w =
+leaf_judged nv l rows i good level later Γ k ek n d c p q ep eq E w =
     let z : tree_at nv l rows i ≡ kind_at (some (as_kind k)) nv (tree_at nv (l - 1) rows) rows i = tree_kind nv l rows i (some (as_kind k)) good (kind_read k ek) in
     rw z (go (tree_at nv (l - 1) rows) k (rw (← ek) at n) d c (rw z at good) (λ t e. rw (ep, eq) at (w t (z ∙ e))))
   where
     -- The term in its row, where one test of the row is met, and where two are.
-    alone : (b : Bool) (u : Term) → IsTree (only_if b (some (u, i + 1))) → (only_if b (some (u, i + 1)) ≡ some (u, i + 1) → ended env out ≡ at_row (i + 1) (judge nv u level (finishing u ++ later (i + 1)) Γ)) → ended env out ≡ judge_at nv (only_if b (some (u, i + 1))) level later Γ
+    alone : (b : Bool) (u : Term) → IsTree (only_if b (some (u, i + 1))) → (only_if b (some (u, i + 1)) ≡ some (u, i + 1) → E ≡ at_row (i + 1) (judge nv u level (finishing u ++ later (i + 1)) Γ)) → E ≡ judge_at nv (only_if b (some (u, i + 1))) level later Γ
     alone b u t w = let a = only_is b (some (u, i + 1)) t in w a ∙ rw a
 
-    both : (u : Term) → IsTree (only_if (ltb (field_at rows i 1) nv) (only_if (ltb (field_at rows i 3) nv) (some (u, i + 1)))) → (only_if (ltb (field_at rows i 1) nv) (only_if (ltb (field_at rows i 3) nv) (some (u, i + 1))) ≡ some (u, i + 1) → ended env out ≡ at_row (i + 1) (judge nv u level (finishing u ++ later (i + 1)) Γ)) → ended env out ≡ judge_at nv (only_if (ltb (field_at rows i 1) nv) (only_if (ltb (field_at rows i 3) nv) (some (u, i + 1)))) level later Γ
+    both : (u : Term) → IsTree (only_if (ltb (field_at rows i 1) nv) (only_if (ltb (field_at rows i 3) nv) (some (u, i + 1)))) → (only_if (ltb (field_at rows i 1) nv) (only_if (ltb (field_at rows i 3) nv) (some (u, i + 1))) ≡ some (u, i + 1) → E ≡ at_row (i + 1) (judge nv u level (finishing u ++ later (i + 1)) Γ)) → E ≡ judge_at nv (only_if (ltb (field_at rows i 1) nv) (only_if (ltb (field_at rows i 3) nv) (some (u, i + 1)))) level later Γ
     both u t w =
         let d = only_if (ltb (field_at rows i 3) nv) (some (u, i + 1)) in
         let a = only_is (ltb (field_at rows i 1) nv) d t in
         rw a (alone (ltb (field_at rows i 3) nv) u (only_in (ltb (field_at rows i 1) nv) d t) (λ e. w (a ∙ e)))
 
     go : (f : ℕ → RowTree Term) (k : Kind) → wraps_of (number_in k) ≡ false → (k ≡ kind.Block → ⊥) → (k ≡ kind.Choice → ⊥) → IsTree (kind_at (some (as_kind k)) nv f rows i)
-        → ((t : Term) → kind_at (some (as_kind k)) nv f rows i ≡ some (t, i + 1) → ended env out ≡ at_row (i + 1) (judge_leaf nv (some (as_kind k)) i (place_at rows i 1) (place_at rows i 3) (finishing t ++ later (i + 1)) Γ)) → ended env out ≡ judge_at nv (kind_at (some (as_kind k)) nv f rows i) level later Γ
+        → ((t : Term) → kind_at (some (as_kind k)) nv f rows i ≡ some (t, i + 1) → E ≡ at_row (i + 1) (judge_leaf nv (some (as_kind k)) i (place_at rows i 1) (place_at rows i 3) (finishing t ++ later (i + 1)) Γ)) → E ≡ judge_at nv (kind_at (some (as_kind k)) nv f rows i) level later Γ
     go f kind.Number n d c t w = w (script.number i (field_at rows i 1)) refl
     go f kind.Reading n d c t w = alone (ltb (field_at rows i 1) 8) (script.reading i (field_at rows i 1)) t (w (script.reading i (field_at rows i 1)))
     go f kind.Copy n d c t w = alone (ltb (field_at rows i 1) nv) (script.copy i (place_at rows i 1)) t (w (script.copy i (place_at rows i 1)))
@@ -87,3 +89,12 @@ leaf_judged nv l rows i good level later Γ k ek n d c p q ep eq env out w =
 -- What it names is below the number of variables.
 pub leaf_below_law : (nv l : ℕ) (rows : List ℕ) (i : ℕ) → IsTree (tree_at nv l rows i) → (k : Kind) → number_in k ≡ field_at rows i 0 → (p q : Place) → p ≡ row_place rows i 1 → q ≡ row_place rows i 3 → (x : ℕ) → names (names_of (some (as_kind k)) p.root q.root) x ≡ true → x < nv
 leaf_below_law nv l rows i good k ek p q ep eq x h = row_below nv l rows i good x (rw (ep, eq, ← row_kind rows i (field_at rows i 0) refl k ek) at h)
+
+-- Where a tree stands, its row has a kind.
+pub tree_known : (nv l : ℕ) (rows : List ℕ) (i : ℕ) → IsTree (tree_at nv l rows i) → IsKind (field_at rows i 0)
+unfolding kind_at
+tree_known nv l rows i good = go (kind_of newest (field_at rows i 0)) refl
+  where
+    go : (o : Option table.Kind) → kind_of newest (field_at rows i 0) ≡ o → IsKind (field_at rows i 0)
+    go none e = absurd (rw (tree_kind nv l rows i none good e) at good)
+    go (some k) e = rw (found newest (field_at rows i 0) k e) at (byte_kind k)

@@ -2,6 +2,7 @@
 // inner term, and a box, let or assign before and after its inner term.
 ghost use Rattle.std.specs.Prelude.{◌≡◌, true, List, ℕ, ◌<◌, ◌≤◌, ◌+◌, ◌-◌, length};
 ghost use Rattle.std.proofs.Math.Option.{some};
+ghost use Rattle.syntax.specs.Result.{ok};
 ghost use Rattle.syntax.specs.KindNumbers.{as_kind};
 ghost use Rattle.syntax.specs.RowParts.{field_at};
 ghost use Rattle.syntax.specs.RowTrees.{place_at};
@@ -14,42 +15,37 @@ ghost use Rattle.bars.specs.Leading.{LaterIs};
 ghost use Rattle.rules.specs.RuleAnswers.{begun};
 ghost use Rattle.uses.specs.RowUses.{names_of, named_around, named_with, later_of};
 ghost use Rattle.uses.specs.RowPlaces.{Wraps, AllWrap, AllAround};
-ghost use Rattle.term_judge.specs.JudgeRows.{judge_leaf, at_row, ended, begin_at, AfterReady, after_at};
+ghost use Rattle.term_judge.specs.JudgeRows.{judge_leaf, at_row, told_as, ended, begin_at, AfterReady, after_at};
 
 use assigns::assign::{judge_write, judge_written};
 use rules::rules::{
-    Requirement, begin_let, judge_below, judge_box, judge_copy, judge_exclusive, judge_let,
-    judge_move, judge_shared,
+    begin_let, judge_below, judge_box, judge_copy, judge_exclusive, judge_let, judge_move,
+    judge_shared,
 };
 use syntax::fields::{field_at, index_at, index_of};
 use syntax::kinds::Kind;
+use syntax::refusals::Refusal;
 use uses::row::place_at;
 use uses::script::{Around, Script};
 use uses::uses::{read_barred, write_barred};
 use variables::table::Place;
-use variables::verdicts::{Told, Value, Verdict, number_value, verdict_of};
+use variables::verdicts::{ValueType, Verdict, number_value};
 
-// What judging told, and the row after the term; after a refusal, the term that is refused (LANGUAGE 3.17).
+// What judging a term gives: the row after it, and the type of its value, if it has one (LANGUAGE 3.4).
 #[derive(Clone, Copy)]
-pub struct JudgedTerm {
+pub struct Judged {
     pub next: usize,
-    pub told: Told,
+    pub value: Option<ValueType>,
 }
 
-// What judging the term at row i told; the row after it is `next`.
-pub fn judged_term(i: usize, next: usize, told: Told) -> JudgedTerm
-    ensures { (env : List ℕ) → ended env result ≡ at_row next (answered env i told) }
+// What judging the term at row i answers, of which the rule tells the verdict; the row after it is `next`. A refusal is at
+// the term (LANGUAGE 3.17).
+pub fn judged_term(i: usize, next: usize, verdict: Verdict) -> Result<Judged, Refusal>
+    ensures { (env : List ℕ) → ended env result ≡ at_row next (answered env i verdict) }
 {
-    let verdict = verdict_of(told);
-    let Verdict::Fine(_) = verdict else {
-        return JudgedTerm {
-            next: i,
-            told: told,
-        };
-    };
-    JudgedTerm {
-        next: next,
-        told: told,
+    match verdict {
+        Ok(value) => Ok(Judged { next, value }),
+        Err(reason) => Err(Refusal { reason, place: i }),
     }
 }
 
@@ -62,7 +58,7 @@ pub fn judge_leaf(
     kind: Kind,
     first: Place,
     second: Place,
-) -> Told
+) -> Verdict
     requires { NeatTable env.old script.now.variables × (length script.now.uses.now ≡ script.now.variables) × AllAround script.now around.now × ((x : ℕ) → names (names_of (some (as_kind kind)) first.root second.root) x ≡ true → x < script.now.variables) }
     ensures { ((ns : Unfinished) → LaterIs script.now.variables script.now.uses.now around.now.end (named_around script.now around.now) ns → answered env.new around.now.end result ≡ judge_leaf script.now.variables (some (as_kind kind)) around.now.end (as_place first) (as_place second) ns (environment_of env.old)) × TableFor env.new script.now.variables }
 {
@@ -98,7 +94,7 @@ pub fn judge_leaf(
 
 // What comes before the inner term of a box, let or assign, which is in the next row: a let takes its number
 // (LANGUAGE 3.24).
-pub fn judge_before(script: &Script, i: usize, env: &mut [u64]) -> Requirement
+pub fn judge_before(script: &Script, i: usize, env: &mut [u64]) -> Result<(), Refusal>
     requires { Wraps script.now.variables script.now.rows.now i × TableFor env.old script.now.variables }
     ensures { (begun (environment_of env.new) result ≡ begin_at script.now.rows.now i (environment_of env.old)) × TableFor env.new script.now.variables }
 {
@@ -106,7 +102,7 @@ pub fn judge_before(script: &Script, i: usize, env: &mut [u64]) -> Requirement
         unreachable!();
     };
     if kind != Kind::Let {
-        return Requirement::Met;
+        return Ok(());
     }
     let x = index_at(script.rows, i, 1);
     begin_let(env, script.variables, i, x)
@@ -119,17 +115,13 @@ fn judge_assign(
     around: &Around,
     next: usize,
     env: &mut [u64],
-    inner: Value,
-) -> Told
+    inner: Option<ValueType>,
+) -> Verdict
     requires { NeatTable env.old script.now.variables × (length script.now.uses.now ≡ script.now.variables) × (around.now.start ≤ around.now.end) × AllWrap script.now.variables script.now.rows.now around.now.start (around.now.end + 1 - around.now.start) × (field_at script.now.rows.now around.now.end 1 < script.now.variables) }
     ensures { ((ns : Unfinished) → LaterIs script.now.variables script.now.uses.now next (named_with script.now.rows.now around.now.start (around.now.end + 1 - around.now.start) (has around.now.named)) ns → answered env.new around.now.end result ≡ judge_assign script.now.variables ns (environment_of env.old) around.now.end (place_at script.now.rows.now around.now.end 1) (as_value env.old inner)) × TableFor env.new script.now.variables }
 {
     let place = place_at(script.rows, around.end, 1);
-    let written = judge_write(env, script.variables, place, inner);
-    let verdict = verdict_of(written);
-    let Verdict::Fine(_) = verdict else {
-        return written;
-    };
+    judge_write(env, script.variables, place, inner)?;
     let root = index_of(place.root);
     // The assign has not finished either (LANGUAGE 3.34).
     let unfinished = Around {
@@ -141,32 +133,28 @@ fn judge_assign(
 }
 
 // What follows the inner term of the box, let or assign that those around end before: the rest of the rule
-// (LANGUAGE 3.23 to 3.25). An inner term's refusal is the script's (3.17).
+// (LANGUAGE 3.23 to 3.25).
 pub fn judge_after(
     script: &Script,
     around: &Around,
     env: &mut [u64],
     level: u64,
-    inner: JudgedTerm,
-) -> JudgedTerm
-    requires { (around.now.start ≤ around.now.end) × AllWrap script.now.variables script.now.rows.now around.now.start (around.now.end + 1 - around.now.start) × TableFor env.old script.now.variables × (length script.now.uses.now ≡ script.now.variables) × AfterReady script.now.variables level script.now.rows.now around.now.end env.old inner }
-    ensures { (ended env.new result ≡ after_at script.now.variables level script.now.rows.now around.now.end (later_of script.now around.now) (ended env.old inner)) × TableFor env.new script.now.variables }
+    inner: Judged,
+) -> Result<Judged, Refusal>
+    requires { (around.now.start ≤ around.now.end) × AllWrap script.now.variables script.now.rows.now around.now.start (around.now.end + 1 - around.now.start) × TableFor env.old script.now.variables × (length script.now.uses.now ≡ script.now.variables) × AfterReady script.now.variables level script.now.rows.now around.now.end (told_as env.old inner) }
+    ensures { (ended env.new result ≡ after_at script.now.variables level script.now.rows.now around.now.end (later_of script.now around.now) (ok (told_as env.old inner))) × TableFor env.new script.now.variables }
 {
-    let verdict = verdict_of(inner.told);
-    let Verdict::Fine(value) = verdict else {
-        return inner;
-    };
     let i = around.end;
     let Ok(kind) = Kind::try_from(field_at(script.rows, i, 0)) else {
         unreachable!();
     };
-    let told = match kind {
-        Kind::Box => judge_box(value),
+    let verdict = match kind {
+        Kind::Box => judge_box(inner.value),
         Kind::Let => {
             let x = index_at(script.rows, i, 1);
-            judge_let(env, script.variables, level, x, value)
+            judge_let(env, script.variables, level, x, inner.value)
         }
-        _ => judge_assign(script, around, inner.next, env, value),
+        _ => judge_assign(script, around, inner.next, env, inner.value),
     };
-    judged_term(i, inner.next, told)
+    judged_term(i, inner.next, verdict)
 }

@@ -43,7 +43,7 @@ pub kind_read : (k : Kind) {n : ℕ} → number_in k ≡ n → kind_of newest n 
 kind_read k e = rw (← e) (number_kind k)
 
 -- What is no kind's number has none.
-byte_kind : (k : table.Kind) → IsKind (byte_of k)
+pub byte_kind : (k : table.Kind) → IsKind (byte_of k)
 unfolding byte_of
 byte_kind table.k_number = omega arith
 byte_kind table.k_reading = omega arith

@@ -11,23 +11,16 @@ use Rattle.uses.specs.RowPlaces.{Wraps}
 use Rattle.uses.proofs.KindNames.{wraps_kind, same_number}
 use Rattle.term_judge.proofs.LaterLaws.{after_later}
 use Rattle.term_judge.proofs.JudgeLaws.{told_ended}
-use Rattle.term_judge.proofs.AroundLaws.{after_refused, after_box, after_let, after_assign, last_wraps}
+use Rattle.term_judge.proofs.AroundLaws.{after_box, after_let, after_assign, last_wraps}
 use Rattle.term_judge.proofs.terms.judge_after.Goals as goal
-use Rattle.term_judge.proofs.terms.judge_after.Goals.{After-verdict_of-verdict, In-Ok, in-Box, in-Let, in_default-kind}
-
-wraps : (s : After-verdict_of-verdict) → Wraps s.args.script.now.variables s.args.script.now.rows.now s.args.around.now.end
-wraps s = last_wraps _ _ _ _ s.requires.0 s.requires.1
-
-pub returns-in_default : goal.returns-in_default
-returns-in_default c =
-    (after_refused _ _ _ _ (later_of c.args.script.now c.args.around.now) _ _ _ (sym c.verdict_of-verdict.ensures ∙ c.in_default.is), c.requires.2)
+use Rattle.term_judge.proofs.terms.judge_after.Goals.{In-Ok, in-Box, in-Let, in_default-kind}
 
 pub field_at-requires : goal.field_at-requires
 field_at-requires c =
-    ((wraps (goal.at.field_at-requires c).After-verdict_of-verdict).room, omega arith)
+    ((last_wraps _ _ _ _ c.requires.0 c.requires.1).room, omega arith)
 
 pub unreachable-requires : goal.unreachable-requires
-unreachable-requires c = c.in_default-try_from.ensures (wraps_kind _ (rw c.field_at.ensures (wraps (goal.at.unreachable-requires c).After-verdict_of-verdict).kind))
+unreachable-requires c = c.in_default.ensures (wraps_kind _ (rw c.field_at.ensures (last_wraps _ _ _ _ c.requires.0 c.requires.1).kind))
 
 -- Where the kind is known: what the row's number says of it.
 module _ (k : In-Ok) where
@@ -43,28 +36,25 @@ module _ (k : In-Ok) where
 
 pub index_at-x-requires : goal.index_at-x-requires
 index_at-x-requires c =
-    ((wraps (goal.at.index_at-x-requires c).After-verdict_of-verdict).room, omega arith)
+    ((last_wraps _ _ _ _ c.requires.0 c.requires.1).room, omega arith)
 
-pub judge_let-told-requires : goal.judge_let-told-requires
-judge_let-told-requires c =
-    let fine = sym c.verdict_of-verdict.ensures ∙ c.in-Fine.is in
+pub judge_let-verdict-requires : goal.judge_let-verdict-requires
+judge_let-verdict-requires c =
     let ready = c.requires.4 in
-    let k = kind_number (goal.at.judge_let-told-requires c).In-Ok kind.Let c.in-Let.is in
+    let k = kind_number (goal.at.judge_let-verdict-requires c).In-Ok kind.Let c.in-Let.is in
     let x = c.index_at-x.ensures in
-    ((c.requires.2, (_, ready.neat _ fine)), omega (arith, x, (wraps (goal.at.judge_let-told-requires c).After-verdict_of-verdict).number (λ e. absurd (omega (arith, k, e)))), rw x (ready.taken _ fine k), ready.value _ fine)
+    ((c.requires.2, (_, ready.neat)), omega (arith, x, (last_wraps _ _ _ _ c.requires.0 c.requires.1).number (λ e. absurd (omega (arith, k, e)))), rw x (ready.taken k), ready.value)
 
-pub judge_assign-told-requires : goal.judge_assign-told-requires
-judge_assign-told-requires c =
-    let fine = sym c.verdict_of-verdict.ensures ∙ c.in-Fine.is in
-    ((c.requires.2, (_, c.requires.4.neat _ fine)), c.requires.3, c.requires.0, c.requires.1, (wraps (goal.at.judge_assign-told-requires c).After-verdict_of-verdict).number (other_number (goal.at.judge_assign-told-requires c).In-Ok kind.Box c.in_default-kind.not-Box))
+pub judge_assign-verdict-requires : goal.judge_assign-verdict-requires
+judge_assign-verdict-requires c =
+    ((c.requires.2, (_, c.requires.4.neat)), c.requires.3, c.requires.0, c.requires.1, (last_wraps _ _ _ _ c.requires.0 c.requires.1).number (other_number (goal.at.judge_assign-verdict-requires c).In-Ok kind.Box c.in_default-kind.not-Box))
 
 pub returns : goal.returns
 returns c =
-    let fine = sym c.verdict_of-verdict.ensures ∙ c.in-Fine.is in
     let later = later_of c.args.script.now c.args.around.now in
     let k = (goal.at.returns c).In-Ok in
     (elim c.match-kind.branch [
-      | in-Box w ↦ (after_box _ _ _ _ later _ _ _ fine _ _ (kind_number k kind.Box w.in-Box.is) (told_ended _ _ _ _ _ c.judged_term.ensures _ (rw (w.told-is, w.env-is) (w.judge_box-told.ensures _ _ _))), rw w.env-is c.requires.2)
-      | in-Let w ↦ (after_let _ _ _ _ later _ _ _ fine _ _ (kind_number k kind.Let w.in-Let.is) _ w.index_at-x.ensures (told_ended _ _ _ _ _ c.judged_term.ensures _ (rw (w.told-is, w.env-is) (w.judge_let-told.ensures.0 _))), rw w.env-is w.judge_let-told.ensures.1)
-      | in_default-kind w ↦ (after_assign _ _ _ _ later _ _ _ fine _ _ (wraps (goal.at.returns c).After-verdict_of-verdict) (other_number k kind.Box w.in_default-kind.not-Box) (other_number k kind.Let w.in_default-kind.not-Let) (told_ended _ _ _ _ _ c.judged_term.ensures _ (rw (w.told-is, w.env-is) (w.judge_assign-told.ensures.0 _ (after_later _ c.args.script.now.rows.now c.args.script.now.uses.now (has c.args.around.now.named) _ _ c.requires.0 c.args.inner.next)))), rw w.env-is w.judge_assign-told.ensures.1)
+      | in-Box w ↦ (after_box _ _ _ _ later _ _ _ _ (kind_number k kind.Box w.in-Box.is) (told_ended _ _ _ _ _ c.judged_term.ensures _ (rw (w.verdict-is, w.env-is) (w.judge_box-verdict.ensures _ _ _))), rw w.env-is c.requires.2)
+      | in-Let w ↦ (after_let _ _ _ _ later _ _ _ _ (kind_number k kind.Let w.in-Let.is) _ w.index_at-x.ensures (told_ended _ _ _ _ _ c.judged_term.ensures _ (rw (w.verdict-is, w.env-is) (w.judge_let-verdict.ensures.0 _))), rw w.env-is w.judge_let-verdict.ensures.1)
+      | in_default-kind w ↦ (after_assign _ _ _ _ later _ _ _ _ (last_wraps _ _ _ _ c.requires.0 c.requires.1) (other_number k kind.Box w.in_default-kind.not-Box) (other_number k kind.Let w.in_default-kind.not-Let) (told_ended _ _ _ _ _ c.judged_term.ensures _ (rw (w.verdict-is, w.env-is) (w.judge_assign-verdict.ensures.0 _ (after_later _ c.args.script.now.rows.now c.args.script.now.uses.now (has c.args.around.now.named) _ _ c.requires.0 c.args.inner.next)))), rw w.env-is w.judge_assign-verdict.ensures.1)
     ])

@@ -6,7 +6,6 @@ use borrow.Author.Tests.{eq-eqb, ne_eqb}
 use Rattle.syntax.specs.declared.kinds.Kind.TheVariants as kind
 use Rattle.syntax.specs.KindNumbers.{number_in}
 use Rattle.syntax.specs.RowParts.{field_at}
-use Rattle.rules.specs.RuleAnswers.{begun}
 use Rattle.uses.proofs.KindNames.{wraps_kind, same_number, not_other}
 use Rattle.term_judge.specs.JudgeRows.{begin_at}
 use Rattle.term_judge.proofs.terms.judge_before.Goals as goal
@@ -26,7 +25,7 @@ pub unreachable-requires : goal.unreachable-requires
 unreachable-requires c = c.in_default.ensures (wraps_kind _ (rw c.field_at.ensures c.requires.0.kind))
 
 pub returns-then-ne : goal.returns-then-ne
-unfolding begun begin_at
+unfolding begin_at
 returns-then-ne c =
     let read : number_in c.in-Ok.kind ≡ c.field_at.result = c.in-Ok.ensures in
     let no_let : c.in-Ok.kind ≡ kind.Let → ⊥ = λ q. false≢true (sym (rw q at c.ne.ensures) ∙ c.if-ne.true) in
