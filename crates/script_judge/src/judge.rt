@@ -16,15 +16,15 @@ ghost use Rattle.uses.specs.RowPlaces.{AllAround};
 
 use choices::choice::{KEPT, exchange, join, judge_either, keep, numbers_taken};
 use paths::environment::in_scope;
-use rules::rules::{Readable, Requirement, judge_answer, judge_block_end, judge_number};
+use rules::rules::{judge_answer, judge_block_end, judge_number};
 use syntax::fields::{field_at, index_at, index_of};
 use syntax::kinds::{Kind, wraps};
-use term_judge::terms::{JudgedTerm, judge_after, judge_before, judge_leaf, judged_term};
+use syntax::refusals::Refusal;
+use term_judge::terms::{Judged, judge_after, judge_before, judge_leaf, judged_term};
 use uses::row::place_at;
 use uses::script::{Around, Script};
 use uses::uses::{find_uses, read_barred};
 use variables::roots::{Roots, no_roots, only, unite};
-use variables::verdicts::{Value, Verdict, fine, refused, verdict_of};
 
 // How many numbers' state a choice keeps in the smaller of two places, and in the larger, for the most variables that a
 // set may have (LANGUAGE 2.8).
@@ -41,7 +41,7 @@ fn judge_block(
     levels: usize,
     env: &mut [u64],
     level: u64,
-) -> JudgedTerm
+) -> Result<Judged, Refusal>
     requires { IsTree (tree_at script.now.variables levels script.now.rows.now around.now.end) × (field_at script.now.rows.now around.now.end 0 ≡ 11) × Ready script.now.variables level levels script.now.rows.now env.old script.now.uses.now × (around.now.start ≤ around.now.end) × AllAround script.now around.now }
     ensures { (ended env.new result ≡ judge_at script.now.variables (tree_at script.now.variables levels script.now.rows.now around.now.end) level (later_of script.now around.now) (environment_of env.old)) × TableFor env.new script.now.variables }
 {
@@ -49,13 +49,9 @@ fn judge_block(
     let count = index_at(script.rows, i, 1);
     let before = in_scope(env, script.variables);
     let inside = around.all_named(script);
-    let inner = judge_terms(script, i + 1, count, levels - 1, env, level + 1, inside);
-    let verdict = verdict_of(inner.told);
-    let Verdict::Fine(value) = verdict else {
-        return inner;
-    };
-    let told = judge_block_end(env, script.variables, level, before, value);
-    judged_term(i, inner.next, told)
+    let inner = judge_terms(script, i + 1, count, levels - 1, env, level + 1, inside)?;
+    let verdict = judge_block_end(env, script.variables, level, before, inner.value);
+    judged_term(i, inner.next, verdict)
 }
 
 // The two blocks of the choice at row i, one after the other, and what is known after either (LANGUAGE 3.31). The state of
@@ -71,25 +67,17 @@ fn judge_branches(
     named: Roots,
     kept: &mut [u64],
     count: usize,
-) -> JudgedTerm
+) -> Result<Judged, Refusal>
     requires { IsTree (tree_at script.now.variables levels script.now.rows.now i) × (field_at script.now.rows.now i 0 ≡ 12) × Ready script.now.variables level levels script.now.rows.now env.old script.now.uses.now × (count ≡ note_at env.old (suc script.now.variables)) × (count * 3 ≤ length kept.old) }
     ensures { (ended env.new result ≡ branches_at script.now.variables levels script.now.rows.now i level (later_at script.now.variables script.now.uses.now (has named)) (environment_of env.old)) × TableFor env.new script.now.variables }
 {
     let variables = script.variables;
     keep(env, variables, kept, count);
-    let first = judge_terms(script, i + 1, 1, levels - 1, env, level, named);
-    let verdict = verdict_of(first.told);
-    let Verdict::Fine(value) = verdict else {
-        return first;
-    };
+    let first = judge_terms(script, i + 1, 1, levels - 1, env, level, named)?;
     exchange(env, variables, kept, count);
-    let second = judge_terms(script, first.next, 1, levels - 1, env, level, named);
-    let other_verdict = verdict_of(second.told);
-    let Verdict::Fine(other_value) = other_verdict else {
-        return second;
-    };
+    let second = judge_terms(script, first.next, 1, levels - 1, env, level, named)?;
     join(env, variables, kept, count);
-    judged_term(i, second.next, judge_either(value, other_value))
+    judged_term(i, second.next, judge_either(first.value, second.value))
 }
 
 // The same with room for as many numbers as FEW. This one and the next stay two: in a cycle of calls a function with a
@@ -103,7 +91,7 @@ fn judge_few_kept(
     level: u64,
     named: Roots,
     count: usize,
-) -> JudgedTerm
+) -> Result<Judged, Refusal>
     requires { IsTree (tree_at script.now.variables levels script.now.rows.now i) × (field_at script.now.rows.now i 0 ≡ 12) × Ready script.now.variables level levels script.now.rows.now env.old script.now.uses.now × (count ≡ note_at env.old (suc script.now.variables)) × (count ≤ 16) }
     ensures { (ended env.new result ≡ branches_at script.now.variables levels script.now.rows.now i level (later_at script.now.variables script.now.uses.now (has named)) (environment_of env.old)) × TableFor env.new script.now.variables }
 {
@@ -121,7 +109,7 @@ fn judge_many_kept(
     level: u64,
     named: Roots,
     count: usize,
-) -> JudgedTerm
+) -> Result<Judged, Refusal>
     requires { IsTree (tree_at script.now.variables levels script.now.rows.now i) × (field_at script.now.rows.now i 0 ≡ 12) × Ready script.now.variables level levels script.now.rows.now env.old script.now.uses.now × (count ≡ note_at env.old (suc script.now.variables)) }
     ensures { (ended env.new result ≡ branches_at script.now.variables levels script.now.rows.now i level (later_at script.now.variables script.now.uses.now (has named)) (environment_of env.old)) × TableFor env.new script.now.variables }
 {
@@ -137,7 +125,7 @@ fn judge_choice(
     levels: usize,
     env: &mut [u64],
     level: u64,
-) -> JudgedTerm
+) -> Result<Judged, Refusal>
     requires { IsTree (tree_at script.now.variables levels script.now.rows.now around.now.end) × (field_at script.now.rows.now around.now.end 0 ≡ 12) × Ready script.now.variables level levels script.now.rows.now env.old script.now.uses.now × (around.now.start ≤ around.now.end) × AllAround script.now around.now }
     ensures { (ended env.new result ≡ judge_at script.now.variables (tree_at script.now.variables levels script.now.rows.now around.now.end) level (later_of script.now around.now) (environment_of env.old)) × TableFor env.new script.now.variables }
 {
@@ -145,12 +133,8 @@ fn judge_choice(
     let place = place_at(script.rows, i, 1);
     let root = index_of(place.root);
     let barred = read_barred(script, around, i, env, root);
-    let number = judge_number(env, script.variables, place, barred);
-    if let Readable::Refused(refusal) = number {
-        return JudgedTerm {
-            next: i,
-            told: refused(refusal),
-        };
+    if let Err(reason) = judge_number(env, script.variables, place, barred) {
+        return Err(Refusal { reason, place: i });
     }
     let inside = unite(around.all_named(script), only(root));
     let count = numbers_taken(env, script.variables);
@@ -169,7 +153,7 @@ fn judge_inmost(
     levels: usize,
     env: &mut [u64],
     level: u64,
-) -> JudgedTerm
+) -> Result<Judged, Refusal>
     requires { IsTree (tree_at script.now.variables levels script.now.rows.now around.now.end) × (wraps_of (field_at script.now.rows.now around.now.end 0) ≡ false) × Ready script.now.variables level levels script.now.rows.now env.old script.now.uses.now × (around.now.start ≤ around.now.end) × AllAround script.now around.now }
     ensures { (ended env.new result ≡ judge_at script.now.variables (tree_at script.now.variables levels script.now.rows.now around.now.end) level (later_of script.now around.now) (environment_of env.old)) × TableFor env.new script.now.variables }
 {
@@ -183,8 +167,8 @@ fn judge_inmost(
         _ => {
             let first = place_at(script.rows, i, 1);
             let second = place_at(script.rows, i, 3);
-            let told = judge_leaf(script, around, env, kind, first, second);
-            judged_term(i, i + 1, told)
+            let verdict = judge_leaf(script, around, env, kind, first, second);
+            judged_term(i, i + 1, verdict)
         }
     }
 }
@@ -200,19 +184,13 @@ fn judge_term(
     env: &mut [u64],
     level: u64,
     named: Roots,
-) -> JudgedTerm
+) -> Result<Judged, Refusal>
     requires { IsTree (tree_at script.now.variables levels script.now.rows.now i) × Ready script.now.variables level levels script.now.rows.now env.old script.now.uses.now }
     ensures { (ended env.new result ≡ judge_at script.now.variables (tree_at script.now.variables levels script.now.rows.now i) level (later_at script.now.variables script.now.uses.now (has named)) (environment_of env.old)) × TableFor env.new script.now.variables }
 {
     let mut count: usize = 0;
     while wraps(field_at(script.rows, i + count, 0)) {
-        let begun = judge_before(script, i + count, env);
-        if let Requirement::Refused(number, term) = begun {
-            return JudgedTerm {
-                next: term,
-                told: refused(number),
-            };
-        }
+        judge_before(script, i + count, env)?;
         count += 1;
     }
     let around = Around {
@@ -220,16 +198,16 @@ fn judge_term(
         end: i + count,
         named,
     };
-    let mut judged = judge_inmost(script, &around, levels - count, env, level);
+    let mut judged = judge_inmost(script, &around, levels - count, env, level)?;
     for k in (0..count).rev() {
         let around = Around {
             start: i,
             end: i + k,
             named,
         };
-        judged = judge_after(script, &around, env, level, judged);
+        judged = judge_after(script, &around, env, level, judged)?;
     }
-    judged
+    Ok(judged)
 }
 
 // A block's terms in order (LANGUAGE 3.28), count of them from row i on: the value of the last (3.4).
@@ -242,22 +220,18 @@ fn judge_terms(
     env: &mut [u64],
     level: u64,
     named: Roots,
-) -> JudgedTerm
+) -> Result<Judged, Refusal>
     requires { IsRest (tree_at script.now.variables levels script.now.rows.now) count i × Ready script.now.variables level levels script.now.rows.now env.old script.now.uses.now }
     ensures { (ended env.new result ≡ rest_at script.now.variables (tree_at script.now.variables levels script.now.rows.now) level (later_at script.now.variables script.now.uses.now (has named)) count i none (environment_of env.old)) × TableFor env.new script.now.variables }
 {
-    let mut judged = JudgedTerm {
+    let mut judged = Judged {
         next: i,
-        told: fine(Value::None),
+        value: None,
     };
     for _ in 0..count {
-        judged = judge_term(script, judged.next, levels, env, level, named);
-        let verdict = verdict_of(judged.told);
-        let Verdict::Fine(_) = verdict else {
-            return judged;
-        };
+        judged = judge_term(script, judged.next, levels, env, level, named)?;
     }
-    judged
+    Ok(judged)
 }
 
 // The script (LANGUAGE 3.29) of so many terms, with no number taken before it (3.1). First the last uses of its variables
@@ -269,7 +243,7 @@ pub fn judge_script(
     env: &mut [u64],
     variables: usize,
     uses: &mut [u32],
-) -> Requirement
+) -> Result<(), Refusal>
     requires { EndsAt (tree_at variables levels rows.now 0) terms × NamesBelow variables rows.now terms × (terms < 4294967295) × (levels < 4294967296) × TableFor env.old variables × (environment_of env.old ≡ nothing_taken variables) × (length uses.old ≡ variables) × ((x : ℕ) → get_or uses.old x 0 ≡ 0) }
     ensures { as_requirement result ≡ script_at variables (tree_at variables levels rows.now 0) }
 {
@@ -279,10 +253,6 @@ pub fn judge_script(
         uses,
         variables,
     };
-    let judged = judge_terms(&script, 0, 1, levels, env, 0, no_roots());
-    let verdict = verdict_of(judged.told);
-    match verdict {
-        Verdict::Refused(number) => Requirement::Refused(number, judged.next),
-        Verdict::Fine(answer) => judge_answer(answer),
-    }
+    let judged = judge_terms(&script, 0, 1, levels, env, 0, no_roots())?;
+    judge_answer(judged.value)
 }

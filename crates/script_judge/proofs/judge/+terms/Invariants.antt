@@ -4,14 +4,12 @@ use mathlib.Core.Option.{none}
 use mathlib.Core.List.{List}
 use lib.ListN.{length}
 use Rattle.syntax.specs.RowTrees.{IsRest, tree_at}
-use Rattle.variables.specs.declared.verdicts.Value.{Value}
-use Rattle.variables.specs.declared.verdicts.Verdict.TheVariants as verdict
 use Rattle.statics.specs.Environment.{Environment}
 use Rattle.variables.specs.Masks.{has}
 use Rattle.variables.specs.Table.{TableFor, environment_of}
-use Rattle.variables.specs.Verdicts.{as_value, verdict_of}
+use Rattle.variables.specs.Verdicts.{as_value}
 use Rattle.uses.specs.RowUses.{later_at}
-use Rattle.term_judge.specs.JudgeRows.{Ready, rest_at}
+use Rattle.term_judge.specs.JudgeRows.{told_as, Ready, rest_at}
 use Rattle.script_judge.proofs.InwardsLaws.{Inwards, Outwards}
 use Rattle.script_judge.proofs.judge.+terms.Given as goal
 
@@ -57,11 +55,10 @@ decreases-judge_term-loop-env l = l.levels - l.count
 
 abbrev pub invariant-judge_term-loop-k : goal.invariant-judge_term-loop-k
 invariant-judge_term-loop-k l = (length l.env ≡ length l.initial.env) × TableFor l.env l.script.variables
-    × ((Γ : Environment) → Outwards l.script.variables l.levels l.script.rows.now l.i (later_at l.script.variables l.script.uses.now (has l.named)) l.level Γ l.initial.k l.initial.env l.initial.judged → Outwards l.script.variables l.levels l.script.rows.now l.i (later_at l.script.variables l.script.uses.now (has l.named)) l.level Γ l.k l.env l.judged)
+    × ((Γ : Environment) → Outwards l.script.variables l.levels l.script.rows.now l.i (later_at l.script.variables l.script.uses.now (has l.named)) l.level Γ l.initial.k (told_as l.initial.env l.initial.judged) → Outwards l.script.variables l.levels l.script.rows.now l.i (later_at l.script.variables l.script.uses.now (has l.named)) l.level Γ l.k (told_as l.env l.judged))
 
--- The last verdict is fine, what is left gives the answer of all, and no row comes again.
+-- What is left gives the answer of all, and no row comes again.
 abbrev pub invariant-judge_terms-loop : goal.invariant-judge_terms-loop
 invariant-judge_terms-loop l = IsRest (tree_at l.script.variables l.levels l.script.rows.now) (l.count - l.counter) l.judged.next × (length l.env ≡ length l.initial.env) × Ready l.script.variables l.level l.levels l.script.rows.now l.env l.script.uses.now
-    × (v : Value) × (verdict_of l.judged.told ≡ verdict.Fine v)
-    × (rest_at l.script.variables (tree_at l.script.variables l.levels l.script.rows.now) l.level (later_at l.script.variables l.script.uses.now (has l.named)) (l.count - l.counter) l.judged.next (as_value l.env v) (environment_of l.env) ≡ rest_at l.script.variables (tree_at l.script.variables l.levels l.script.rows.now) l.level (later_at l.script.variables l.script.uses.now (has l.named)) l.count l.i none (environment_of l.initial.env))
+    × (rest_at l.script.variables (tree_at l.script.variables l.levels l.script.rows.now) l.level (later_at l.script.variables l.script.uses.now (has l.named)) (l.count - l.counter) l.judged.next (as_value l.env l.judged.value) (environment_of l.env) ≡ rest_at l.script.variables (tree_at l.script.variables l.levels l.script.rows.now) l.level (later_at l.script.variables l.script.uses.now (has l.named)) l.count l.i none (environment_of l.initial.env))
     × (l.i ≤ l.judged.next)

@@ -7,7 +7,6 @@ use Rattle.syntax.specs.KindNumbers.{number_in}
 use Rattle.syntax.specs.RowParts.{field_at}
 use Rattle.variables.specs.Masks.{has}
 use Rattle.uses.specs.RowUses.{later_of}
-use Rattle.uses.specs.RowPlaces.{Wraps}
 use Rattle.uses.proofs.KindNames.{wraps_kind, same_number}
 use Rattle.term_judge.proofs.LaterLaws.{after_later}
 use Rattle.term_judge.proofs.JudgeLaws.{told_ended}
