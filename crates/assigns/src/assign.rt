@@ -29,14 +29,11 @@ fn live_long_enough(env: &[u64], variables: usize, roots: Roots, to: Roots) -> b
     if is_empty(roots) {
         return true;
     }
-    let mut left = to;
-    while !is_empty(left) {
-        let x = lowest(left);
+    for x in to {
         let level = level_at(env, variables, x);
         if !lives_at(env, variables, roots, level) {
             return false;
         }
-        left = without(left, x);
     }
     true
 }
@@ -46,10 +43,7 @@ fn widen_all(env: &mut [u64], variables: usize, to: Roots, roots: Roots)
     requires { TableFor env.old variables × ((y : ℕ) → has to y ≡ true → y < variables) }
     ensures { WidenedAll env.old to roots env.new × TableFor env.new variables }
 {
-    let mut left = to;
-    while !is_empty(left) {
-        let x = lowest(left);
-        left = without(left, x);
+    for x in to {
         widen(env, variables, x, roots);
     }
 }

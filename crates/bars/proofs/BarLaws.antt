@@ -12,7 +12,10 @@ use Rattle.variables.specs.declared.roots.Roots.{Roots}
 use Rattle.statics.specs.Uses.{Unfinished, named_later}
 use Rattle.statics.specs.Bars.{borrows_any, held_by, held, in_use}
 use Rattle.variables.specs.Masks.{has}
-use Rattle.variables.specs.Table.{environment_of, TableFor, borrows_by, MayHold}
+use Rattle.variables.specs.Table.{environment_of, TableFor}
+use Rattle.bars.specs.declared.bars.Borrows.{Borrows}
+use Rattle.bars.specs.declared.bars.Borrows.TheVariants as borrows
+use Rattle.bars.specs.Held.{borrows_by, MayHold}
 use Rattle.bars.specs.Leading.{LeadingTo}
 use Rattle.statics.proofs.Answers.{same_bool}
 use Rattle.statics.proofs.InUse.{holder_counts, held_some, in_use_named, in_use_held, in_use_least}
@@ -29,25 +32,25 @@ among false h a = refl
 
 -- x holds y, which is one of these.
 abbrev holding_among : List ℕ → Roots → ℕ → ℕ → Bool
-holding_among env these x y = pick (held_by (borrows_by true) (environment_of env x) y) (has these y) false
+holding_among env these x y = pick (held_by (borrows_by borrows.Any) (environment_of env x) y) (has these y) false
 
 -- The named are met, and of these whatever one holds that is met and no longer to do; none that is no longer to do holds such a borrow of the root.
-pub record Seeking (env : List ℕ) (any : Bool) (root : ℕ) (these first met todo : Roots) : Type 0 where
-  pub search : Search (has first) (holding_among env these) (λ x. not (held_by (borrows_by any) (environment_of env x) root)) (λ _. false) (has met) (has todo) (λ _. false)
+pub record Seeking (env : List ℕ) (which : Borrows) (root : ℕ) (these first met todo : Roots) : Type 0 where
+  pub search : Search (has first) (holding_among env these) (λ x. not (held_by (borrows_by which) (environment_of env x) root)) (λ _. false) (has met) (has todo) (λ _. false)
 
-module _ (env : List ℕ) (n : ℕ) (T : TableFor env n) (any : Bool) (root : ℕ) (may : Roots) (M : MayHold env any root may) (named : ℕ → Bool) (near : Leading) (L : LeadingTo env root may named near) where
-  pub seek_begins : Seeking env any root near.all near.named near.named near.named
+module _ (env : List ℕ) (n : ℕ) (T : TableFor env n) (which : Borrows) (root : ℕ) (may : Roots) (M : MayHold env which root may) (named : ℕ → Bool) (near : Leading) (L : LeadingTo env root may named near) where
+  pub seek_begins : Seeking env which root near.all near.named near.named near.named
   seek_begins = record {
-    search = search_begins (has near.named) (holding_among env near.all) (λ x. not (held_by (borrows_by any) (environment_of env x) root)) (λ _. false) (has near.named) (λ _. false) (λ y. refl) (λ y. refl);
+    search = search_begins (has near.named) (holding_among env near.all) (λ x. not (held_by (borrows_by which) (environment_of env x) root)) (λ _. false) (has near.named) (λ _. false) (λ y. refl) (λ y. refl);
   }
 
-  module _ (met todo : Roots) (S : Seeking env any root near.all near.named met todo) where
+  module _ (met todo : Roots) (S : Seeking env which root near.all near.named met todo) where
     module _ (ns : Unfinished) (later : (x : ℕ) → x < n → named_later ns x ≡ named x) where
       abbrev in_use_here : ℕ → Bool
       in_use_here = in_use n ns (environment_of env)
 
       abbrev Barred : Bool
-      Barred = held (borrows_by any) in_use_here n (environment_of env) root
+      Barred = held (borrows_by which) in_use_here n (environment_of env) root
 
       near_low : (x : ℕ) → has near.all x ≡ true → x < n
       near_low x h = scope_low env n T x (L.scoped x h)
@@ -71,14 +74,14 @@ module _ (env : List ℕ) (n : ℕ) (T : TableFor env n) (any : Bool) (root : �
           held_used : (y z : ℕ) → pick (ltb y n) (in_use_here y) false ≡ true → holding_among env near.all y z ≡ true → pick (ltb z n) (in_use_here z) false ≡ true
           held_used y z u k =
               let a = both_of (ltb y n) (in_use_here y) u in
-              let b = both_of (held_by (borrows_by true) (environment_of env y) z) (has near.all z) k in
+              let b = both_of (held_by (borrows_by borrows.Any) (environment_of env y) z) (has near.all z) k in
               let l = near_low z b.1 in
               put z l (in_use_held n ns (environment_of env) y z (ltb-true y n a.0) l b.0 a.1)
 
-      pub seek_found : (x : ℕ) → has todo x ≡ true → held_by (borrows_by any) (environment_of env x) root ≡ true → true ≡ Barred
+      pub seek_found : (x : ℕ) → has todo x ≡ true → held_by (borrows_by which) (environment_of env x) root ≡ true → true ≡ Barred
       seek_found x h k =
           let u = used x (S.search.meeting.inside x h) in
-          sym (holder_counts (borrows_by any) in_use_here (environment_of env) root n x u.0 k u.1)
+          sym (holder_counts (borrows_by which) in_use_here (environment_of env) root n x u.0 k u.1)
 
       -- Where nothing is left to do, all in use that may lead to the root are met: who holds one of these is one of these.
       module _ (none : (y : ℕ) → has todo y ≡ false) where
@@ -86,28 +89,28 @@ module _ (env : List ℕ) (n : ℕ) (T : TableFor env n) (any : Bool) (root : �
         unfolding borrows_by
         all_met = in_use_least n ns (environment_of env) (λ x. has near.all x ≡ true → has met x ≡ true)
             (λ x e a. S.search.meeting.start x (L.named_are x ∙ both_in (has near.all x) (named x) a (sym (later x (near_low x a)) ∙ e)))
-            (λ y x l k p a. S.search.meeting.added y x (p (L.closed x y a (held_recorded env true y x k))) (none y) (both_in (held_by borrows_any (environment_of env y) x) (has near.all x) k a))
+            (λ y x l k p a. S.search.meeting.added y x (p (L.closed x y a (held_recorded env borrows.Any y x k))) (none y) (both_in (held_by borrows_any (environment_of env y) x) (has near.all x) k a))
 
         pub seek_over : false ≡ Barred
         seek_over = same_bool false Barred (λ q. absurd (false≢true q)) (λ b.
-            let h = held_some (borrows_by any) in_use_here (environment_of env) root n b in
-            let a = L.start h.0 (M h.0 h.2) (held_recorded env any h.0 root h.2) in
-            absurd (true≢false (sym h.2 ∙ not-true (held_by (borrows_by any) (environment_of env h.0) root) (S.search.passed h.0 (all_met h.0 h.3 a) (none h.0)))))
+            let h = held_some (borrows_by which) in_use_here (environment_of env) root n b in
+            let a = L.start h.0 (M h.0 h.2) (held_recorded env which h.0 root h.2) in
+            absurd (true≢false (sym h.2 ∙ not-true (held_by (borrows_by which) (environment_of env h.0) root) (S.search.passed h.0 (all_met h.0 h.3 a) (none h.0)))))
 
     -- The variable x, which holds no such borrow of the root, has been looked at: what it holds among these and is not met yet is added.
-    module _ (x : ℕ) (h : has todo x ≡ true) (r : Bool) (asked : r ≡ held_by (borrows_by any) (environment_of env x) root) (unheld : r ≡ false) (holds new more met' todo₁ todo' : Roots)
-        (holds-is : (y : ℕ) → has holds y ≡ held_by (borrows_by true) (environment_of env x) y) (New-is : (y : ℕ) → has new y ≡ pick (has met y) false (has holds y))
+    module _ (x : ℕ) (h : has todo x ≡ true) (r : Bool) (asked : r ≡ held_by (borrows_by which) (environment_of env x) root) (unheld : r ≡ false) (holds new more met' todo₁ todo' : Roots)
+        (holds-is : (y : ℕ) → has holds y ≡ held_by (borrows_by borrows.Any) (environment_of env x) y) (New-is : (y : ℕ) → has new y ≡ pick (has met y) false (has holds y))
         (more_is : (y : ℕ) → has more y ≡ pick (has new y) (has near.all y) false) (met-is : (y : ℕ) → has met' y ≡ pick (has met y) true (has more y))
         (less-is : (y : ℕ) → has todo₁ y ≡ pick (eqb x y) false (has todo y)) (todo-is : (y : ℕ) → has todo' y ≡ pick (has todo₁ y) true (has more y)) where
       held_more : (y : ℕ) → has more y ≡ pick (has met y) false (holding_among env near.all x y)
       held_more y =
           more_is y
           ∙ ap (λ (a : Bool). pick a (has near.all y) false) (New-is y ∙ ap (λ (b : Bool). pick (has met y) false b) (holds-is y))
-          ∙ among (has met y) (held_by (borrows_by true) (environment_of env x) y) (has near.all y)
+          ∙ among (has met y) (held_by (borrows_by borrows.Any) (environment_of env x) y) (has near.all y)
 
-      seek_next : Search (has near.named) (holding_among env near.all) (λ y. not (held_by (borrows_by any) (environment_of env y) root)) (λ _. false) (has met') (has todo') (λ _. false)
+      seek_next : Search (has near.named) (holding_among env near.all) (λ y. not (held_by (borrows_by which) (environment_of env y) root)) (λ _. false) (has met') (has todo') (λ _. false)
           × (count (waiting (has met') (has todo')) 128 < count (waiting (has met) (has todo)) 128)
-      seek_next = search_next (has near.named) (holding_among env near.all) (λ y. not (held_by (borrows_by any) (environment_of env y) root)) (λ _. false) (has met) (has todo) (λ _. false) S.search x h (has todo₁) less-is (holding_among env near.all x) (λ y. refl) (has more) held_more (has met') (has todo') (λ _. false) met-is todo-is (ap not (sym asked ∙ unheld)) (λ y. no_more false (eqb x y) false refl) 128 (has_below todo x h)
+      seek_next = search_next (has near.named) (holding_among env near.all) (λ y. not (held_by (borrows_by which) (environment_of env y) root)) (λ _. false) (has met) (has todo) (λ _. false) S.search x h (has todo₁) less-is (holding_among env near.all x) (λ y. refl) (has more) held_more (has met') (has todo') (λ _. false) met-is todo-is (ap not (sym asked ∙ unheld)) (λ y. no_more false (eqb x y) false refl) 128 (has_below todo x h)
 
-      pub seek_round : Seeking env any root near.all near.named met' todo' × (count (waiting (has met') (has todo')) 128 < count (waiting (has met) (has todo)) 128)
+      pub seek_round : Seeking env which root near.all near.named met' todo' × (count (waiting (has met') (has todo')) 128 < count (waiting (has met) (has todo)) 128)
       seek_round = (record { search = seek_next.0 }, seek_next.1)

@@ -93,9 +93,9 @@ module _ (env : List ℕ) (n : ℕ) (T : TableFor env n) where
       pub left_low : (x : ℕ) → has left x ≡ true → x < n
       left_low x h = scope_low x (G.waiting x h)
 
-      module _ (x : ℕ) (h : has left x ≡ true) (one left₁ : Roots) (one-is : (y : ℕ) → has one y ≡ eqb x y) (less-is : (y : ℕ) → has left₁ y ≡ pick (has one y) false (has left y)) where
+      module _ (x : ℕ) (h : has left x ≡ true) (left₁ : Roots) (less-is : (y : ℕ) → has left₁ y ≡ pick (eqb x y) false (has left y)) where
         less_in : (y : ℕ) → has left₁ y ≡ true → (has left y ≡ true) × (eqb x y ≡ false)
-        less_in y k = go (eqb x y) (sym (ap (λ (b : Bool). pick b false (has left y)) (one-is y)) ∙ sym (less-is y) ∙ k)
+        less_in y k = go (eqb x y) (sym (less-is y) ∙ k)
           where
             go : (q : Bool) → pick q false (has left y) ≡ true → (has left y ≡ true) × (q ≡ false)
             go true e = absurd (false≢true e)
@@ -107,11 +107,11 @@ module _ (env : List ℕ) (n : ℕ) (T : TableFor env n) where
           where
             go : (q : Bool) → eqb x y ≡ q → (x ≡ y) ⊎ (has left₁ y ≡ true)
             go true e = inl (eqb-true x y e)
-            go false e = inr (less-is y ∙ ap (λ (b : Bool). pick b false (has left y)) (one-is y ∙ e) ∙ k)
+            go false e = inr (less-is y ∙ ap (λ (b : Bool). pick b false (has left y)) e ∙ k)
 
         fewer_left : count (has left₁) 128 < count (has left) 128
         fewer_left =
-            let e = count_less (has left) (has left₁) 128 x (has_below left x h) h (less-is x ∙ ap (λ (b : Bool). pick b false (has left x)) (one-is x ∙ eq-eqb x x refl)) (λ z q. sym (less-is z ∙ ap (λ (b : Bool). pick b false (has left z)) (one-is z ∙ ne_eqb x z (λ k. q (sym k))))) in
+            let e = count_less (has left) (has left₁) 128 x (has_below left x h) h (less-is x ∙ ap (λ (b : Bool). pick b false (has left x)) (eq-eqb x x refl)) (λ z q. sym (less-is z ∙ ap (λ (b : Bool). pick b false (has left z)) (ne_eqb x z (λ k. q (sym k))))) in
             omega (arith, e)
 
         -- It records neither the root nor one that is found.
@@ -145,7 +145,7 @@ module _ (env : List ℕ) (n : ℕ) (T : TableFor env n) where
           gather_skips = (skips, omega (arith, fewer_left))
 
         -- It is found: who is noted for it and not found yet is to be looked at.
-        module _ (r : Bool) (asked : r ≡ named x) (found' all' towards' holders unmet more left' : Roots)
+        module _ (one : Roots) (one-is : (y : ℕ) → has one y ≡ eqb x y) (r : Bool) (asked : r ≡ named x) (found' all' towards' holders unmet more left' : Roots)
             (found-is : ((r ≡ true) × ((y : ℕ) → has found' y ≡ pick (has found y) true (has one y))) ⊎ ((r ≡ false) × (found' ≡ found)))
             (all-is : (y : ℕ) → has all' y ≡ pick (has all y) true (has one y)) (towards-is : (y : ℕ) → has towards' y ≡ pick (has towards y) true (has one y)) (holders-is : holders ≡ holders_at env x)
             (unmet-is : (y : ℕ) → has unmet y ≡ pick (has all' y) false (has holders y)) (more_is : (y : ℕ) → has more y ≡ pick (has unmet y) (has scope y) false)

@@ -1,2 +1,3 @@
--- Who is named later, and who may lead to a root.
+-- Which borrows count; who is named later, and who may lead to a root.
+pub mod Held
 pub mod Leading

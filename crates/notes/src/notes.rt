@@ -7,7 +7,7 @@ ghost use Rattle.statics.specs.Environment.{used, live, is_free, update, moved_a
 ghost use Rattle.variables.specs.Chains.{chain_of};
 ghost use Rattle.variables.specs.Table.{TableFor, entry_word, environment_of, links_at, end_in, as_variable, Fits, Stored, HolderNoted, MemberAdded, ExclusiveNoted, Unrecorded, SameLinks, raised};
 
-use variables::roots::{Roots, is_empty, lowest, only, unite, without};
+use variables::roots::{Roots, only, unite};
 use variables::table::{
     BorrowEnd, Entry, LEVEL, LINKS, LIVE, MOVED_FROM, NOTE, STATUS, USED, VariableState,
     changed_state, end_roots, holders_at, load, nothing_moved, put_holders, put_roots, put_word,
@@ -19,10 +19,7 @@ pub fn note_holder(env: &mut [u64], variables: usize, x: usize, roots: Roots)
     requires { (variables * 8 + 16 ≤ length env.old) × (x < 128) }
     ensures { HolderNoted variables env.old x roots env.new }
 {
-    let mut left = roots;
-    while !is_empty(left) {
-        let root = lowest(left);
-        left = without(left, root);
+    for root in roots {
         if root < variables {
             let holders = unite(holders_at(env, root), only(x));
             put_holders(env, root, holders);
@@ -35,9 +32,8 @@ fn raise_note(env: &mut [u64], row: usize, least: u64)
     requires { row * 8 + 8 ≤ length env.old }
     ensures { (y j : ℕ) → j < 8 → entry_word env.new y j ≡ raised (entry_word env.old) row least y j }
 {
-    if word_at(env, row, NOTE) < least {
-        put_word(env, row, NOTE, least);
-    }
+    let higher = word_at(env, row, NOTE).max(least);
+    put_word(env, row, NOTE, higher);
 }
 
 // The variable x comes into the set of a row: of what is in scope, or has an exclusive borrow link (LANGUAGE 3.8, 3.11).
@@ -66,8 +62,7 @@ pub fn store(env: &mut [u64], variables: usize, x: usize, state: VariableState)
     requires { (variables * 8 + 16 ≤ length env.old) × (x < variables) × (variables ≤ 128) × Fits state }
     ensures { Stored variables env.old x state env.new }
 {
-    let end = state.borrow_end;
-    let roots = end_roots(end);
+    let roots = end_roots(state.borrow_end);
     put_word(env, x, LINKS, state.links as u64);
     put_word(env, x, MOVED_FROM, state.moved_from);
     put_word(env, x, LEVEL, state.level);
@@ -82,8 +77,7 @@ pub fn declare(env: &mut [u64], variables: usize, x: usize, state: VariableState
 {
     put_word(env, x, STATUS, LIVE);
     store(env, variables, x, state);
-    let end = state.borrow_end;
-    note_exclusive(env, variables, x, end);
+    note_exclusive(env, variables, x, state.borrow_end);
     add_member(env, variables + 1, x);
 }
 
@@ -109,8 +103,7 @@ pub fn refill(env: &mut [u64], variables: usize, x: usize, roots: Roots)
     requires { TableFor env.old variables × (x < variables) }
     ensures { (environment_of env.new ≡ update (environment_of env.old) x (refilled (environment_of env.old x) (end_in env.old (chain_of (links_at env.old x)) roots))) × TableFor env.new variables × SameLinks env.old env.new }
 {
-    let entry = load(env, variables, x);
-    let Entry::Live(state) = entry else {
+    let Entry::Live(state) = load(env, variables, x) else {
         return;
     };
     let whole = changed_state(state, nothing_moved(state.links), roots);
@@ -122,12 +115,10 @@ pub fn widen(env: &mut [u64], variables: usize, x: usize, roots: Roots)
     requires { TableFor env.old variables × (x < variables) }
     ensures { (environment_of env.new ≡ update (environment_of env.old) x (widened (environment_of env.old x) (end_in env.old (chain_of (links_at env.old x)) roots))) × TableFor env.new variables × SameLinks env.old env.new }
 {
-    let entry = load(env, variables, x);
-    let Entry::Live(state) = entry else {
+    let Entry::Live(state) = load(env, variables, x) else {
         return;
     };
-    let end = state.borrow_end;
-    let all = unite(end_roots(end), roots);
+    let all = unite(end_roots(state.borrow_end), roots);
     let wider = changed_state(state, state.moved_from, all);
     store(env, variables, x, wider);
 }

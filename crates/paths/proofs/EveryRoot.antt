@@ -11,13 +11,12 @@ use Rattle.syntax.specs.Result.{pick}
 use Rattle.syntax.specs.Script.{Place}
 use Rattle.variables.specs.declared.roots.Roots.{Roots}
 use Rattle.statics.specs.Places.{every}
-use Rattle.variables.specs.Masks.{has, is_empty}
+use Rattle.variables.specs.Masks.{has}
 use Rattle.statics.specs.Roots.{place_at, places_from, places_of}
 use Rattle.statics.proofs.Answers.{same_bool}
 use Rattle.statics.proofs.SetLaws.{every_in}
 use Rattle.statics.proofs.SetEquality.{all_pass}
 use Rattle.statics.proofs.RootLaws.{from_out, from_in}
-use Rattle.variables.proofs.MaskLaws.{none_in}
 
 module _ (n : ℕ) (f : Place → Bool) (long : ℕ → ℕ) (m : ℕ) where
   -- All roots pass that are below n.
@@ -33,8 +32,8 @@ module _ (n : ℕ) (f : Place → Bool) (long : ℕ → ℕ) (m : ℕ) where
   every_holds s h = all_pass f (places_from (has s) long m 0 n) (λ q i. let k = from_out (has s) long m 0 n q i in ap f k.3 ∙ h q.root (omega (arith, k.1)) k.2)
 
   -- No root is left.
-  pub every_over : (s : Roots) → is_empty s ≡ true → every f (places_of n (has s) long m) ≡ true
-  every_over s e = every_holds s (λ x l h. absurd (false≢true (sym (none_in s e x) ∙ h)))
+  pub every_over : (s : Roots) → ((x : ℕ) → has s x ≡ false) → every f (places_of n (has s) long m) ≡ true
+  every_over s e = every_holds s (λ x l h. absurd (false≢true (sym (e x) ∙ h)))
 
   -- One fails.
   pub every_fails : (s : Roots) (x : ℕ) → x < n → has s x ≡ true → f (place_at long m x) ≡ false → every f (places_of n (has s) long m) ≡ false

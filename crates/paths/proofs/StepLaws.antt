@@ -2,14 +2,13 @@
 -- Assumes nothing.
 use Prim.Native.Nat.{ℕ, ◌-◌, ◌≤◌, ◌<◌}
 use native.Mathlib.Omega.{arith}
-use mathlib.Core.Path.{◌≡◌, refl, sym, ap}
+use mathlib.Core.Path.{◌≡◌, refl, sym}
 use mathlib.Core.Logic.{◌⊎◌, inl, inr}
 use mathlib.Core.Bool.{Bool, true, false, true≢false}
 use mathlib.Core.List.{List, [], ◌∷◌}
 use lib.ListN.{length}
 use borrow.Author.Tests.{le-leb, lt-leb, lt-ltb, le-ltb}
-use Rattle.std.specs.Prelude.{Result, Ok, Err}
-use Rattle.syntax.specs.declared.refusals.Reason.{Reason}
+use Rattle.std.specs.Prelude.{Ok, Err}
 use Rattle.syntax.specs.declared.refusals.Reason.TheVariants as reason
 use Rattle.paths.specs.declared.follow.Step.TheVariants as step
 use Rattle.statics.specs.Links.{Link, boxed, shared, exclusive, leading_boxes}

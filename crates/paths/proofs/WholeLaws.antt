@@ -6,7 +6,6 @@ use mathlib.Core.Bool.{Bool, true, false}
 use mathlib.Core.List.{List}
 use lib.Dec.{eqb}
 use borrow.Author.Tests.{lt-ltb, eqb-true}
-use Rattle.variables.specs.declared.roots.Roots.{Roots}
 use Rattle.variables.specs.declared.table.BorrowEnd.TheVariants as end
 use Rattle.variables.specs.declared.table.VariableState.{VariableState}
 use Rattle.variables.specs.declared.table.Entry.{Entry}

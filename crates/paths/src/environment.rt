@@ -7,7 +7,7 @@ ghost use Rattle.variables.specs.Chains.{chain_of};
 ghost use Rattle.variables.specs.Masks.{has};
 ghost use Rattle.variables.specs.Table.{TableFor, environment_of, long_at, roots_at, places_in, end_in, SameLinks, InScope, Around};
 
-use variables::roots::{Roots, is_empty, less, lowest, without};
+use variables::roots::{Roots, less};
 use variables::table::{
     FREE, LEVEL, LIVE, STATUS, USED, borrow_end_of, end_roots, put_roots, put_word, roots_at,
     word_at,
@@ -42,13 +42,10 @@ pub fn lives_at(env: &[u64], variables: usize, roots: Roots, level: u64) -> bool
     requires { TableFor env.now variables }
     ensures { (m : ℕ) → result ≡ every (λ p. leb (level_of (environment_of env.now p.root)) level) (places_of 128 (has roots) (long_at env.now) m) }
 {
-    let mut left = roots;
-    while !is_empty(left) {
-        let root = lowest(left);
+    for root in roots {
         if level < level_at(env, variables, root) {
             return false;
         }
-        left = without(left, root);
     }
     true
 }
@@ -73,10 +70,8 @@ pub fn leave_blocks(env: &mut [u64], variables: usize, before: Roots)
     requires { TableFor env.old variables × InScope env.old before }
     ensures { ((level : ℕ) → Around env.old before level → environment_of env.new ≡ leave level (environment_of env.old)) × TableFor env.new variables × SameLinks env.old env.new }
 {
-    let mut left = less(in_scope(env, variables), before);
-    while !is_empty(left) {
-        let x = lowest(left);
-        left = without(left, x);
+    let inside = less(in_scope(env, variables), before);
+    for x in inside {
         put_word(env, x, STATUS, USED);
     }
     put_roots(env, variables + 1, before);

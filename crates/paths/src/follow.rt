@@ -12,7 +12,7 @@ ghost use Rattle.variables.specs.Verdicts.{NeatTable};
 
 use syntax::refusals::Reason;
 use variables::chains::{chain_length, leading_boxes};
-use variables::roots::{Roots, is_empty, less, lowest, no_roots, only, unite, without};
+use variables::roots::{Roots, less, no_roots, only, unite};
 use variables::table::{BorrowEnd, Entry, MOVED_FROM, links_at, load, roots_at, word_at};
 
 // Where a place leads: to an own link of its root, the common case, for which no set is made; or to own links of these
@@ -73,9 +73,7 @@ fn search_beyond(
     let mut todo = less(roots_at(env, root), first);
     let mut met = unite(first, todo);
     let mut ends = no_roots();
-    while !is_empty(todo) {
-        let x = lowest(todo);
-        todo = without(todo, x);
+    while let Some(x) = todo.take_lowest() {
         let follows = chain_length(links_at(env, x)) - remaining;
         match step_at(env, x, follows, deep)? {
             Step::Here => {
@@ -93,12 +91,7 @@ fn search_beyond(
 
 // All that is met from the variable root on, which is in scope, with so many follows from it, if nothing on the way is
 // moved away (33). Most often that is the root alone; the links left are counted only where its borrow link is passed.
-pub fn search(
-    env: &[u64],
-    variables: usize,
-    root: usize,
-    follows: usize,
-) -> Result<Ends, Reason>
+pub fn search(env: &[u64], variables: usize, root: usize, follows: usize) -> Result<Ends, Reason>
     requires { NeatTable env.now variables × (environment_of env.now root ≡ live (variable_at env.now root)) × (follows ≤ length (chain_of (links_at env.now root))) }
     ensures { Searched variables (environment_of env.now) root (length (chain_of (links_at env.now root)) - follows) false result }
 {
@@ -138,11 +131,8 @@ pub fn borrows_at(env: &[u64], variables: usize, to: Roots) -> Roots
     ensures { BorrowedAt env.now to result }
 {
     let mut roots = no_roots();
-    let mut left = to;
-    while !is_empty(left) {
-        let x = lowest(left);
+    for x in to {
         roots = unite(roots, roots_at(env, x));
-        left = without(left, x);
     }
     roots
 }

@@ -81,8 +81,8 @@ widening_next env₀ env env' to left left' s x h W E L I = record {
     go y k j (yes e) = subst (λ (z : ℕ). environment_of env' z ≡ widened (environment_of env₀ z) (end_in env₀ (chain_of (links_at env₀ z)) s)) e here
     go y k j (no n) = other y n ∙ I.done y k (sym (out_other left left' x W y n) ∙ j)
 
-pub widening_over : (env₀ env : List ℕ) (to left s : Roots) → is_empty left ≡ true → Widening env₀ to left s env → WidenedAll env₀ to s env
-widening_over env₀ env to left s h I = record { in_set = λ x k. I.done x k (none_in left h x); out_of_set = I.out; links = I.links }
+pub widening_over : (env₀ env : List ℕ) (to left s : Roots) → ((x : ℕ) → has left x ≡ false) → Widening env₀ to left s env → WidenedAll env₀ to s env
+widening_over env₀ env to left s h I = record { in_set = λ x k. I.done x k (h x); out_of_set = I.out; links = I.links }
 
 -- ---- a write, by the set of the variables
 

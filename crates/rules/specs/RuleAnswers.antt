@@ -5,7 +5,7 @@ use Rattle.std.specs.Prelude as prelude
 use Rattle.std.specs.Prelude.{Ok, Err}
 use Rattle.syntax.specs.declared.refusals.Reason.{Reason}
 use Rattle.syntax.specs.declared.refusals.Refusal.{Refusal}
-use Rattle.syntax.specs.Refusals.{number_of, refusal_of, told}
+use Rattle.syntax.specs.Refusals.{number_of, told}
 use Rattle.syntax.specs.Result.{ok, err, need, ◌>>=◌}
 use Rattle.syntax.specs.Script as script
 use Rattle.variables.specs.declared.roots.Roots.{Roots}

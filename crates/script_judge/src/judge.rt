@@ -1,7 +1,7 @@
 // Judging terms and blocks over term rows, in the order of a run (LANGUAGE 3.1). The table of the variables is lent
 // down; after a refusal it is not looked at again. With it go the script with the last uses of its variables, and the set
 // of what the terms around the block name (3.33): these have not finished.
-ghost use Rattle.std.specs.Prelude.{◌≡◌, false, ℕ, suc, ◌<◌, ◌≤◌, ◌*◌, length, get_or};
+ghost use Rattle.std.specs.Prelude.{◌≡◌, false, ℕ, suc, ◌<◌, ◌≤◌, length, get_or};
 ghost use Rattle.std.proofs.Math.Option.{none};
 ghost use Rattle.syntax.specs.Kinds.{wraps_of};
 ghost use Rattle.syntax.specs.RowParts.{field_at};
@@ -14,7 +14,7 @@ ghost use Rattle.uses.specs.RowUses.{NamesBelow, later_at, later_of};
 ghost use Rattle.term_judge.specs.JudgeRows.{ended, judge_at, Ready, rest_at, branches_at, EndsAt, script_at};
 ghost use Rattle.uses.specs.RowPlaces.{AllAround};
 
-use choices::choice::{KEPT, exchange, join, judge_either, keep, numbers_taken};
+use choices::choice::{KeptState, exchange, join, judge_either, keep, numbers_taken};
 use paths::environment::in_scope;
 use rules::rules::{judge_answer, judge_block_end, judge_number};
 use syntax::fields::{field_at, index_at, index_of};
@@ -65,10 +65,10 @@ fn judge_branches(
     env: &mut [u64],
     level: u64,
     named: Roots,
-    kept: &mut [u64],
+    kept: &mut [KeptState],
     count: usize,
 ) -> Result<Judged, Refusal>
-    requires { IsTree (tree_at script.now.variables levels script.now.rows.now i) × (field_at script.now.rows.now i 0 ≡ 12) × Ready script.now.variables level levels script.now.rows.now env.old script.now.uses.now × (count ≡ note_at env.old (suc script.now.variables)) × (count * 3 ≤ length kept.old) }
+    requires { IsTree (tree_at script.now.variables levels script.now.rows.now i) × (field_at script.now.rows.now i 0 ≡ 12) × Ready script.now.variables level levels script.now.rows.now env.old script.now.uses.now × (count ≡ note_at env.old (suc script.now.variables)) × (count ≤ length kept.old) }
     ensures { (ended env.new result ≡ branches_at script.now.variables levels script.now.rows.now i level (later_at script.now.variables script.now.uses.now (has named)) (environment_of env.old)) × TableFor env.new script.now.variables }
 {
     let variables = script.variables;
@@ -95,7 +95,7 @@ fn judge_few_kept(
     requires { IsTree (tree_at script.now.variables levels script.now.rows.now i) × (field_at script.now.rows.now i 0 ≡ 12) × Ready script.now.variables level levels script.now.rows.now env.old script.now.uses.now × (count ≡ note_at env.old (suc script.now.variables)) × (count ≤ 16) }
     ensures { (ended env.new result ≡ branches_at script.now.variables levels script.now.rows.now i level (later_at script.now.variables script.now.uses.now (has named)) (environment_of env.old)) × TableFor env.new script.now.variables }
 {
-    let mut kept: [u64; FEW * KEPT] = [0; FEW * KEPT];
+    let mut kept = [KeptState::default(); FEW];
     judge_branches(script, i, levels, env, level, named, &mut kept, count)
 }
 
@@ -113,7 +113,7 @@ fn judge_many_kept(
     requires { IsTree (tree_at script.now.variables levels script.now.rows.now i) × (field_at script.now.rows.now i 0 ≡ 12) × Ready script.now.variables level levels script.now.rows.now env.old script.now.uses.now × (count ≡ note_at env.old (suc script.now.variables)) }
     ensures { (ended env.new result ≡ branches_at script.now.variables levels script.now.rows.now i level (later_at script.now.variables script.now.uses.now (has named)) (environment_of env.old)) × TableFor env.new script.now.variables }
 {
-    let mut kept: [u64; MANY * KEPT] = [0; MANY * KEPT];
+    let mut kept = [KeptState::default(); MANY];
     judge_branches(script, i, levels, env, level, named, &mut kept, count)
 }
 

@@ -10,7 +10,9 @@ use Rattle.variables.specs.declared.roots.Roots.{Roots}
 use Rattle.statics.specs.Uses.{Unfinished, names, named_later}
 use Rattle.statics.specs.Bars.{held}
 use Rattle.variables.specs.Masks.{has, is_empty}
-use Rattle.variables.specs.Table.{environment_of, borrows_by, MayHold}
+use Rattle.variables.specs.Table.{environment_of}
+use Rattle.bars.specs.declared.bars.Borrows.{Borrows}
+use Rattle.bars.specs.Held.{borrows_by, MayHold}
 use Rattle.bars.specs.Leading.{named_from, LaterIs}
 use Rattle.uses.specs.RowUses.{row_names, namings, named_with}
 use Rattle.uses.specs.RowPlaces.{Wraps, AllWrap}
@@ -21,11 +23,11 @@ use Rattle.uses.proofs.EitherLaws.{swapped, second}
 use Rattle.uses.proofs.RowUseLaws.{named_one, last_row}
 
 -- Where no variable may hold a borrow of the root, none of these does.
-pub nobody_holds : (env : List ℕ) (any : Bool) (root : ℕ) (s : Roots) → MayHold env any root s → is_empty s ≡ true → (these : ℕ → Bool) (n : ℕ) → held (borrows_by any) these n (environment_of env) root ≡ false
-nobody_holds env any root s may e these n = go (held (borrows_by any) these n (environment_of env) root) refl
+pub nobody_holds : (env : List ℕ) (which : Borrows) (root : ℕ) (s : Roots) → MayHold env which root s → is_empty s ≡ true → (these : ℕ → Bool) (n : ℕ) → held (borrows_by which) these n (environment_of env) root ≡ false
+nobody_holds env which root s may e these n = go (held (borrows_by which) these n (environment_of env) root) refl
   where
-    go : (b : Bool) → held (borrows_by any) these n (environment_of env) root ≡ b → b ≡ false
-    go true k = let h = held_some (borrows_by any) these (environment_of env) root n k in sym (may h.0 h.2) ∙ none_in s e h.0
+    go : (b : Bool) → held (borrows_by which) these n (environment_of env) root ≡ b → b ≡ false
+    go true k = let h = held_some (borrows_by which) these (environment_of env) root n k in sym (may h.0 h.2) ∙ none_in s e h.0
     go false k = refl
 
 -- What is told of a root is told of an equal one.

@@ -4,13 +4,14 @@
 ghost use Rattle.std.specs.Prelude.{◌≡◌, ℕ, ◌<◌, length, get_or};
 ghost use Rattle.statics.specs.Uses.{Unfinished};
 ghost use Rattle.statics.specs.Bars.{held, in_use, read_barred, write_barred};
-ghost use Rattle.variables.specs.Table.{TableFor, environment_of, borrows_by, MayHold};
+ghost use Rattle.variables.specs.Table.{TableFor, environment_of};
+ghost use Rattle.bars.specs.Held.{borrows_by, MayHold};
 ghost use Rattle.bars.specs.Leading.{LaterIs};
 ghost use Rattle.uses.specs.RowUses.{NamesBelow, UsesFor, named_around};
 ghost use Rattle.uses.specs.RowPlaces.{AllAround};
 
 use crate::script::{Around, Script};
-use bars::bars::{Later, is_held, may_bar_reading, may_bar_writing};
+use bars::bars::{Borrows, Later, is_held, may_bar_reading, may_bar_writing};
 use syntax::fields::{field_at, index_at};
 use syntax::kinds::Kind;
 use variables::roots::{Roots, is_empty};
@@ -48,27 +49,29 @@ pub fn find_uses(rows: &[u32], terms: usize, uses: &mut [u32])
     }
 }
 
-// Some variable in use holds a borrow of the root, of those that may hold one: any borrow, or an exclusive one.
+// A variable in use holds a borrow of the root that counts, of those that may hold one. Most often none may: what the terms
+// around name is gathered only where one may.
 fn is_barred(
     script: &Script,
     around: &Around,
     from: usize,
     env: &[u64],
     root: usize,
-    any: bool,
+    which: Borrows,
     may: Roots,
 ) -> bool
-    requires { AllAround script.now around.now × TableFor env.now script.now.variables × (length script.now.uses.now ≡ script.now.variables) × (root < script.now.variables) × MayHold env.now any root may }
-    ensures { (ns : Unfinished) → LaterIs script.now.variables script.now.uses.now from (named_around script.now around.now) ns → result ≡ held (borrows_by any) (in_use script.now.variables ns (environment_of env.now)) script.now.variables (environment_of env.now) root }
+    requires { AllAround script.now around.now × TableFor env.now script.now.variables × (length script.now.uses.now ≡ script.now.variables) × (root < script.now.variables) × MayHold env.now which root may }
+    ensures { (ns : Unfinished) → LaterIs script.now.variables script.now.uses.now from (named_around script.now around.now) ns → result ≡ held (borrows_by which) (in_use script.now.variables ns (environment_of env.now)) script.now.variables (environment_of env.now) root }
 {
     if is_empty(may) {
         return false;
     }
     let later = Later {
-        from: from,
+        uses: script.uses,
+        from,
         named: around.all_named(script),
     };
-    is_held(env, script.variables, script.uses, later, root, any, may)
+    is_held(env, script.variables, &later, root, which, may)
 }
 
 // Reading barred (LANGUAGE 3.11), where the terms from row `from` on have not finished, nor those around.
@@ -77,7 +80,7 @@ pub fn read_barred(script: &Script, around: &Around, from: usize, env: &[u64], r
     ensures { (ns : Unfinished) → LaterIs script.now.variables script.now.uses.now from (named_around script.now around.now) ns → result ≡ read_barred script.now.variables ns (environment_of env.now) root }
 {
     let may = may_bar_reading(env, script.variables, root);
-    is_barred(script, around, from, env, root, false, may)
+    is_barred(script, around, from, env, root, Borrows::Exclusive, may)
 }
 
 // Writing barred (LANGUAGE 3.12), likewise.
@@ -86,5 +89,5 @@ pub fn write_barred(script: &Script, around: &Around, from: usize, env: &[u64], 
     ensures { (ns : Unfinished) → LaterIs script.now.variables script.now.uses.now from (named_around script.now around.now) ns → result ≡ write_barred script.now.variables ns (environment_of env.now) root }
 {
     let may = may_bar_writing(env, script.variables, root);
-    is_barred(script, around, from, env, root, true, may)
+    is_barred(script, around, from, env, root, Borrows::Any, may)
 }

@@ -3,6 +3,7 @@ pub mod QuestionLaws
 pub mod ChainLaws
 pub mod EqualChains
 pub mod MaskLaws
+pub mod MemberLaws
 pub mod EntryLaws
 pub mod TableLaws
 pub mod EndLaws

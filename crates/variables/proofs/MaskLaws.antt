@@ -9,7 +9,7 @@ use mathlib.Core.Bool.{Bool, true, false, false≢true, true≢false, ◌&&◌}
 use lib.Dec.{ltb, eqb, eqb-zero-suc, eqb-suc-zero, eqb-suc-suc}
 use lib.Pow.{pow_pos, pow-lt, shr-shr}
 use lib.Bits.{bit_and, bit_or, bit_xor, and_shr, and_mod, or_shr, or_mod, xor_shr, xor_mod}
-use lib.Count.{under, count_trailing_zeros}
+use lib.Count.{under, count_trailing_zeros, trailing_le}
 use borrow.Author.Tests.{ltb-true, ltb-false, lt-ltb, le-ltb, eqb-true, eq-eqb, ne_eqb}
 use Rattle.syntax.specs.Result.{pick}
 use Rattle.variables.specs.Masks.{bit, has, is_empty}
@@ -96,6 +96,17 @@ bit_trailing (suc n) w p l = go (w % 2) refl (λ q. bit_trailing n (w / 2) q (om
     go (suc zero) e ih = (first_bit w ∙ ap (λ (d : ℕ). eqb d 1) e, zero-lt-suc n)
     go (suc (suc d)) e ih = absurd (omega (arith, mod-lt w two_pos))
 
+-- It has none below.
+trailing_least : (n w k : ℕ) → k < count_trailing_zeros n w → bit w k ≡ false
+unfolding count_trailing_zeros
+trailing_least zero w k l = absurd (omega arith)
+trailing_least (suc n) w k l = go (w % 2) refl k l (trailing_least n (w / 2))
+  where
+    go : (d : ℕ) → w % 2 ≡ d → (j : ℕ) → j < under d (count_trailing_zeros n (w / 2)) → ((i : ℕ) → i < count_trailing_zeros n (w / 2) → bit (w / 2) i ≡ false) → bit w j ≡ false
+    go zero e zero h ih = first_bit w ∙ ap (λ (d : ℕ). eqb d 1) e
+    go zero e (suc j) h ih = next_bit w j ∙ ih j (omega arith)
+    go (suc d) e j h ih = absurd (omega arith)
+
 no_bits : (n w : ℕ) → w < 2 ^ n → ((k : ℕ) → k < n → bit w k ≡ false) → w ≡ 0
 no_bits n zero l h = refl
 no_bits n (suc w) l h = let B = bit_trailing n (suc w) (zero-lt-suc w) l in absurd (true≢false (sym B.0 ∙ h _ B.1))
@@ -167,6 +178,27 @@ high_found s l z e =
     go : (w : ℕ) → eqb w 0 ≡ false → 0 < w
     go zero h = absurd (true≢false h)
     go (suc w) h = zero-lt-suc w
+
+-- No number of the set is less.
+pub low_least : (s : Roots) (x : ℕ) → has s x ≡ true → count_trailing_zeros 64 s.low ≤ x
+low_least s x h = go (ltb x (count_trailing_zeros 64 s.low)) refl
+  where
+    go : (b : Bool) → ltb x (count_trailing_zeros 64 s.low) ≡ b → count_trailing_zeros 64 s.low ≤ x
+    go false e = ltb-false x (count_trailing_zeros 64 s.low) e
+    go true e =
+        let l = ltb-true x (count_trailing_zeros 64 s.low) e in
+        absurd (false≢true (sym (in_low s x (omega (arith, trailing_le 64 s.low)) ∙ trailing_least 64 s.low x l) ∙ h))
+
+pub high_least : (s : Roots) (x : ℕ) → s.low ≡ 0 → has s x ≡ true → 64 + count_trailing_zeros 64 s.high ≤ x
+high_least s x z h = go (ltb x 64) refl (ltb (x - 64) (count_trailing_zeros 64 s.high)) refl
+  where
+    go : (a : Bool) → ltb x 64 ≡ a → (b : Bool) → ltb (x - 64) (count_trailing_zeros 64 s.high) ≡ b → 64 + count_trailing_zeros 64 s.high ≤ x
+    go true e b f = absurd (false≢true (sym (in_low s x (ltb-true x 64 e) ∙ ap (λ (w : ℕ). bit w x) z ∙ bit_zero x) ∙ h))
+    go false e false f = let g = ltb-false x 64 e in omega (arith, ltb-false (x - 64) (count_trailing_zeros 64 s.high) f)
+    go false e true f =
+        let g = ltb-false x 64 e in
+        let l = ltb-true (x - 64) (count_trailing_zeros 64 s.high) f in
+        absurd (false≢true (sym (in_high s x g (omega (arith, trailing_le 64 s.high)) ∙ trailing_least 64 s.high (x - 64) l) ∙ h))
 
 -- ---- sets made of others
 

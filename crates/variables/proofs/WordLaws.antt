@@ -1,5 +1,6 @@
 -- Words of the table put, and tables whose words agree: they say the same environment. Assumes nothing.
-use Prim.Native.Nat.{ℕ, zero, suc, ◌+◌, ◌%◌, ◌<◌, ◌≤◌}
+use Prim.Native.Nat.{ℕ, zero, suc, ◌+◌, ◌%◌, ◌<◌, ◌≤◌, max}
+use native.Mathlib.Nat.{max-eq_left, max-eq_right}
 use native.Mathlib.Omega.{arith}
 use native.Mathlib.Numerals.{add-one}
 use native.Mathlib.Decide.{ℕ_discrete}
@@ -8,7 +9,7 @@ use mathlib.Core.Bool.{Bool, true, false, true≢false, ◌&&◌}
 use mathlib.Core.List.{List, [], ◌∷◌}
 use lib.Dec.{eqb, ltb}
 use lib.ListN.{length}
-use borrow.Author.Tests.{eqb-true, eq-eqb, ne_eqb, ltb-true, ltb-false, lt-ltb, le-ltb}
+use borrow.Author.Tests.{eqb-true, eq-eqb, ne_eqb, ltb-true, ltb-false}
 use Rattle.syntax.specs.Result.{pick}
 use Rattle.syntax.specs.Script.{Place}
 use Rattle.variables.specs.declared.roots.Roots.{Roots}
@@ -83,15 +84,19 @@ member_added env env' row x old one all read own more put =
       members = λ y. ap (λ (s : Roots). has s y) (roots_put env env' row all put) ∙ more y ∙ ap₂ (λ (s : Roots) (b : Bool). pick (has s y) true b) read (own y);
     }
 
--- A note that is less is put, any other stays.
-module _ (words : ℕ → ℕ → ℕ) (row least y j : ℕ) where
-  pub raised_up : words row 7 < least → raised words row least y j ≡ put_at words row 7 least y j
-  unfolding raised
-  raised_up h = rw (lt-ltb (words row 7) least h)
-
-  pub raised_not : least ≤ words row 7 → raised words row least y j ≡ words y j
-  unfolding raised
-  raised_not h = rw (le-ltb (words row 7) least h)
+-- A note is raised to the greater of the two.
+pub raised_greater : (words : ℕ → ℕ → ℕ) (row least higher y j : ℕ) → higher ≡ max (words row 7) least → put_at words row 7 higher y j ≡ raised words row least y j
+unfolding raised put_at
+raised_greater words row least higher y j e = go (ltb (words row 7) least) refl (eqb row y) (eqb 7 j) refl refl
+  where
+    go : (b : Bool) → ltb (words row 7) least ≡ b → (p q : Bool) → eqb row y ≡ p → eqb 7 j ≡ q
+        → pick (p && q) higher (words y j) ≡ pick b (λ (z i : ℕ). pick (eqb row z && eqb 7 i) least (words z i)) words y j
+    go true k p q f g =
+        let l = ltb-true (words row 7) least k in
+        rw (f, g) (ap (λ (w : ℕ). pick (p && q) w (words y j)) (e ∙ max-eq_right (omega arith)))
+    go false k true true f g = e ∙ max-eq_left (ltb-false (words row 7) least k) ∙ ap₂ words (eqb-true row y f) (eqb-true 7 j g)
+    go false k true false f g = refl
+    go false k false q f g = refl
 
 -- What a function that raises a note leaves.
 abbrev pub Raised : List ℕ → ℕ → ℕ → List ℕ → Type 0

@@ -1,6 +1,6 @@
 -- The table of the variables, 8 words to each, and what it says in the rules' terms. Six of them are a variable's entry: every six words say
 -- something. Two are a note, which must be right. No rule of the language is stated here.
-use Rattle.std.specs.Prelude.{ℕ, suc, ◌+◌, ◌*◌, ◌%◌, ◌<◌, ◌≤◌, ◌≡◌, Bool, true, false, ◌&&◌, List, [], ◌∷◌, leb, ltb, eqb, length, get_or}
+use Rattle.std.specs.Prelude.{ℕ, suc, ◌+◌, ◌*◌, ◌%◌, ◌<◌, ◌≤◌, ◌≡◌, true, false, ◌&&◌, List, [], ◌∷◌, leb, ltb, eqb, length, get_or}
 use Rattle.syntax.specs.Result.{pick}
 use Rattle.syntax.specs.Script as script
 use Rattle.variables.specs.declared.table.Place.{Place}
@@ -13,7 +13,6 @@ use Rattle.variables.specs.declared.table.Entry.TheVariants as entry
 use Rattle.statics.specs.Links.{Link, boxed, shared, exclusive}
 use Rattle.statics.specs.Environment.{Borrow, no_borrow, shared_of, exclusive_of, places, borrow_end, Variable, Slot, free, used, live, Environment, borrow_of, widened, write}
 use Rattle.statics.specs.Places.{rooted}
-use Rattle.statics.specs.Bars.{borrows_any, borrows_exclusive, held_by}
 use Rattle.statics.specs.Roots.{lengths, places_of, left}
 use Rattle.variables.specs.Chains.{chain_of, is_exclusive}
 use Rattle.variables.specs.Masks.{has}
@@ -163,15 +162,6 @@ InScope env s = (y : ℕ) → has s y ≡ true → 2 ≤ entry_word env y 0
 -- The variables in scope that live at the level or around it.
 abbrev pub Around : List ℕ → Roots → ℕ → Type 0
 Around env s level = (y : ℕ) → has s y ≡ pick (leb 2 (entry_word env y 0)) (leb (entry_word env y 5) level) false
-
--- Any borrow, or an exclusive one.
-unfoldable pub borrows_by : Bool → Borrow → ℕ → Bool
-borrows_by true = borrows_any
-borrows_by false = borrows_exclusive
-
--- All who hold a borrow of a place with the root, any or an exclusive one, are in the set.
-abbrev pub MayHold : List ℕ → Bool → ℕ → Roots → Type 0
-MayHold env any root s = (y : ℕ) → held_by (borrows_by any) (environment_of env y) root ≡ true → has s y ≡ true
 
 -- No place that is recorded has the root x, in the table or in a borrow end.
 abbrev pub Unrecorded : List ℕ → ℕ → Borrow → Type 0

@@ -4,7 +4,7 @@ use Rattle.std.specs.Prelude.{ℕ, ◌+◌, ◌-◌, ◌%◌, ◌≡◌, Bool, f
 use Rattle.std.proofs.Math.Option.{Option, none, some}
 use Rattle.syntax.specs.declared.refusals.Reason.{Reason}
 use Rattle.syntax.specs.Refusals.{number_of}
-use Rattle.syntax.specs.Result.{ok, err, pick, need, ◌>>=◌}
+use Rattle.syntax.specs.Result.{ok, err, need, ◌>>=◌}
 use Rattle.variables.specs.declared.roots.Roots.{Roots}
 use Rattle.variables.specs.declared.verdicts.ValueType.{ValueType}
 use Rattle.statics.specs.Links.{Link, max_links}

@@ -1,10 +1,11 @@
 // A set of variable numbers: the roots of the places that a borrow end stands for (LANGUAGE 3.3), or variables. Number x
 // is bit x of the first word, or bit x - 64 of the second; no set of limits has more than 128 variables (2.8).
-ghost use Rattle.std.specs.Prelude.{◌≡◌, true, false, ℕ, ◌<◌, eqb};
+ghost use Rattle.std.specs.Iterator.{YieldsFirst, item_count};
+ghost use Rattle.std.specs.Prelude.{◌≡◌, true, false, ℕ, ◌<◌, ◌≤◌, eqb};
 ghost use Rattle.syntax.specs.Result.{pick};
-ghost use Rattle.variables.specs.Masks.{has, is_empty};
+ghost use Rattle.variables.specs.Masks.{has, is_empty, members};
 
-#[derive(Clone, Copy)]
+#[derive(Clone, Copy, PartialEq, Eq, Default)]
 pub struct Roots {
     pub low: u64,
     pub high: u64,
@@ -12,6 +13,50 @@ pub struct Roots {
 
 // The numbers that one word has room for.
 const WORD: usize = 64;
+
+impl Roots {
+    // Takes the lowest number out, for a walk over a set that may grow in between.
+    pub fn take_lowest(&mut self) -> Option<usize>
+        ensures { YieldsFirst members self.old result self.new }
+    {
+        if is_empty(*self) {
+            return None;
+        }
+        let x = lowest(*self);
+        *self = without(*self, x);
+        Some(x)
+    }
+}
+
+// The numbers of a set, lowest first.
+#[derive(Drop)]
+pub struct Members {
+    left: Roots,
+}
+
+impl Iterator for Members {
+    type Item = usize;
+
+    ghost next_gives = { YieldsFirst (λ m. members m.left) };
+
+    ghost remaining = { item_count (λ m. members m.left) };
+
+    fn next(&mut self) -> Option<usize> {
+        self.left.take_lowest()
+    }
+}
+
+impl IntoIterator for Roots {
+    type Item = usize;
+
+    type IntoIter = Members;
+
+    ghost into_iter_gives = { λ s m. m.left ≡ s };
+
+    fn into_iter(self) -> Members {
+        Members { left: self }
+    }
+}
 
 pub fn no_roots() -> Roots
     ensures { (x : ℕ) → has result x ≡ false }
@@ -87,12 +132,12 @@ pub fn less(a: Roots, b: Roots) -> Roots
 // The lowest number of a set that has one.
 pub fn lowest(s: Roots) -> usize
     requires { is_empty s ≡ false }
-    ensures { (has s result ≡ true) × (result < 128) }
+    ensures { (has s result ≡ true) × (result < 128) × ((x : ℕ) → has s x ≡ true → result ≤ x) }
 {
     if s.low != 0 {
-        u64::trailing_zeros(s.low) as usize
+        s.low.trailing_zeros() as usize
     } else {
-        WORD + u64::trailing_zeros(s.high) as usize
+        WORD + s.high.trailing_zeros() as usize
     }
 }
 

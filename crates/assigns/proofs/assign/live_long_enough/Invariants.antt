@@ -10,7 +10,6 @@ use Rattle.statics.specs.Environment.{level_of}
 use Rattle.statics.specs.Roots.{lengths, places_of}
 use Rattle.variables.specs.Table.{environment_of, long_at}
 use Rattle.variables.specs.Masks.{has}
-use Rattle.statics.proofs.ClosureLoop.{count}
 use Rattle.assigns.proofs.assign.live_long_enough.Given as goal
 
 abbrev pub lives : List ℕ → Roots → ℕ → ℕ → Bool
@@ -22,8 +21,5 @@ outlives env roots m q = lives env roots m (level_of (environment_of env q.root)
 abbrev pub all_outlive : List ℕ → ℕ → Roots → Roots → ℕ → ℕ → Bool
 all_outlive env variables roots left m k = every (outlives env roots m) (places_of variables (has left) (lengths (environment_of env)) k)
 
-abbrev pub invariant-loop-roots : goal.invariant-loop-roots
-invariant-loop-roots l = ((y : ℕ) → has l.left y ≡ true → y < l.variables) × ((m k : ℕ) → all_outlive l.env l.variables l.roots l.left m k ≡ all_outlive l.env l.variables l.roots l.initial.left m k)
-
-abbrev pub decreases-loop-roots : goal.decreases-loop-roots
-decreases-loop-roots l = count (has l.left) 128
+abbrev pub invariant-loop-x : goal.invariant-loop-x
+invariant-loop-x l = ((y : ℕ) → has l.x-iterator.left y ≡ true → y < l.variables) × ((m k : ℕ) → all_outlive l.env l.variables l.roots l.x-iterator.left m k ≡ all_outlive l.env l.variables l.roots l.fn.to m k)

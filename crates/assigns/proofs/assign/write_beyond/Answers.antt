@@ -1,5 +1,5 @@
 -- `assigns::assign::write_beyond` meets its contract. Assumes nothing.
-use mathlib.Core.Path.{◌≡◌, sym, ◌∙◌}
+use mathlib.Core.Path.{◌≡◌, sym}
 use mathlib.Core.Bool.{true}
 use lib.ListN.{take}
 use Rattle.statics.specs.Links.{no_shared}

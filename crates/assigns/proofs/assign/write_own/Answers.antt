@@ -1,5 +1,5 @@
 -- `assigns::assign::write_own` meets its contract. Assumes nothing.
-use mathlib.Core.Path.{sym, ◌∙◌}
+use mathlib.Core.Path.{sym}
 use Rattle.rules.proofs.PlaceLaws.{named_inside}
 use Rattle.rules.proofs.OwnLaws.{own_other_links, own_too_short, own_written}
 use Rattle.assigns.proofs.assign.write_own.Goals as goal

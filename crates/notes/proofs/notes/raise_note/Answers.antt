@@ -1,14 +1,9 @@
 -- `notes::notes::raise_note` meets its contract. Assumes nothing.
-use native.Mathlib.Omega.{arith}
-use mathlib.Core.Path.{sym, ◌∙◌}
-use Rattle.variables.specs.Table.{entry_word}
-use Rattle.variables.proofs.WordLaws.{raised_up, raised_not}
+use mathlib.Core.Path.{ap, ◌∙◌}
+use Prim.Native.Nat.{ℕ, max}
+use Rattle.variables.proofs.WordLaws.{raised_greater}
 use Rattle.notes.proofs.notes.raise_note.Goals as goal
 
-pub returns-then-word_at-least : goal.returns-then-word_at-least
-returns-then-word_at-least c y j h =
-    c.put_word.ensures y j h ∙ sym (raised_up (entry_word c.args.env.now) c.args.row c.args.least y j (omega (arith, c.word_at.ensures, c.if-word_at-least.true)))
-
-pub returns-else-word_at-least : goal.returns-else-word_at-least
-returns-else-word_at-least c y j h =
-    sym (raised_not (entry_word c.args.env.now) c.args.row c.args.least y j (omega (arith, c.word_at.ensures, c.if-word_at-least.false)))
+pub returns : goal.returns
+returns c y j h =
+    c.put_word.ensures y j h ∙ raised_greater _ _ _ _ y j (c.max-higher.ensures ∙ ap (λ (w : ℕ). max w c.args.least) c.word_at.ensures)

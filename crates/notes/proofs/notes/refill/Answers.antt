@@ -11,7 +11,7 @@ use Rattle.notes.proofs.notes.refill.Goals as goal
 pub returns-in_default : goal.returns-in_default
 returns-in_default c =
     let env = c.args.env.now in
-    not_changed env c.args.variables c.args.x c.requires.0 c.load-entry.result c.load-entry.ensures c.in_default.not-Live
+    not_changed env c.args.variables c.args.x c.requires.0 c.load.result c.load.ensures c.in_default.not-Live
     (λ (z : Slot). refilled z (end_in env (chain_of (links_at env c.args.x)) c.args.roots)) refl refl
 
 pub store-requires : goal.store-requires
@@ -20,5 +20,5 @@ store-requires c =
 
 pub returns : goal.returns
 returns c =
-    let state = (slot_live _ _ _ c.load-entry.ensures _ c.in-Live.is).1 in
+    let state = (slot_live _ _ _ c.load.ensures _ c.in-Live.is).1 in
     refilled_by c.args.env.now c.args.variables c.args.x c.requires.0 c.requires.1 _ _ state _ c.args.roots c.changed_state-whole.ensures c.store.new.env c.store.auto.env c.store.ensures c.nothing_moved.ensures

@@ -3,8 +3,8 @@ use Rattle.statics.proofs.ClosureLoop.{count, waiting}
 use Rattle.paths.proofs.SearchLaws.{Searching}
 use Rattle.paths.proofs.follow.search_beyond.Given as goal
 
-abbrev pub invariant-loop-todo : goal.invariant-loop-todo
-invariant-loop-todo l = Searching l.env l.root l.remaining l.deep l.met l.todo l.ends
+abbrev pub invariant-loop-x : goal.invariant-loop-x
+invariant-loop-x l = Searching l.env l.root l.remaining l.deep l.met l.todo l.ends
 
-abbrev pub decreases-loop-todo : goal.decreases-loop-todo
-decreases-loop-todo l = count (waiting (has l.met) (has l.todo)) l.variables
+abbrev pub decreases-loop-x : goal.decreases-loop-x
+decreases-loop-x l = count (waiting (has l.met) (has l.todo)) l.variables

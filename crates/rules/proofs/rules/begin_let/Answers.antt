@@ -1,7 +1,6 @@
 -- `rules::rules::begin_let` meets its contract. Assumes nothing.
 use mathlib.Core.Path.{sym, ◌∙◌}
 use Rattle.syntax.specs.Result.{need, ◌>>=◌}
-use Rattle.rules.specs.RuleAnswers.{begun}
 use Rattle.rules.proofs.rules.begin_let.Goals as goal
 
 pub returns-then-not-is_free : goal.returns-then-not-is_free

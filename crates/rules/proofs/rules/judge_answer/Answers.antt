@@ -1,7 +1,5 @@
 -- `rules::rules::judge_answer` meets its contract. Assumes nothing.
 use Rattle.syntax.specs.Result.{need}
-use Rattle.rules.specs.RuleAnswers.{as_requirement}
-use Rattle.variables.specs.Verdicts.{as_value}
 use Rattle.rules.proofs.rules.judge_answer.Goals as goal
 
 pub returns-in_default : goal.returns-in_default

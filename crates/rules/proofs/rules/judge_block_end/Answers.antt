@@ -1,8 +1,7 @@
 -- `rules::rules::judge_block_end` meets its contract. Assumes nothing.
-use mathlib.Core.Path.{ap, ◌∙◌}
+use mathlib.Core.Path.{◌∙◌}
 use Rattle.syntax.specs.Result.{need, ◌>>=◌}
 use Rattle.statics.specs.Rules.{judge_block_end}
-use Rattle.variables.specs.Verdicts.{answered}
 use Rattle.rules.proofs.ValueLaws.{value_lives, block_left}
 use Rattle.paths.proofs.LeavingLaws.{around_in}
 use Rattle.rules.proofs.rules.judge_block_end.Goals as goal

@@ -3,7 +3,6 @@ use Rattle.syntax.specs.Result.{◌>>=◌}
 use Rattle.statics.specs.Links.{leading_boxes}
 use Rattle.statics.specs.Environment.{borrow_end}
 use Rattle.statics.specs.Rules.{valued, judge_box}
-use Rattle.variables.specs.Verdicts.{as_value}
 use Rattle.rules.proofs.rules.judge_box.Goals as goal
 
 pub returns-in_default : goal.returns-in_default

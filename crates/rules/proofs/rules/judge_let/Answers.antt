@@ -1,8 +1,6 @@
 -- `rules::rules::judge_let` meets its contract. Assumes nothing.
-use mathlib.Core.Path.{ap, ◌∙◌}
 use Rattle.syntax.specs.Result.{◌>>=◌}
 use Rattle.statics.specs.Rules.{valued, judge_let}
-use Rattle.variables.specs.Verdicts.{as_value, answered}
 use Rattle.rules.proofs.ValueLaws.{let_fits, unrecorded, let_there}
 use Rattle.rules.proofs.rules.judge_let.Goals as goal
 

@@ -1,8 +1,8 @@
 -- `rules::rules::judge_readable` meets its contract. Assumes nothing.
-use mathlib.Core.Path.{◌≡◌, sym, subst}
+use mathlib.Core.Path.{◌≡◌}
 use mathlib.Core.Bool.{true}
 use Rattle.variables.specs.Table.{environment_of, as_place}
-use Rattle.rules.specs.RuleAnswers.{Named, ReadableIs}
+use Rattle.rules.specs.RuleAnswers.{Named}
 use Rattle.rules.proofs.PlaceLaws.{named_at, named_live, whole_is, whole_refused, readable_refused, readable_moved, readable_barred, readable_there}
 use Rattle.variables.proofs.QuestionLaws.{left_with}
 use Rattle.rules.proofs.rules.judge_readable.Goals as goal

@@ -1,5 +1,5 @@
 -- `uses::uses::read_barred` meets its contract. Assumes nothing.
-use Rattle.variables.specs.Table.{borrows_by}
+use Rattle.bars.specs.Held.{borrows_by}
 use Rattle.uses.proofs.uses.read_barred.Goals as goal
 
 pub returns : goal.returns
