@@ -16,11 +16,8 @@ use Rattle.syntax.specs.Layout.{bytes_of, rows_of}
 use Rattle.syntax.specs.Measures.{size}
 use Rattle.syntax.specs.Reader.{decode_in}
 use Rattle.syntax.specs.RowParts.{judged_in, given_terms}
-use Rattle.reader.specs.Outcomes.{told}
 use Rattle.syntax.specs.Answers.{given_whole, length_of, writable, written_into, written_of}
 use Rattle.writer.specs.OutputParts.{script_from}
-use Rattle.reader.specs.declared.Outcome.{Outcome}
-use Rattle.reader.specs.declared.Outcome.TheVariants.{Count, Refused}
 use Rattle.syntax.proofs.Answers.{then, halts_first}
 use Rattle.syntax.proofs.Ranges.{ranged}
 use Rattle.syntax.proofs.Lists.{under_all, sets_front}
@@ -37,17 +34,17 @@ pub record Judged (l : Limits) (v : ℕ) (rows : List ℕ) (n : ℕ) : Type 0 wh
 
 module _ (l : Limits) (v : ℕ) (rows : List ℕ) where
   -- What is judged before the rows.
-  pub set_refused : in_ranges l ≡ false → told (Refused 74 0) ≡ given_terms l v rows
-  unfolding told given_terms given_whole ◌>>=◌ need
+  pub set_refused : in_ranges l ≡ false → err (74, 0) ≡ given_terms l v rows
+  unfolding given_terms given_whole ◌>>=◌ need
   set_refused r = rw r
 
-  pub rows_refused : in_ranges l ≡ true → (length rows ≡ row_numbers l → ⊥) → told (Refused 2 0) ≡ given_terms l v rows
-  unfolding told given_terms given_whole ◌>>=◌ need
+  pub rows_refused : in_ranges l ≡ true → (length rows ≡ row_numbers l → ⊥) → err (2, 0) ≡ given_terms l v rows
+  unfolding given_terms given_whole ◌>>=◌ need
   rows_refused r n = rw (r, ne_eqb (length rows) (row_numbers l) n)
 
   module _ (ranges : in_ranges l ≡ true) (full : length rows ≡ row_numbers l) where
-    pub version_refused : knows newest v ≡ false → told (Refused 11 0) ≡ given_terms l v rows
-    unfolding told given_terms given_whole ◌>>=◌ need
+    pub version_refused : knows newest v ≡ false → err (11, 0) ≡ given_terms l v rows
+    unfolding given_terms given_whole ◌>>=◌ need
     version_refused k = rw (ranges, eq-eqb (length rows) (row_numbers l) full, k)
 
     abbrev script : Term → Whole
@@ -62,51 +59,51 @@ module _ (l : Limits) (v : ℕ) (rows : List ℕ) where
         go (ok t) = refl
         go (err e) = refl
 
-  module _ (o : Outcome) (h : told o ≡ given_terms l v rows) where
-    -- A refusal is that of length and writing too.
-    given_refused : (n p : ℕ) → o ≡ Refused n p → given_whole l v rows ≡ err (n, p)
-    unfolding told given_terms
-    given_refused n p e = halts_first (given_whole l v rows) _ (n, p) (sym h ∙ ap told e)
+  -- A refusal is that of length and writing too.
+  module _ (e : Refusal) (h : err e ≡ given_terms l v rows) where
+    given_refused : given_whole l v rows ≡ err e
+    unfolding given_terms
+    given_refused = halts_first (given_whole l v rows) _ e (sym h)
 
-    pub length_refused : (n p : ℕ) → o ≡ Refused n p → told o ≡ length_of l v rows
-    unfolding told length_of ◌>>=◌
-    length_refused n p e = rw (given_refused n p e) (ap told e)
+    pub length_refused : err e ≡ length_of l v rows
+    unfolding length_of ◌>>=◌
+    length_refused = rw given_refused
 
-    pub writing_refused : (output : List ℕ) (n p : ℕ) → o ≡ Refused n p → (told o, output) ≡ written_of l v rows output
-    unfolding told written_of writable written_into ◌>>=◌
-    writing_refused output n p e = rw (given_refused n p e) (ap (λ (r : Result Refusal ℕ). (r, output)) (ap told e))
+    pub writing_refused : (output : List ℕ) → (err e, output) ≡ written_of l v rows output
+    unfolding written_of writable written_into ◌>>=◌
+    writing_refused output = rw given_refused
 
-    -- Where a count is answered, they are the rows of a script.
-    pub judged : ((i : ℕ) → get_or rows i 0 < 4294967296) → (n : ℕ) → o ≡ Count n → Judged l v rows n
-    unfolding told given_terms row_numbers
-    judged each n e =
-        let q = then (given_whole l v rows) (λ s. ok (size s.term)) n (sym h ∙ ap told e) in
-        let s = q.0 in
-        let a = given_says l v rows s (under_all 4294967296 rows each) q.1 in
-        let count : size s.term ≡ n = cc q.2 in
-        record {
-          whole = s;
-          reads = q.1;
-          script = ap (λ (k : ℕ). script_from v k rows) (sym count) ∙ ap (script_from v (size s.term)) a.3 ∙ ap (λ (k : ℕ). script_from k (size s.term) (rows_of l s.term)) a.2
-              ∙ rows_script l (omega (arith, (ranged l a.0).variables)) s.version s.term a.1.version.1 a.1.term;
-          room = omega (arith, ap length a.3 ∙ rows_length l s.term a.1.term, a.1.term.terms);
-        }
+  -- Where a count is answered, they are the rows of a script.
+  pub judged : ((i : ℕ) → get_or rows i 0 < 4294967296) → (n : ℕ) → ok n ≡ given_terms l v rows → Judged l v rows n
+  unfolding given_terms row_numbers
+  judged each n h =
+      let q = then (given_whole l v rows) (λ s. ok (size s.term)) n (sym h) in
+      let s = q.0 in
+      let a = given_says l v rows s (under_all 4294967296 rows each) q.1 in
+      let count : size s.term ≡ n = cc q.2 in
+      record {
+        whole = s;
+        reads = q.1;
+        script = ap (λ (k : ℕ). script_from v k rows) (sym count) ∙ ap (script_from v (size s.term)) a.3 ∙ ap (λ (k : ℕ). script_from k (size s.term) (rows_of l s.term)) a.2
+            ∙ rows_script l (omega (arith, (ranged l a.0).variables)) s.version s.term a.1.version.1 a.1.term;
+        room = omega (arith, ap length a.3 ∙ rows_length l s.term a.1.term, a.1.term.terms);
+      }
 
 module _ (l : Limits) (v : ℕ) (rows : List ℕ) (n bytes : ℕ) (j : Judged l v rows n) (counted : bytes ≡ length (script_from v n rows)) where
   is_length : bytes ≡ length (bytes_of j.whole)
   is_length = counted ∙ ap length j.script
 
-  pub length_told : told (Count bytes) ≡ length_of l v rows
-  unfolding told length_of ◌>>=◌
+  pub length_told : ok bytes ≡ length_of l v rows
+  unfolding length_of ◌>>=◌
   length_told = rw j.reads (ap ok is_length)
 
   module _ (output : List ℕ) where
-    pub short_output : length output < bytes → (told (Refused 5 0), output) ≡ written_of l v rows output
-    unfolding told written_of writable written_into ◌>>=◌ need
+    pub short_output : length output < bytes → (err (5, 0), output) ≡ written_of l v rows output
+    unfolding written_of writable written_into ◌>>=◌ need
     short_output h = rw (j.reads, lt-leb (length (bytes_of j.whole)) (length output) (omega (arith, is_length)))
 
-    pub script_written : bytes ≤ length output → (output' : List ℕ) → output' ≡ sets output 0 (script_from v n rows) → (told (Count bytes), output') ≡ written_of l v rows output
-    unfolding told written_of writable written_into ◌>>=◌ need
+    pub script_written : bytes ≤ length output → (output' : List ℕ) → output' ≡ sets output 0 (script_from v n rows) → (ok bytes, output') ≡ written_of l v rows output
+    unfolding written_of writable written_into ◌>>=◌ need
     script_written h output' e =
         let room : length (bytes_of j.whole) ≤ length output = omega (arith, is_length) in
         rw (j.reads, le-leb (length (bytes_of j.whole)) (length output) room)

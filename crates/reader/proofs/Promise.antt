@@ -14,10 +14,11 @@ use Rattle.syntax.specs.Layout.{rows_of, zeros}
 use Rattle.syntax.specs.Reader.{parse, decode}
 use Rattle.syntax.specs.Measures.{size}
 use Rattle.syntax.specs.Within.{Under}
-use Rattle.reader.specs.Outcomes.{told, told_read}
+use Rattle.std.specs.Prelude as std
+use Rattle.syntax.specs.Refusals.{told}
+use Rattle.syntax.specs.declared.refusals.Refusal as code
+use Rattle.reader.specs.Outcomes.{told_read}
 use Rattle.syntax.specs.Answers.{Told, Answered, lengths_fit, on_fit, parsed_into, read_of, rows_tree, judged_of}
-use Rattle.reader.specs.declared.Outcome.{Outcome}
-use Rattle.reader.specs.declared.Outcome.TheVariants.{Count}
 use Rattle.reader.specs.declared.ReadOutcome.{ReadOutcome}
 use Rattle.reader.specs.declared.ReadOutcome.TheVariants.{Script}
 use Rattle.syntax.proofs.Answers.{then, needed}
@@ -41,8 +42,7 @@ tree_decoded l rows t h =
       decodes = q.2;
     }
 
-pub rows_counted : (l : Limits) (rows : List ℕ) (o : Outcome) (n : ℕ) → told o ≡ judged_of l rows → o ≡ Count n → judged_of l rows ≡ ok n
-unfolding told
+pub rows_counted : (l : Limits) (rows : List ℕ) (o : std.Result ℕ code.Refusal) (n : ℕ) → told (λ (k : ℕ). k) o ≡ judged_of l rows → o ≡ std.Ok n → judged_of l rows ≡ ok n
 rows_counted l rows o n h q = sym (rw q at h)
 
 -- Judging accepts the rows that reading leaves, with the number of terms that it told.

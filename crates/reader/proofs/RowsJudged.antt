@@ -4,7 +4,7 @@ use native.Mathlib.Omega.{arith}
 use mathlib.Core.Path.{◌≡◌, refl, sym, ap, ◌∙◌}
 use mathlib.Core.Bool.{Bool, true, false}
 use mathlib.Core.List.{List}
-use lib.ListN.{length, drop, length-drop}
+use lib.ListN.{length, get_or, drop, length-drop}
 use lib.Dec.{ltb, eqb}
 use borrow.Author.Tests.{lt-ltb, le-ltb, eq-eqb, ne_eqb}
 use Rattle.syntax.specs.Result.{Result, ok, err, need, Refusal, pick, ◌>>=◌}
@@ -14,23 +14,21 @@ use Rattle.syntax.specs.Script.{Term, Whole}
 use Rattle.syntax.specs.Layout.{in_rows}
 use Rattle.syntax.specs.Reader.{Cursor, done, nothing_left, over, script, term, answer, start, decode_in, decode}
 use Rattle.syntax.specs.Measures.{size}
-use Rattle.reader.specs.Outcomes.{told}
 use Rattle.syntax.specs.Answers.{rows_tree, judged_of, given_whole}
-use Rattle.syntax.specs.RowParts.{term_rows, judged_in, given_terms, span_of, first_used}
-use Rattle.reader.specs.declared.Outcome.TheVariants as outcome
-use Rattle.syntax.specs.RowParts as span
+use Rattle.syntax.specs.RowParts.{no_block, term_rows, block_rows, judged_in, given_terms, span_of, first_used}
 use Rattle.syntax.proofs.Answers.{after, stop, need_err, go_on, stops}
 use Rattle.row_judge.proofs.LeftOver.{left_judged}
-use Rattle.row_judge.proofs.RowSpans.{refused_of, FineOf, fine_of, Words, Ends, ends}
+use Rattle.row_judge.proofs.DueBlock.{due_same}
+use Rattle.row_judge.proofs.RowSpans.{refused_of, FineOf, fine_of, Ends, ends}
 
 module _ (l : Limits) (rows : List ℕ) where
-  pub other_set : in_ranges l ≡ false → told (outcome.Refused 74 0) ≡ judged_of l rows
-  unfolding told judged_of rows_tree
+  pub other_set : in_ranges l ≡ false → err (74, 0) ≡ judged_of l rows
+  unfolding judged_of rows_tree
   other_set r = sym (stop (rows_tree l rows) _ _ (stop (need (in_ranges l) (74, 0)) _ _ (need_err (in_ranges l) (74, 0) r)))
 
   module _ (ranges : in_ranges l ≡ true) where
-    pub other_length : (length rows ≡ row_numbers l → ⊥) → told (outcome.Refused 2 0) ≡ judged_of l rows
-    unfolding told judged_of rows_tree need ◌>>=◌
+    pub other_length : (length rows ≡ row_numbers l → ⊥) → err (2, 0) ≡ judged_of l rows
+    unfolding judged_of rows_tree need ◌>>=◌
     other_length n = rw (ranges, ne_eqb (length rows) (row_numbers l) n)
 
     -- Rows of every version are those of the newest.
@@ -63,17 +61,25 @@ module _ (l : Limits) (v : ℕ) (rows : List ℕ) (full : length rows ≡ row_nu
   unfolding judged_in decode_in answer
   judged_ok t s h = after (decode_in l v rows) _ t _ (after (script l v in_rows (start rows)) _ (t, s) _ h refl) refl
 
-  pub judged_refused : (n p : ℕ) → span.Refused n p ≡ span_of (term_rows l v l.levels true rows 0 0) → told (outcome.Refused n p) ≡ judged_in l v rows
-  unfolding told script
-  judged_refused n p f = sym (judged_err (n, p) (stops (term l v in_rows l.levels true) _ (start rows) (n, p) (refused_of (term_rows l v l.levels true rows 0 0) n p f)))
+  pub judged_refused : (e : Refusal) → err e ≡ span_of (term_rows l v l.levels true rows 0 0) → err e ≡ judged_in l v rows
+  unfolding script
+  judged_refused e f = sym (judged_err e (stops (term l v in_rows l.levels true) _ (start rows) e (refused_of (term_rows l v l.levels true rows 0 0) e f)))
+
+  -- The outermost term, judged as a block of one where it is no other than a block.
+  module _ (block : no_block v rows 0 ≡ false) where
+    pub block_refused : (e : Refusal) → err e ≡ span_of (block_rows l v l.levels 1 rows 0 0) → err e ≡ judged_in l v rows
+    block_refused e f = judged_refused e (f ∙ due_same l v l.levels rows 0 0 full (omega arith) block)
 
   -- The outermost term has so many terms and boxes.
-  module _ (w : Words rows) (terms boxes : ℕ) (f : span.Fine terms boxes ≡ span_of (term_rows l v l.levels true rows 0 0)) where
+  module _ (each : (j : ℕ) → get_or rows j 0 < 4294967296) (block : no_block v rows 0 ≡ false) (terms boxes : ℕ) (g : ok (terms, boxes) ≡ span_of (block_rows l v l.levels 1 rows 0 0)) where
+    f : ok (terms, boxes) ≡ span_of (term_rows l v l.levels true rows 0 0)
+    f = g ∙ due_same l v l.levels rows 0 0 full (omega arith) block
+
     abbrev read : FineOf (term_rows l v l.levels true rows 0 0) terms boxes
     read = fine_of (term_rows l v l.levels true rows 0 0) terms boxes f
 
     abbrev ended : Ends l rows 0 read.value read.to
-    ended = ends l v l.levels true rows 0 0 w read.value read.to read.is
+    ended = ends l v l.levels true rows 0 0 each read.value read.to read.is
 
     pub judged_fit : 5 * terms ≤ row_numbers l
     unfolding row_numbers
@@ -89,16 +95,16 @@ module _ (l : Limits) (v : ℕ) (rows : List ℕ) (full : length rows ≡ row_nu
           ∙ left_judged (5 * terms) (drop (5 * terms) rows)
           ∙ rw (← is, e)
 
-      pub judged_left : used < row_numbers l → told (outcome.Refused 19 (used / 5)) ≡ judged_in l v rows
-      unfolding told script over
+      pub judged_left : used < row_numbers l → err (19, used / 5) ≡ judged_in l v rows
+      unfolding script over
       judged_left h =
           let e : nothing_left in_rows read.to.at read.to.rest ≡ err (19, used / 5) = nothing ∙ rw (lt-ltb used (row_numbers l) h) in
           sym (judged_err (19, used / 5)
           (go_on (term l v in_rows l.levels true) _ (start rows) read.to read.value _ read.is
           (stops (over in_rows) _ read.to _ (stop (nothing_left in_rows read.to.at read.to.rest) _ _ e))))
 
-      pub judged_count : row_numbers l ≤ used → told (outcome.Count terms) ≡ judged_in l v rows
-      unfolding told script over done
+      pub judged_count : row_numbers l ≤ used → ok terms ≡ judged_in l v rows
+      unfolding script over done
       judged_count h =
           let e : nothing_left in_rows read.to.at read.to.rest ≡ ok tt = nothing ∙ rw (le-ltb used (row_numbers l) h) in
           let z : size read.value ≡ terms = omega (arith, ended.terms, read.terms) in

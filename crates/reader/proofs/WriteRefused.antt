@@ -15,11 +15,8 @@ use Rattle.syntax.specs.Layout.{bytes_of}
 use Rattle.syntax.specs.Measures.{size}
 use Rattle.syntax.specs.Reader.{decode_in}
 use Rattle.syntax.specs.RowParts.{judged_in}
-use Rattle.reader.specs.Outcomes.{told}
 use Rattle.syntax.specs.Answers.{given_whole, writable, written_into, written_of}
 use Rattle.writer.specs.OutputParts.{script_from}
-use Rattle.reader.specs.declared.Outcome.{Outcome}
-use Rattle.reader.specs.declared.Outcome.TheVariants.{Count, Refused}
 use Rattle.syntax.proofs.Answers.{err_ok, then, after}
 use Rattle.syntax.proofs.Ranges.{ranged}
 use Rattle.syntax.proofs.Versions.{known_says}
@@ -30,20 +27,20 @@ use Rattle.reader.proofs.OutputAnswers.{Judged}
 
 module _ (l : Limits) (v : ℕ) (rows output : List ℕ) where
   -- What is judged before the rows.
-  pub set_refused : in_ranges l ≡ false → (told (Refused 74 0), output) ≡ written_of l v rows output
-  unfolding told written_of writable given_whole written_into ◌>>=◌ need
+  pub set_refused : in_ranges l ≡ false → (err (74, 0), output) ≡ written_of l v rows output
+  unfolding written_of writable given_whole written_into ◌>>=◌ need
   set_refused r = rw r
 
-  pub length_refused : in_ranges l ≡ true → (length rows ≡ row_numbers l → ⊥) → (told (Refused 2 0), output) ≡ written_of l v rows output
-  unfolding told written_of writable given_whole written_into ◌>>=◌ need
+  pub length_refused : in_ranges l ≡ true → (length rows ≡ row_numbers l → ⊥) → (err (2, 0), output) ≡ written_of l v rows output
+  unfolding written_of writable given_whole written_into ◌>>=◌ need
   length_refused r n = rw (r, ne_eqb (length rows) (row_numbers l) n)
 
   module _ (ranges : in_ranges l ≡ true) (full : length rows ≡ row_numbers l) where
-    pub version_refused : knows newest v ≡ false → (told (Refused 11 0), output) ≡ written_of l v rows output
-    unfolding told written_of writable given_whole written_into ◌>>=◌ need
+    pub version_refused : knows newest v ≡ false → (err (11, 0), output) ≡ written_of l v rows output
+    unfolding written_of writable given_whole written_into ◌>>=◌ need
     version_refused k = rw (ranges, eq-eqb (length rows) (row_numbers l) full, k)
 
-    module _ (known : knows newest v ≡ true) (o : Outcome) (h : told o ≡ judged_in l v rows) where
+    module _ (known : knows newest v ≡ true) where
       abbrev script : Term → Whole
       script t = record { version = v; term = t }
 
@@ -52,19 +49,19 @@ module _ (l : Limits) (v : ℕ) (rows output : List ℕ) where
       given = rw (ranges, eq-eqb (length rows) (row_numbers l) full, known)
 
       -- Rows that are refused.
-      pub refused_rows : (n p : ℕ) → o ≡ Refused n p → (told o, output) ≡ written_of l v rows output
-      unfolding told judged_in written_of writable written_into ◌>>=◌
-      refused_rows n p e = rw given (go (decode_in l v rows) (sym (ap told e) ∙ h))
+      pub refused_rows : (e : Refusal) → err e ≡ judged_in l v rows → (err e, output) ≡ written_of l v rows output
+      unfolding judged_in written_of writable written_into ◌>>=◌
+      refused_rows e h = rw given (go (decode_in l v rows) h)
         where
-          go : (r : Result Refusal Term) → err (n, p) ≡ (r >>= λ t. ok (size t)) → (told o, output) ≡ written_into output ((r >>= λ t. ok (script t)) >>= λ s. need (leb (length (bytes_of s)) (length output)) (5, 0) >>= λ _. ok s)
+          go : (r : Result Refusal Term) → err e ≡ (r >>= λ t. ok (size t)) → (err e, output) ≡ written_into output ((r >>= λ t. ok (script t)) >>= λ s. need (leb (length (bytes_of s)) (length output)) (5, 0) >>= λ _. ok s)
           go (ok t) q = err_ok q
-          go (err x) q = ap (λ (r : Result Refusal ℕ). (r, output)) (ap told e ∙ q)
+          go (err x) q = ap (λ (r : Result Refusal ℕ). (r, output)) q
 
       -- Rows that are the n rows of a tree.
-      pub judged : ((i : ℕ) → get_or rows i 0 < 4294967296) → (n : ℕ) → o ≡ Count n → Judged l v rows n
-      unfolding told judged_in row_numbers
-      judged each n e =
-          let q = then (decode_in l v rows) (λ t. ok (size t)) n (sym h ∙ ap told e) in
+      pub judged : ((i : ℕ) → get_or rows i 0 < 4294967296) → (n : ℕ) → ok n ≡ judged_in l v rows → Judged l v rows n
+      unfolding judged_in row_numbers
+      judged each n h =
+          let q = then (decode_in l v rows) (λ t. ok (size t)) n (sym h) in
           let d = decoded_in l v rows q.0 (under_all 4294967296 rows each) full q.1 in
           let count : size q.0 ≡ n = cc q.2 in
           record {

@@ -2,25 +2,19 @@
 // take, and writing them as bytes again (6.4).
 #![tactic(auto)]
 
-ghost use Rattle.std.specs.Prelude.{◌≡◌};
-ghost use Rattle.reader.specs.Outcomes.{told, told_read};
+ghost use Rattle.std.specs.Prelude.{◌≡◌, true, length};
+ghost use Rattle.reader.specs.Outcomes.{told_read};
 ghost use Rattle.syntax.specs.Answers.{read_of, judged_of, length_of, written_of};
-ghost use Rattle.syntax.specs.Limits.{unpacked, version_of};
-ghost use Rattle.script_reader.specs.Lent.{RowsFor};
+ghost use Rattle.syntax.specs.Limits.{in_ranges, row_numbers};
+ghost use Rattle.syntax.specs.Refusals.{told};
 ghost use Rattle.syntax.specs.RowParts.{judged_in, given_terms};
 
-use row_judge::rows::{first_used, judge_block, no_block};
+use row_judge::rows::{Progress, first_used, judge_block, no_block};
 use script_reader::script::{clear_from, read_script};
 use syntax::limits::{Limits, in_ranges, row_numbers};
+use syntax::refusals::{Reason, Refusal};
 use syntax::{kinds, limits, packed};
 use writer::output;
-
-// A count (of the terms or the bytes of a script), or the refusal's number and place (LANGUAGE 5.2).
-#[derive(Clone, Copy)]
-pub enum Outcome {
-    Count(usize),
-    Refused(u32, usize),
-}
 
 // What reading tells: the version and the number of terms of a script, or the refusal's number and place
 // (LANGUAGE 5.2).
@@ -56,82 +50,94 @@ pub fn read(set: Limits, newest: u32, script: &[u8], rows: &mut [u32]) -> ReadOu
     ReadOutcome::Script(version as u32, terms)
 }
 
-// Rows of the right length (LANGUAGE 5.12, 5.13), with the kinds of the version in `sizes`: the number of terms, or 12
-// to 19.
-fn judge_given(sizes: usize, rows: &[u32]) -> Outcome
-    requires { RowsFor (unpacked sizes) rows.now }
-    ensures { told result ≡ judged_in (unpacked sizes) (version_of sizes) rows.now }
+// Rows of the right length (LANGUAGE 5.12, 5.13), with the kinds of a version: the number of terms, or 12 to 19.
+fn judge_given(limits: &Limits, version: usize, rows: &[u32]) -> Result<usize, Refusal>
+    requires { (in_ranges limits.now ≡ true) × (length rows.now ≡ row_numbers limits.now) }
+    ensures { told (λ n. n) result ≡ judged_in limits.now version rows.now }
 {
-    if no_block(sizes / limits::VERSION_UNIT, rows, 0) {
-        return Outcome::Refused(limits::NO_BLOCK, 0);
+    if no_block(version, rows, 0) {
+        return Err(Refusal {
+            reason: Reason::NoBlock,
+            place: 0,
+        });
     }
     // The outermost term as a block of one. 18 was asked here, so that the judges are entered by that of a block: the judge
     // of a term is then compiled into it.
-    let levels = sizes / limits::LEVELS_UNIT % limits::LEVELS_MODULUS;
-    let span = judge_block(sizes, rows, 0, 1, levels, 0);
-    if packed::REFUSED <= span {
-        return Outcome::Refused(packed::number_of(span), span % packed::PLACES);
-    }
-    let terms = span % packed::TERMS;
+    let mut progress = Progress { next: 0, boxes: 0 };
+    judge_block(
+        limits,
+        version,
+        rows,
+        1,
+        limits.levels as usize,
+        &mut progress,
+    )?;
+    let terms = progress.next;
     let used = first_used(rows, 5 * terms);
     if used < rows.len() {
-        return Outcome::Refused(limits::LEFT_OVER, used / 5);
+        return Err(Refusal {
+            reason: Reason::LeftOver,
+            place: used / 5,
+        });
     }
-    Outcome::Count(terms)
+    Ok(terms)
 }
 
 // Rows with the kinds of a version (LANGUAGE 6.4): the number of terms, or 74, 2, 11, 12 to 19 in this order (5.8).
-fn judge_in_version(set: Limits, version: u32, rows: &[u32]) -> Outcome
-    ensures { told result ≡ given_terms set version rows.now }
+fn judge_in_version(set: &Limits, version: u32, rows: &[u32]) -> Result<usize, Refusal>
+    ensures { told (λ n. n) result ≡ given_terms set.now version rows.now }
 {
-    if !in_ranges(set) {
-        return Outcome::Refused(limits::SET_OUTSIDE, 0);
+    if !in_ranges(*set) {
+        return Err(Refusal {
+            reason: Reason::SetOutside,
+            place: 0,
+        });
     }
-    if rows.len() != row_numbers(set) {
-        return Outcome::Refused(limits::ROWS_LENGTH, 0);
+    if rows.len() != row_numbers(*set) {
+        return Err(Refusal {
+            reason: Reason::RowsLength,
+            place: 0,
+        });
     }
     if !kinds::knows_version(kinds::NEWEST, version) {
-        return Outcome::Refused(limits::VERSION, 0);
+        return Err(Refusal {
+            reason: Reason::Version,
+            place: 0,
+        });
     }
-    judge_given(
-        limits::with_version(limits::packed(set), version as usize),
-        rows,
-    )
+    judge_given(set, version as usize, rows)
 }
 
 // Judge rows (LANGUAGE 6.3) that the caller made, of any version: the number of terms, or 74, 2, 12 to 19. The newest
 // version has the kinds of all.
-pub fn judge_rows(set: Limits, rows: &[u32]) -> Outcome
-    ensures { told result ≡ judged_of set rows.now }
+pub fn judge_rows(set: Limits, rows: &[u32]) -> Result<usize, Refusal>
+    ensures { told (λ n. n) result ≡ judged_of set rows.now }
 {
-    judge_in_version(set, kinds::NEWEST, rows)
+    judge_in_version(&set, kinds::NEWEST, rows)
 }
 
 // Length (LANGUAGE 6.4): how many bytes `write` fills, from all that it is given but the output; or its refusal, 5 aside.
-pub fn length(set: Limits, version: u32, rows: &[u32]) -> Outcome
-    ensures { told result ≡ length_of set version rows.now }
+pub fn length(set: Limits, version: u32, rows: &[u32]) -> Result<usize, Refusal>
+    ensures { told (λ n. n) result ≡ length_of set version rows.now }
 {
-    let judged = judge_in_version(set, version, rows);
-    let Outcome::Count(terms) = judged else {
-        return judged;
-    };
-    Outcome::Count(output::script_bytes(rows, terms))
+    let terms = judge_in_version(&set, version, rows)?;
+    Ok(output::script_bytes(rows, terms))
 }
 
 // Write (LANGUAGE 6.4): the script of rows with the kinds of a version at the front of the output, and its length; or
 // the refusal, with the output unchanged. The length is worked out from the rows, and each row is then written in its
 // place: no copy of the script is kept. 5 comes after the rows (5.8).
-pub fn write(set: Limits, version: u32, rows: &[u32], output: &mut [u8]) -> Outcome
-    ensures { (told result, output.new) ≡ written_of set version rows.now output.old }
+pub fn write(set: Limits, version: u32, rows: &[u32], output: &mut [u8]) -> Result<usize, Refusal>
+    ensures { (told (λ n. n) result, output.new) ≡ written_of set version rows.now output.old }
 {
-    let judged = judge_in_version(set, version, rows);
-    let Outcome::Count(terms) = judged else {
-        return judged;
-    };
+    let terms = judge_in_version(&set, version, rows)?;
     let bytes = output::script_bytes(rows, terms);
     if output.len() < bytes {
-        return Outcome::Refused(limits::OUTPUT_SHORT, 0);
+        return Err(Refusal {
+            reason: Reason::OutputShort,
+            place: 0,
+        });
     }
     output::put_script(version, rows, terms, output);
-    Outcome::Count(bytes)
+    Ok(bytes)
 }

@@ -7,13 +7,13 @@ use mathlib.Core.List.{List}
 use lib.ListN.{length, take}
 use lib.Dec.{leb, eqb}
 use borrow.Author.Tests.{lt-leb, ne_eqb}
-use Rattle.syntax.specs.Result.{pick}
+use Rattle.syntax.specs.Result.{err, pick}
 use Rattle.syntax.specs.Limits.{Limits, row_numbers}
 use Rattle.syntax.specs.Kinds.{Kind, fields}
 use Rattle.syntax.specs.Layout.{in_rows}
 use Rattle.syntax.specs.Reader.{boxes_of, built, term}
 use Rattle.syntax.specs.Parts.{known_in}
-use Rattle.syntax.specs.RowParts.{field_at, fields_at, no_block, row_number, row_cursor, term_rows, block_rows, Refused, span_of}
+use Rattle.syntax.specs.RowParts.{field_at, fields_at, no_block, row_number, row_cursor, term_rows, block_rows, span_of}
 use Rattle.syntax.proofs.Lists.{within_list}
 use Rattle.syntax.proofs.HeadSound.{both}
 use Rattle.syntax.proofs.KnownKinds.{known_is}
@@ -39,7 +39,7 @@ module _ (l : Limits) (v levels : ℕ) (rows : List ℕ) (i boxes : ℕ) (full :
   judged : (outer : Bool) → Row outer (row_number l v levels outer rows i boxes)
   judged outer = row_judged l v levels outer rows i boxes full few
 
-  pub due_refused : no_block v rows i ≡ true → Refused 18 i ≡ span_of (term_rows l v levels true rows i boxes)
+  pub due_refused : no_block v rows i ≡ true → err (18, i) ≡ span_of (term_rows l v levels true rows i boxes)
   unfolding no_block row_number row_numbers span_of
   due_refused h =
       let b = field_at rows i 0 in

@@ -1,14 +1,24 @@
 // Terms, blocks and choices in term rows (LANGUAGE 5.12), and what stands after them (5.13): what check, machine and writer rely
 // on.
-ghost use Rattle.std.specs.Prelude.{◌≡◌, true, false, ◌∷◌, [], ◌+◌, ◌<◌, ◌≤◌, length, take, drop};
-ghost use Rattle.syntax.specs.Kinds.{until};
-ghost use Rattle.syntax.specs.Limits.{row_numbers, unpacked, version_of};
-ghost use Rattle.syntax.specs.Parts.{IsKind, place_fields, fields_of};
-ghost use Rattle.syntax.specs.RowParts.{fields_fit, no_block, row_number, RowsReady, term_rows, block_rows, branch_rows, span_of, spanned, bits_of, first_used};
+ghost use Rattle.std.specs.Prelude.{◌≡◌, true, false, ◌∷◌, [], ◌+◌, ◌*◌, ◌<◌, ◌≤◌, length, take, drop};
+ghost use Rattle.syntax.specs.KindNumbers.{as_kind};
+ghost use Rattle.syntax.specs.Kinds.{until, fields};
+ghost use Rattle.syntax.specs.Limits.{row_numbers};
+ghost use Rattle.syntax.specs.Parts.{place_fields};
+ghost use Rattle.syntax.specs.Refusals.{told};
+ghost use Rattle.syntax.specs.RowParts.{field_at, fields_fit, no_block, row_number, RowJudged, RowsReady, term_rows, block_rows, branch_rows, span_of, bits_of, first_used};
 
-use syntax::fields::field_at;
-use syntax::opening::boxes_with;
-use syntax::{kinds, limits, packed};
+use syntax::fields::{field_at, index_at};
+use syntax::kinds::Kind;
+use syntax::limits::{self, Limits};
+use syntax::refusals::{Reason, Refusal};
+
+// What has been judged so far: all rows before the next one, with so many boxes among them.
+#[derive(Clone, Copy, Debug, PartialEq, Eq)]
+pub struct Progress {
+    pub next: usize,
+    pub boxes: usize,
+}
 
 // A place in its ranges (LANGUAGE 2.4, 2.5).
 fn place_fits(variables: u32, root: u32, follows: u32) -> bool
@@ -18,42 +28,33 @@ fn place_fits(variables: u32, root: u32, follows: u32) -> bool
 }
 
 // Fields that the kind does not use are 0 (LANGUAGE 2.10).
-fn all_zero(a: u32, b: u32, c: u32, d: u32) -> bool
-    ensures { result ≡ fields_fit [] (a ∷ b ∷ c ∷ d ∷ []) }
+fn all_zero(fields: &[u32]) -> bool
+    ensures { result ≡ fields_fit [] fields.now }
 {
-    if a != 0 {
-        return false;
-    }
-    if b != 0 {
-        return false;
-    }
-    c == 0 && d == 0
+    fields.iter().all(|field| *field == 0)
 }
 
-// One operand, from low to below high (LANGUAGE 2.4), and unused fields.
-fn one_fits(low: u32, high: u32, a: u32, b: u32, c: u32, d: u32) -> bool
-    ensures { result ≡ fields_fit (until low high ∷ []) (a ∷ b ∷ c ∷ d ∷ []) }
+// One operand, from low to below high (LANGUAGE 2.4).
+fn one_fits(low: u32, high: u32, operand: u32) -> bool
+    ensures { result ≡ fields_fit (until low high ∷ []) (operand ∷ []) }
 {
-    if a < low {
-        return false;
-    }
-    a < high && all_zero(0, b, c, d)
+    low <= operand && operand < high
 }
 
 // 14 is not met (LANGUAGE 5.4): the operands of a kind are in their ranges (2.4), and the fields after them 0 (2.10).
-fn fields_fit(sizes: usize, kind: u32, a: u32, b: u32, c: u32, d: u32) -> bool
-    requires { IsKind kind }
-    ensures { result ≡ fields_fit (fields_of (unpacked sizes) kind) (a ∷ b ∷ c ∷ d ∷ []) }
+fn fields_fit(limits: &Limits, kind: Kind, a: u32, b: u32, c: u32, d: u32) -> bool
+    ensures { result ≡ fields_fit (fields limits.now (as_kind kind)) (a ∷ b ∷ c ∷ d ∷ []) }
 {
-    let variables = (sizes % limits::VARIABLES_MODULUS) as u32;
+    let variables = limits.variables;
     match kind {
-        kinds::NUMBER => all_zero(0, b, c, d),
-        kinds::READING => one_fits(0, limits::READINGS, a, b, c, d),
-        kinds::BOX => all_zero(a, b, c, d),
-        kinds::LET => one_fits(0, variables, a, b, c, d),
-        kinds::BELOW | kinds::SUM => place_fits(variables, a, b) && place_fits(variables, c, d),
-        kinds::BLOCK => one_fits(1, limits::BLOCK, a, b, c, d),
-        _ => place_fits(variables, a, b) && all_zero(0, 0, c, d),
+        Kind::Number => all_zero(&[b, c, d]),
+        Kind::Reading => one_fits(0, limits::READINGS, a) && all_zero(&[b, c, d]),
+        Kind::Box => all_zero(&[a, b, c, d]),
+        Kind::Let => one_fits(0, variables, a) && all_zero(&[b, c, d]),
+        Kind::Below | Kind::Sum => place_fits(variables, a, b) && place_fits(variables, c, d),
+        Kind::Block => one_fits(1, limits::BLOCK, a) && all_zero(&[b, c, d]),
+        Kind::Copy | Kind::Move | Kind::Shared | Kind::Exclusive | Kind::Assign | Kind::Choice =>
+            place_fits(variables, a, b) && all_zero(&[c, d]),
     }
 }
 
@@ -67,163 +68,154 @@ pub fn no_block(version: usize, rows: &[u32], i: usize) -> bool
     if rows.len() <= at {
         return false;
     }
-    let kind = rows[at];
-    kinds::known(version, kind) && kind != kinds::BLOCK
+    match Kind::in_version(version, rows[at]) {
+        Some(kind) => !matches!(kind, Kind::Block),
+        None => false,
+    }
 }
 
-// The number of the refusal at row i, in the order 12, 13, 15, 17, 14 (LANGUAGE 5.12); 0 where there is none.
-// 16 cannot be met, since the rows hold no more terms than the set has.
-fn row_number(sizes: usize, rows: &[u32], i: usize, levels: usize, boxes: usize) -> u32
-    requires { (length rows.now ≡ row_numbers (unpacked sizes)) × (i < 8192) }
-    ensures { result ≡ row_number (unpacked sizes) (version_of sizes) levels false rows.now i boxes }
+// The kind of row i, or why it is refused, in the order 12, 13, 15, 17, 14 (LANGUAGE 5.12). 16 cannot be met, since the rows
+// hold no more terms than the set has.
+fn judge_row(
+    limits: &Limits,
+    version: usize,
+    rows: &[u32],
+    levels: usize,
+    progress: &Progress,
+) -> Result<Kind, Reason>
+    requires { (length rows.now ≡ row_numbers limits.now) × (progress.now.next < 8192) }
+    ensures { RowJudged (row_number limits.now version levels false rows.now progress.now.next progress.now.boxes) (field_at rows.now progress.now.next 0) result }
 {
-    if sizes / limits::TERMS_UNIT % limits::TERMS_MODULUS <= i {
-        return limits::ENDED;
+    let i = progress.next;
+    if limits.terms as usize <= i {
+        return Err(Reason::Ended);
     }
-    let kind = field_at(rows, i, 0);
-    if kind == 0 {
-        return limits::ENDED;
+    let number = field_at(rows, i, 0);
+    if number == 0 {
+        return Err(Reason::Ended);
     }
-    if !kinds::known(sizes / limits::VERSION_UNIT, kind) {
-        return limits::UNKNOWN_KIND;
-    }
+    let Some(kind) = Kind::in_version(version, number) else {
+        return Err(Reason::UnknownKind);
+    };
     if levels == 0 {
-        return limits::TOO_DEEP;
+        return Err(Reason::TooDeep);
     }
-    if kind == kinds::BOX {
-        if sizes / limits::BOXES_UNIT % limits::BOXES_MODULUS <= boxes {
-            return limits::TOO_MANY_BOXES;
-        }
+    if matches!(kind, Kind::Box) && limits.boxes as usize <= progress.boxes {
+        return Err(Reason::TooManyBoxes);
     }
     let a = field_at(rows, i, 1);
     let b = field_at(rows, i, 2);
     let c = field_at(rows, i, 3);
     let d = field_at(rows, i, 4);
-    if fields_fit(sizes, kind, a, b, c, d) {
-        return 0;
+    if !fields_fit(limits, kind, a, b, c, d) {
+        return Err(Reason::Operand);
     }
-    limits::OPERAND
+    Ok(kind)
 }
 
-// The term at row i (LANGUAGE 2.2), nested at most as deep as levels says, after so many boxes. Box, let and assign are
-// judged as their inner term is, one row on and one level deeper (2.7).
-#[cycle(judge_block_judge_branches_judge_due_block_judge_term)]
-fn judge_term(sizes: usize, rows: &[u32], i: usize, levels: usize, boxes: usize) -> usize
-    requires { RowsReady (unpacked sizes) rows.now i boxes }
-    ensures { spanned result ≡ span_of (term_rows (unpacked sizes) (version_of sizes) levels false rows.now i boxes) }
-{
-    let mut at = i;
-    let mut left = levels;
-    let mut boxed = boxes;
-    loop {
-        let number = row_number(sizes, rows, at, left, boxed);
-        if number != 0 {
-            return packed::refused(number, at);
-        }
-        let kind = field_at(rows, at, 0);
-        let next = at + 1;
-        // The kinds without inner terms come first, since most terms are of those.
-        if kind < kinds::BOX {
-            return packed::counted(next, boxed);
-        }
-        if kind == kinds::BELOW || kind == kinds::SUM {
-            return packed::counted(next, boxed);
-        }
-        left -= 1;
-        if kind == kinds::BLOCK {
-            let count = field_at(rows, at, 1) as usize;
-            return judge_block(sizes, rows, next, count, left, boxed);
-        }
-        if kind == kinds::CHOICE {
-            return judge_branches(sizes, rows, next, left, boxed);
-        }
-        boxed = boxes_with(kind, boxed);
-        at = next;
-    }
-}
-
-// A block's terms (LANGUAGE 2.3): count of them one after the other from row i on, one at least.
-#[cycle(judge_block_judge_branches_judge_due_block_judge_term)]
-pub fn judge_block(
-    sizes: usize,
+// The term at the next row (LANGUAGE 2.2), nested at most as deep as levels says. Box, let and assign are judged as their
+// inner term is, one row on and one level deeper (2.7): in a loop, so that the judge of a term is compiled into that of a
+// block.
+#[cycle(terms)]
+fn judge_term(
+    limits: &Limits,
+    version: usize,
     rows: &[u32],
-    i: usize,
+    levels: usize,
+    progress: &mut Progress,
+) -> Result<(), Refusal>
+    requires { RowsReady limits.now rows.now progress.old.next progress.old.boxes }
+    ensures { told (λ _. (progress.new.next, progress.new.boxes)) result ≡ span_of (term_rows limits.now version levels false rows.now progress.old.next progress.old.boxes) }
+{
+    let mut left = levels;
+    loop {
+        let row = progress.next;
+        let kind = match judge_row(limits, version, rows, left, progress) {
+            Ok(kind) => kind,
+            Err(reason) => return Err(Refusal { reason, place: row }),
+        };
+        progress.next += 1;
+        left -= 1;
+        match kind {
+            Kind::Box => progress.boxes += 1,
+            Kind::Let | Kind::Assign => {}
+            Kind::Block => {
+                let count = index_at(rows, row, 1);
+                return judge_block(limits, version, rows, count, left, progress);
+            }
+            Kind::Choice => return judge_branches(limits, version, rows, left, progress),
+            _ => return Ok(()),
+        }
+    }
+}
+
+// A block's terms (LANGUAGE 2.3): count of them one after the other from the next row on, one at least.
+#[cycle(terms)]
+pub fn judge_block(
+    limits: &Limits,
+    version: usize,
+    rows: &[u32],
     count: usize,
     levels: usize,
-    boxes: usize,
-) -> usize
-    requires { RowsReady (unpacked sizes) rows.now i boxes × (0 < count) }
-    ensures { spanned result ≡ span_of (block_rows (unpacked sizes) (version_of sizes) levels count rows.now i boxes) }
+    progress: &mut Progress,
+) -> Result<(), Refusal>
+    requires { RowsReady limits.now rows.now progress.old.next progress.old.boxes × (0 < count) }
+    ensures { told (λ _. (progress.new.next, progress.new.boxes)) result ≡ span_of (block_rows limits.now version levels count rows.now progress.old.next progress.old.boxes) }
 {
-    let mut next = i;
-    let mut boxed = boxes;
-    let mut left = count;
-    while 0 < left {
-        let span = judge_term(sizes, rows, next, levels, boxed);
-        if packed::REFUSED <= span {
-            return span;
-        }
-        next = span % packed::TERMS;
-        boxed = span / packed::TERMS;
-        left -= 1;
+    for _term in 0..count {
+        judge_term(limits, version, rows, levels, progress)?;
     }
-    packed::counted(next, boxed)
+    Ok(())
 }
 
 // A term that must be a block, one of a choice (LANGUAGE 2.3): 18 where it is another (5.12). It is judged as a block of one
 // term is: the judge of a term is then called in one place, and compiled into it.
-#[cycle(judge_block_judge_branches_judge_due_block_judge_term)]
-fn judge_due_block(sizes: usize, rows: &[u32], i: usize, levels: usize, boxes: usize) -> usize
-    requires { RowsReady (unpacked sizes) rows.now i boxes }
-    ensures { spanned result ≡ span_of (term_rows (unpacked sizes) (version_of sizes) levels true rows.now i boxes) }
+#[cycle(terms)]
+fn judge_due_block(
+    limits: &Limits,
+    version: usize,
+    rows: &[u32],
+    levels: usize,
+    progress: &mut Progress,
+) -> Result<(), Refusal>
+    requires { RowsReady limits.now rows.now progress.old.next progress.old.boxes }
+    ensures { told (λ _. (progress.new.next, progress.new.boxes)) result ≡ span_of (term_rows limits.now version levels true rows.now progress.old.next progress.old.boxes) }
 {
-    if no_block(sizes / limits::VERSION_UNIT, rows, i) {
-        return packed::refused(limits::NO_BLOCK, i);
+    if no_block(version, rows, progress.next) {
+        return Err(Refusal {
+            reason: Reason::NoBlock,
+            place: progress.next,
+        });
     }
-    judge_block(sizes, rows, i, 1, levels, boxes)
+    judge_block(limits, version, rows, 1, levels, progress)
 }
 
 // The two blocks of a choice (LANGUAGE 2.3), the second straight after the first.
-#[cycle(judge_block_judge_branches_judge_due_block_judge_term)]
-fn judge_branches(sizes: usize, rows: &[u32], i: usize, levels: usize, boxes: usize) -> usize
-    requires { RowsReady (unpacked sizes) rows.now i boxes }
-    ensures { spanned result ≡ span_of (branch_rows (unpacked sizes) (version_of sizes) levels rows.now i boxes) }
+#[cycle(terms)]
+fn judge_branches(
+    limits: &Limits,
+    version: usize,
+    rows: &[u32],
+    levels: usize,
+    progress: &mut Progress,
+) -> Result<(), Refusal>
+    requires { RowsReady limits.now rows.now progress.old.next progress.old.boxes }
+    ensures { told (λ _. (progress.new.next, progress.new.boxes)) result ≡ span_of (branch_rows limits.now version levels rows.now progress.old.next progress.old.boxes) }
 {
-    let first = judge_due_block(sizes, rows, i, levels, boxes);
-    if packed::REFUSED <= first {
-        return first;
-    }
-    let next = first % packed::TERMS;
-    let boxed = first / packed::TERMS;
-    judge_due_block(sizes, rows, next, levels, boxed)
+    judge_due_block(limits, version, rows, levels, progress)?;
+    judge_due_block(limits, version, rows, levels, progress)
 }
 
-// The bits that any of the 32 numbers from `from` on has. The loop has a fixed number of turns, so it becomes vector code
-// without a loop.
-fn bits_of_32(rows: &[u32], from: usize) -> u32
-    requires { from + 32 ≤ length rows.now }
-    ensures { result ≡ bits_of 0 (take 32 (drop from rows.now)) }
-{
-    let mut bits: u32 = 0;
-    let mut k = 0;
-    while k < 32 {
-        bits |= rows[from + k];
-        k += 1;
-    }
-    bits
-}
+// The numbers that are looked at together.
+const TOGETHER: usize = 32;
 
-// The bits that any number from `from` on has: 0 where 19 is not met (LANGUAGE 5.13). Nothing leaves the loop early.
-fn bits_from(rows: &[u32], from: usize) -> u32
-    ensures { result ≡ bits_of 0 (drop from rows.now) }
+// The bits that any of the numbers has. Nothing leaves the loop early, so that it becomes vector code; where their count is
+// known, without a loop.
+#[inline]
+fn bits_of(numbers: &[u32]) -> u32
+    ensures { result ≡ bits_of 0 numbers.now }
 {
-    let mut bits: u32 = 0;
-    let mut i = from;
-    while i < rows.len() {
-        bits |= rows[i];
-        i += 1;
-    }
-    bits
+    numbers.iter().fold(0, |bits, number| bits | *number)
 }
 
 // The same as `first_used`, one number after the other.
@@ -231,14 +223,10 @@ fn first_from(rows: &[u32], from: usize) -> usize
     requires { from ≤ length rows.now }
     ensures { result ≡ first_used from (drop from rows.now) }
 {
-    let mut i = from;
-    while i < rows.len() {
-        if rows[i] != 0 {
-            return i;
-        }
-        i += 1;
+    match rows[from..].iter().position(|number| *number != 0) {
+        Some(passed) => from + passed,
+        None => rows.len(),
     }
-    i
 }
 
 // 19 (LANGUAGE 5.13): where the first number from `from` on that is not 0 stands; the length where there is none. In a
@@ -249,13 +237,13 @@ pub fn first_used(rows: &[u32], from: usize) -> usize
     ensures { result ≡ first_used from (drop from rows.now) }
 {
     let mut i = from;
-    while 32 <= rows.len() - i {
-        if bits_of_32(rows, i) != 0 {
+    while TOGETHER <= rows.len() - i {
+        if bits_of(&rows[i..i + TOGETHER]) != 0 {
             return first_from(rows, i);
         }
-        i += 32;
+        i += TOGETHER;
     }
-    if bits_from(rows, i) == 0 {
+    if bits_of(&rows[i..]) == 0 {
         return rows.len();
     }
     first_from(rows, i)

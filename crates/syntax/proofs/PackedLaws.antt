@@ -5,8 +5,6 @@ use mathlib.Core.Path.{◌≡◌, ap₂, ◌∙◌}
 use borrow.Author.Tests.{lt-ltb, le-ltb}
 use Rattle.syntax.specs.ByteParts.{found}
 use Rattle.syntax.specs.ByteParts as got
-use Rattle.syntax.specs.RowParts.{spanned}
-use Rattle.syntax.specs.RowParts as span
 
 module _ (r : ℕ) where
   pub found_refused : 1099511627776 ≤ r → found r ≡ got.Refused ((r - 1099511627776) / 65536 % 4294967296) (r % 65536)
@@ -16,14 +14,6 @@ module _ (r : ℕ) where
   pub found_fine : r < 1099511627776 → found r ≡ got.Fine (r % 65536) (r / 65536 % 8192) (r / 65536 / 8192)
   unfolding found
   found_fine h = rw (lt-ltb r 1099511627776 h)
-
-  pub spanned_refused : 1099511627776 ≤ r → spanned r ≡ span.Refused ((r - 1099511627776) / 65536 % 4294967296) (r % 65536)
-  unfolding spanned
-  spanned_refused h = rw (le-ltb r 1099511627776 h)
-
-  pub spanned_fine : r < 1099511627776 → spanned r ≡ span.Fine (r % 8192) (r / 8192)
-  unfolding spanned
-  spanned_fine h = rw (lt-ltb r 1099511627776 h)
 
 module _ (r n p : ℕ) (near : p < 65536) (e : (r ≡ 1099511627776 + n * 65536 + p) × (n < 4294967296)) where
   high : 1099511627776 ≤ r
@@ -40,9 +30,6 @@ module _ (r n p : ℕ) (near : p < 65536) (e : (r ≡ 1099511627776 + n * 65536 
   pub refused_found : found r ≡ got.Refused n p
   refused_found = found_refused r high ∙ ap₂ got.Refused number_is place_is
 
-  pub refused_spanned : spanned r ≡ span.Refused n p
-  refused_spanned = spanned_refused r high ∙ ap₂ span.Refused number_is place_is
-
 -- A number made of two, the second below 65,536.
 two : (r m a : ℕ) → a < 65536 → r ≡ m * 65536 + a → (r % 65536 ≡ a) × (r / 65536 ≡ m)
 two r m a h e = (omega arith, omega arith)
@@ -54,6 +41,3 @@ fine_found r at terms boxes a t b e =
     let y : (boxes * 8192 + terms) % 8192 ≡ terms = omega arith in
     let z : (boxes * 8192 + terms) / 8192 ≡ boxes = omega arith in
     found_fine r (omega arith) ∙ rw (x.0, x.1, y, z)
-
-pub counted_spanned : (r terms boxes : ℕ) → terms < 8192 → boxes < 256 → r ≡ boxes * 8192 + terms → spanned r ≡ span.Fine terms boxes
-counted_spanned r terms boxes t b e = spanned_fine r (omega arith) ∙ ap₂ span.Fine (omega arith) (omega arith)

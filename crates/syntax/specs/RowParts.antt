@@ -1,5 +1,6 @@
 -- What the parts of the row judge's code answer. No rule of the language is stated here.
-use Rattle.std.specs.Prelude.{ℕ, suc, ◌+◌, ◌*◌, ◌-◌, ◌/◌, ◌%◌, ◌≤◌, ◌<◌, ◌≡◌, Bool, true, false, not, ◌&&◌, List, [], ◌∷◌, length, get_or, drop, leb, ltb, eqb}
+use Rattle.std.specs.Prelude.{ℕ, suc, ◌+◌, ◌*◌, ◌-◌, ◌≤◌, ◌<◌, ◌≡◌, Bool, true, false, not, ◌&&◌, List, [], ◌∷◌, length, get_or, drop, leb, ltb, eqb, MatchResult}
+use Rattle.std.specs.Prelude as prelude
 use Rattle.std.specs.Int.Bits.{bit_or}
 use Rattle.syntax.specs.Result.{Result, ok, err, Refusal, pick, ◌>>=◌}
 use Rattle.syntax.specs.Limits.{Limits, in_ranges, row_numbers}
@@ -10,6 +11,10 @@ use Rattle.syntax.specs.Reader.{Cursor, term, several, decode_in}
 use Rattle.syntax.specs.Measures.{size}
 use Rattle.syntax.specs.Answers.{given_whole}
 use Rattle.syntax.specs.Parts.{cursor, known_in, fields_of}
+use Rattle.syntax.specs.KindNumbers.{number_in}
+use Rattle.syntax.specs.Refusals.{number_of}
+use Rattle.syntax.specs.declared.kinds.Kind as code
+use Rattle.syntax.specs.declared.refusals.Reason.{Reason}
 
 -- Field k of row i.
 abbrev pub field_at : List ℕ → ℕ → ℕ → ℕ
@@ -47,6 +52,10 @@ row_number l v levels outer rows i boxes =
     (pick (fields_fit (fields_of l kind) (fields_at rows i)) 0
     14))))))
 
+-- The code's answer to a row: its kind where the number is 0, or the refusal with that number.
+abbrev pub RowJudged : ℕ → ℕ → prelude.Result code.Kind Reason → Type 0
+RowJudged number b r = MatchResult r (λ k. (number ≡ 0) × (number_in k ≡ b)) (λ e. (number ≡ number_of e) × (0 < number_of e))
+
 -- What the row judge asks of the rows, of the row to judge, and of the boxes met so far.
 pub record RowsReady (l : Limits) (rows : List ℕ) (i boxes : ℕ) : Type 0 where
   pub ranges : in_ranges l ≡ true
@@ -77,17 +86,12 @@ unfoldable pub given_terms : Limits → ℕ → List ℕ → Result Refusal ℕ
 given_terms l v rows = given_whole l v rows >>= λ s. ok (size s.term)
 
 -- The row past what was judged, with the boxes met so far; or the refusal and its row.
-pub data Span : Type 0 where
-  Fine : ℕ → ℕ → Span
-  Refused : ℕ → ℕ → Span
-
--- What the row judge's number stands for.
-unfoldable pub spanned : ℕ → Span
-spanned r = pick (ltb r 1099511627776) (Fine (r % 8192) (r / 8192)) (Refused ((r - 1099511627776) / 65536 % 4294967296) (r % 65536))
+abbrev pub Span : Type 0
+Span = Result Refusal (ℕ × ℕ)
 
 unfoldable pub span_of : {A : Type 0} → Result Refusal (A × Cursor) → Span
-span_of (ok o) = Fine o.1.terms o.1.boxes
-span_of (err e) = Refused e.0 e.1
+span_of (ok o) = ok (o.1.terms, o.1.boxes)
+span_of (err e) = err e
 
 -- The bits of b and of every number of the list.
 unfoldable pub bits_of : ℕ → List ℕ → ℕ

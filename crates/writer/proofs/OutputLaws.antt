@@ -2,36 +2,66 @@
 use Prim.Native.Nat.{ℕ, zero, suc, ◌+◌, ◌*◌, ◌/◌, ◌%◌, ◌≤◌, ◌<◌}
 use native.Mathlib.Omega.{arith}
 use native.Mathlib.Numerals.{add-one}
-use mathlib.Core.Path.{◌≡◌, sym, ap, ◌∙◌}
-use mathlib.Core.Logic.{◌⊎◌, inl, inr, ⊎_elim}
+use mathlib.Core.Path.{◌≡◌, refl, sym, ap, ◌∙◌}
+use mathlib.Core.Logic.{◌⊎◌, ⊎_elim}
 use mathlib.Core.List.{List, [], ◌∷◌, ◌++◌, append-nil, append_assoc}
 use lib.ListN.{length, get_or, drop, length-append}
-use lib.Seq.{sets, length-sets, get_or-drop}
+use lib.Seq.{sets, get_or-drop}
 use borrow.Author.Tests.{ne_eqb}
+use Rattle.syntax.specs.KindNumbers.{number_in}
+use Rattle.syntax.specs.Parts.{IsKind}
+use Rattle.syntax.specs.declared.kinds.Kind as code
+use Rattle.syntax.specs.declared.kinds.Kind.TheVariants as kind
 use Rattle.writer.specs.OutputParts.{row_bytes, bytes_at, flat, script_from}
 use Rattle.syntax.proofs.Lists.{sets_append}
 
 -- The bytes of a row, by its kind.
-module _ (k a b c d : ℕ) where
-  pub word_bytes : k ≡ 1 → row_bytes k a b c d ≡ k % 256 ∷ a / 16777216 % 256 ∷ a / 65536 % 256 ∷ a / 256 % 256 ∷ a % 256 ∷ []
-  unfolding row_bytes
-  word_bytes e = rw e
+module _ (j : code.Kind) (k a b c d : ℕ) (is : number_in j ≡ k) where
+  at : (m : code.Kind) → j ≡ m → (xs : List ℕ) → row_bytes (number_in m) a b c d ≡ number_in m % 256 ∷ xs → row_bytes k a b c d ≡ k % 256 ∷ xs
+  at m e xs q = rw (← is, e) q
 
-  pub one_bytes : (k ≡ 2) ⊎ ((k ≡ 8) ⊎ (k ≡ 11)) → row_bytes k a b c d ≡ k % 256 ∷ a % 256 ∷ []
+  pub word_bytes : j ≡ kind.Number → row_bytes k a b c d ≡ k % 256 ∷ a / 16777216 % 256 ∷ a / 65536 % 256 ∷ a / 256 % 256 ∷ a % 256 ∷ []
   unfolding row_bytes
-  one_bytes h = ⊎_elim (λ e. rw e) (λ h. ⊎_elim (λ e. rw e) (λ e. rw e) h) h
+  word_bytes e = at kind.Number e _ refl
 
-  pub none_bytes : k ≡ 7 → row_bytes k a b c d ≡ k % 256 ∷ []
+  pub one_bytes : (j ≡ kind.Reading) ⊎ ((j ≡ kind.Let) ⊎ (j ≡ kind.Block)) → row_bytes k a b c d ≡ k % 256 ∷ a % 256 ∷ []
   unfolding row_bytes
-  none_bytes e = rw e
+  one_bytes h = ⊎_elim (λ e. at kind.Reading e _ refl) (λ h. ⊎_elim (λ e. at kind.Let e _ refl) (λ e. at kind.Block e _ refl) h) h
 
-  pub places_bytes : (k ≡ 10) ⊎ (k ≡ 13) → row_bytes k a b c d ≡ k % 256 ∷ a % 256 ∷ b % 256 ∷ c % 256 ∷ d % 256 ∷ []
+  pub none_bytes : j ≡ kind.Box → row_bytes k a b c d ≡ k % 256 ∷ []
   unfolding row_bytes
-  places_bytes h = ⊎_elim (λ e. rw e) (λ e. rw e) h
+  none_bytes e = at kind.Box e _ refl
 
-  pub place_bytes : (k ≡ 1 → ⊥) → ((k ≡ 2) ⊎ ((k ≡ 8) ⊎ (k ≡ 11)) → ⊥) → (k ≡ 7 → ⊥) → ((k ≡ 10) ⊎ (k ≡ 13) → ⊥) → row_bytes k a b c d ≡ k % 256 ∷ a % 256 ∷ b % 256 ∷ []
+  pub places_bytes : (j ≡ kind.Below) ⊎ (j ≡ kind.Sum) → row_bytes k a b c d ≡ k % 256 ∷ a % 256 ∷ b % 256 ∷ c % 256 ∷ d % 256 ∷ []
   unfolding row_bytes
-  place_bytes n1 n2 n7 n10 = rw (ne_eqb k 1 n1, ne_eqb k 2 (λ e. n2 (inl e)), ne_eqb k 7 n7, ne_eqb k 8 (λ e. n2 (inr (inl e))), ne_eqb k 10 (λ e. n10 (inl e)), ne_eqb k 11 (λ e. n2 (inr (inr e))), ne_eqb k 13 (λ e. n10 (inr e)))
+  places_bytes h = ⊎_elim (λ e. at kind.Below e _ refl) (λ e. at kind.Sum e _ refl) h
+
+  pub five_bytes : (j ≡ kind.Number) ⊎ ((j ≡ kind.Below) ⊎ (j ≡ kind.Sum)) → length (row_bytes k a b c d) ≡ 5
+  five_bytes h = ⊎_elim (λ e. ap length (word_bytes e)) (λ e. ap length (places_bytes e)) h
+
+  pub place_bytes : (j ≡ kind.Number → ⊥) → (j ≡ kind.Below → ⊥) → (j ≡ kind.Sum → ⊥) → (j ≡ kind.Reading → ⊥) → (j ≡ kind.Let → ⊥) → (j ≡ kind.Block → ⊥) → (j ≡ kind.Box → ⊥) → row_bytes k a b c d ≡ k % 256 ∷ a % 256 ∷ b % 256 ∷ []
+  unfolding row_bytes
+  place_bytes n1 n10 n13 n2 n8 n11 n7 = rw (← is) (go j n1 n10 n13 n2 n8 n11 n7)
+    where
+      go : (j : code.Kind) → (j ≡ kind.Number → ⊥) → (j ≡ kind.Below → ⊥) → (j ≡ kind.Sum → ⊥) → (j ≡ kind.Reading → ⊥) → (j ≡ kind.Let → ⊥) → (j ≡ kind.Block → ⊥) → (j ≡ kind.Box → ⊥) → row_bytes (number_in j) a b c d ≡ number_in j % 256 ∷ a % 256 ∷ b % 256 ∷ []
+      go kind.Number n1 n10 n13 n2 n8 n11 n7 = absurd (n1 refl)
+      go kind.Reading n1 n10 n13 n2 n8 n11 n7 = absurd (n2 refl)
+      go kind.Copy n1 n10 n13 n2 n8 n11 n7 = refl
+      go kind.Move n1 n10 n13 n2 n8 n11 n7 = refl
+      go kind.Shared n1 n10 n13 n2 n8 n11 n7 = refl
+      go kind.Exclusive n1 n10 n13 n2 n8 n11 n7 = refl
+      go kind.Box n1 n10 n13 n2 n8 n11 n7 = absurd (n7 refl)
+      go kind.Let n1 n10 n13 n2 n8 n11 n7 = absurd (n8 refl)
+      go kind.Assign n1 n10 n13 n2 n8 n11 n7 = refl
+      go kind.Below n1 n10 n13 n2 n8 n11 n7 = absurd (n10 refl)
+      go kind.Block n1 n10 n13 n2 n8 n11 n7 = absurd (n11 refl)
+      go kind.Choice n1 n10 n13 n2 n8 n11 n7 = refl
+      go kind.Sum n1 n10 n13 n2 n8 n11 n7 = absurd (n13 refl)
+
+-- A number that is no kind's is taken as one with a place.
+pub other_bytes : (k a b c d : ℕ) → (IsKind k → ⊥) → row_bytes k a b c d ≡ k % 256 ∷ a % 256 ∷ b % 256 ∷ []
+unfolding row_bytes
+other_bytes k a b c d n = rw (ne_eqb k 1 (λ e. n (omega arith, omega arith)), ne_eqb k 2 (λ e. n (omega arith, omega arith)), ne_eqb k 7 (λ e. n (omega arith, omega arith)), ne_eqb k 8 (λ e. n (omega arith, omega arith)), ne_eqb k 10 (λ e. n (omega arith, omega arith)), ne_eqb k 11 (λ e. n (omega arith, omega arith)), ne_eqb k 13 (λ e. n (omega arith, omega arith)))
 
 -- The bytes of one row more.
 at_next : (rs : List ℕ) (i : ℕ) → bytes_at (drop 5 rs) i ≡ bytes_at rs (suc i)
@@ -74,9 +104,6 @@ module _ (rs : List ℕ) (i : ℕ) where
   pub row_put : (o₀ o o' : List ℕ) (at : ℕ) → at ≡ 5 + length (flat i rs) → o ≡ sets o₀ 5 (flat i rs) → o' ≡ sets o at (bytes_at rs i) → o' ≡ sets o₀ 5 (flat (i + 1) rs)
   row_put o₀ o o' at e p q =
       q ∙ ap (λ (x : List ℕ). sets x at (bytes_at rs i)) p ∙ sets_append o₀ 5 (flat i rs) (bytes_at rs i) at e ∙ ap (sets o₀ 5) (sym row_next)
-
-  pub rows_kept : (o₀ o : List ℕ) → o ≡ sets o₀ 5 (flat i rs) → length o ≡ length o₀
-  rows_kept o₀ o e = ap length e ∙ length-sets o₀ 5 (flat i rs)
 
   -- After the last row.
   module _ (n : ℕ) (most : i ≤ n) (all : n ≤ i) where

@@ -1,29 +1,38 @@
 -- `reader::judge_given` meets its contract: the outermost term, and then what stands after it. Assumes nothing.
 use native.Mathlib.Omega.{arith}
 use mathlib.Core.Path.{sym, ◌∙◌}
-use Rattle.syntax.proofs.PackedLaws.{spanned_refused, spanned_fine}
-use Rattle.row_judge.proofs.RowSpans.{Words}
-use Rattle.row_judge.proofs.DueBlock.{due_refused, due_same}
-use Rattle.reader.proofs.RowsJudged.{judged_refused, judged_fit, judged_left, judged_count}
+use Rattle.std.proofs.lemmas.Result.{err_from_is_err_and}
+use Rattle.syntax.specs.Limits.{row_numbers}
+use Rattle.syntax.proofs.Ranges.{ranged}
+use Rattle.row_judge.proofs.RowSpans.{told_err}
+use Rattle.row_judge.proofs.DueBlock.{due_refused}
+use Rattle.reader.proofs.RowsJudged.{judged_refused, block_refused, judged_fit, judged_left, judged_count}
 use Rattle.reader.proofs.judge_given.Goals as goal
 
-pub no_block-requires : goal.no_block-requires
-no_block-requires c = omega arith
-
 pub returns-then-no_block : goal.returns-then-no_block
-returns-then-no_block c = judged_refused _ _ _ c.requires.1 _ _ (due_refused _ _ _ _ 0 0 c.requires.1 (omega arith) (sym c.no_block.ensures ∙ c.if-no_block.true))
+returns-then-no_block c = judged_refused _ _ _ c.requires.1 _ (due_refused _ _ _ _ 0 0 c.requires.1 (omega arith) (sym c.no_block.ensures ∙ c.if-no_block.true))
 
-pub judge_block-span-requires : goal.judge_block-span-requires
-judge_block-span-requires c = (record { ranges = c.requires.0; full = c.requires.1; near = omega arith; few = omega arith }, omega arith)
+pub judge_block-requires : goal.judge_block-requires
+judge_block-requires c = (record { ranges = c.requires.0; full = c.requires.1; near = omega arith; few = omega arith }, omega arith)
 
-pub returns-then-span-ge-REFUSED : goal.returns-then-span-ge-REFUSED
-returns-then-span-ge-REFUSED c = let q = sym (spanned_refused _ c.if-span-ge-REFUSED.true) ∙ c.judge_block-span.ensures ∙ due_same _ _ _ _ 0 0 c.requires.1 (omega arith) (sym c.no_block.ensures ∙ c.if-no_block.false) in rw c.number_of.ensures (judged_refused _ _ _ c.requires.1 _ _ q)
+pub returns-in_err-judge_block : goal.returns-in_err-judge_block
+returns-in_err-judge_block c =
+    let p = err_from_is_err_and c.from_residual.result c.from_residual.ensures.1 in
+    told_err _ _ _ _ p.1 p.2 ∙ block_refused _ _ _ c.requires.1 (sym c.no_block.ensures ∙ c.if-no_block.false) _ c.in_err-judge_block.ensures
+
+pub overflow_mul-terms : goal.overflow_mul-terms
+unfolding row_numbers
+overflow_mul-terms c =
+    omega (arith, judged_fit _ _ _ c.requires.1 (λ j. (c.type_inv.rows j).fits) (sym c.no_block.ensures ∙ c.if-no_block.false) _ _ c.in_ok-judge_block.ensures, (ranged _ c.requires.0).terms)
 
 pub first_used-used-requires : goal.first_used-used-requires
-first_used-used-requires c = let words : Words c.args.rows.now = λ j. omega (arith, c.type_inv.rows j) in let q = sym (spanned_fine _ c.if-span-ge-REFUSED.false) ∙ c.judge_block-span.ensures ∙ due_same _ _ _ _ 0 0 c.requires.1 (omega arith) (sym c.no_block.ensures ∙ c.if-no_block.false) in omega (arith, judged_fit _ _ _ c.requires.1 words _ _ q, c.requires.1)
+first_used-used-requires c =
+    omega (arith, judged_fit _ _ _ c.requires.1 (λ j. (c.type_inv.rows j).fits) (sym c.no_block.ensures ∙ c.if-no_block.false) _ _ c.in_ok-judge_block.ensures, c.requires.1)
 
 pub returns-then-used-rows : goal.returns-then-used-rows
-returns-then-used-rows c = let words : Words c.args.rows.now = λ j. omega (arith, c.type_inv.rows j) in let q = sym (spanned_fine _ c.if-span-ge-REFUSED.false) ∙ c.judge_block-span.ensures ∙ due_same _ _ _ _ 0 0 c.requires.1 (omega arith) (sym c.no_block.ensures ∙ c.if-no_block.false) in judged_left _ _ _ c.requires.1 words _ _ q _ c.first_used-used.ensures (omega (arith, c.if-used-rows.true, c.requires.1))
+returns-then-used-rows c =
+    judged_left _ _ _ c.requires.1 (λ j. (c.type_inv.rows j).fits) (sym c.no_block.ensures ∙ c.if-no_block.false) _ _ c.in_ok-judge_block.ensures _ c.first_used-used.ensures (omega (arith, c.if-used-rows.true, c.requires.1))
 
 pub returns : goal.returns
-returns c = let words : Words c.args.rows.now = λ j. omega (arith, c.type_inv.rows j) in let q = sym (spanned_fine _ c.if-span-ge-REFUSED.false) ∙ c.judge_block-span.ensures ∙ due_same _ _ _ _ 0 0 c.requires.1 (omega arith) (sym c.no_block.ensures ∙ c.if-no_block.false) in judged_count _ _ _ c.requires.1 words _ _ q _ c.first_used-used.ensures (omega (arith, c.if-used-rows.false, c.requires.1))
+returns c =
+    judged_count _ _ _ c.requires.1 (λ j. (c.type_inv.rows j).fits) (sym c.no_block.ensures ∙ c.if-no_block.false) _ _ c.in_ok-judge_block.ensures _ c.first_used-used.ensures (omega (arith, c.if-used-rows.false, c.requires.1))

@@ -1,22 +1,22 @@
--- `row_judge::rows::all_zero` meets its contract: each field is tested in turn, as `fields_fit` does where no operand is left. Assumes nothing.
-use mathlib.Core.Path.{sym}
-use borrow.Author.Tests.{eq-eqb, ne_eqb}
+-- `row_judge::rows::all_zero` meets its contract: each field is tested, as `fields_fit` does where no operand is left. Assumes nothing.
+use Prim.Native.Nat.{ℕ}
+use mathlib.Core.Path.{◌≡◌, refl, ap, ◌∙◌}
+use mathlib.Core.Bool.{Bool, ◌&&◌}
+use mathlib.Core.List.{List, [], ◌∷◌}
+use lib.Dec.{eqb}
+use Rattle.std.proofs.Common.{rules, tests}
+use Rattle.std.specs.List.{list_all}
+use Rattle.std.proofs.lemmas.Iterator.{YieldsList-from_slice}
+use Rattle.std.proofs.lemmas.Iterator.Search.{all_from_yields_List}
 use Rattle.syntax.specs.RowParts.{fields_fit}
-use Rattle.syntax.proofs.RowFields.{and_true}
 use Rattle.row_judge.proofs.rows.all_zero.Goals as goal
 
-pub returns-then-a-ne0 : goal.returns-then-a-ne0
+zeros_fit : (xs : List ℕ) → list_all (λ x. eqb x 0) xs ≡ fields_fit [] xs
 unfolding fields_fit
-returns-then-a-ne0 c = rw (ne_eqb _ _ c.if-a-ne0.true)
+zeros_fit [] = refl
+zeros_fit (x ∷ xs) = ap (λ (b : Bool). eqb x 0 && b) (zeros_fit xs)
 
-pub returns-then-b-ne0 : goal.returns-then-b-ne0
-unfolding fields_fit
-returns-then-b-ne0 c = rw (eq-eqb _ _ c.before.if-a-ne0.false, ne_eqb _ _ c.if-b-ne0.true)
-
-pub returns-then-c-eq0 : goal.returns-then-c-eq0
-unfolding fields_fit
-returns-then-c-eq0 c = rw (eq-eqb _ _ c.before.before.if-a-ne0.false, eq-eqb _ _ c.before.if-b-ne0.false, eq-eqb _ _ c.if-c-eq0.true) (sym (and_true _))
-
-pub returns-else-c-eq0 : goal.returns-else-c-eq0
-unfolding fields_fit
-returns-else-c-eq0 c = rw (eq-eqb _ _ c.before.before.if-a-ne0.false, eq-eqb _ _ c.before.if-b-ne0.false, ne_eqb _ _ c.if-c-eq0.false)
+pub returns : goal.returns
+returns c =
+    all_from_yields_List (λ x. eqb x 0) _ _ _ c.all.ensures.ran (YieldsList-from_slice c.args.fields.now cc) (λ x b q k. search (rules, tests))
+    ∙ zeros_fit c.args.fields.now

@@ -1,16 +1,14 @@
 -- `row_judge::rows::one_fits` meets its contract. Assumes nothing.
-use borrow.Author.Tests.{lt-ltb, le-ltb, le-leb, lt-leb}
+use mathlib.Core.Path.{sym}
+use borrow.Author.Tests.{le-leb, lt-leb}
 use Rattle.syntax.specs.RowParts.{field_fits, fields_fit}
+use Rattle.syntax.proofs.RowFields.{and_true}
 use Rattle.row_judge.proofs.rows.one_fits.Goals as goal
 
-pub returns-then-a-low : goal.returns-then-a-low
+pub returns-then-low-operand : goal.returns-then-low-operand
 unfolding fields_fit field_fits
-returns-then-a-low c = rw (lt-leb _ _ c.if-a-low.true)
+returns-then-low-operand c = rw (le-leb _ _ c.if-low-operand.true) (sym (and_true _))
 
-pub returns-then-a-high : goal.returns-then-a-high
+pub returns-else-low-operand : goal.returns-else-low-operand
 unfolding fields_fit field_fits
-returns-then-a-high c = rw (le-leb _ _ c.before.before.if-a-low.false, lt-ltb _ _ c.before.if-a-high.true) c.all_zero.ensures
-
-pub returns-else-a-high : goal.returns-else-a-high
-unfolding fields_fit field_fits
-returns-else-a-high c = rw (le-leb _ _ c.before.if-a-low.false, le-ltb _ _ c.if-a-high.false)
+returns-else-low-operand c = rw (lt-leb _ _ c.if-low-operand.false)

@@ -8,8 +8,8 @@ use Rattle.row_judge.proofs.rows.place_fits.Goals as goal
 
 pub returns-then-root-variables : goal.returns-then-root-variables
 unfolding fields_fit field_fits
-returns-then-root-variables c = rw (leb-zero c.before.args.root, lt-ltb _ _ c.if-root-variables.true, leb-zero c.before.args.follows) (sym (and_true _))
+returns-then-root-variables c = rw (leb-zero c.args.root, lt-ltb _ _ c.if-root-variables.true, leb-zero c.args.follows) (sym (and_true _))
 
 pub returns-else-root-variables : goal.returns-else-root-variables
 unfolding fields_fit field_fits
-returns-else-root-variables c = rw (leb-zero c.before.args.root, le-ltb _ _ c.if-root-variables.false)
+returns-else-root-variables c = rw (leb-zero c.args.root, le-ltb _ _ c.if-root-variables.false)

@@ -1,40 +1,23 @@
 use native.Mathlib.Omega.{arith}
-use mathlib.Core.Path.{refl, ◌∙◌}
+use mathlib.Core.Path.{refl}
 use Rattle.writer.specs.OutputParts.{flat}
-use Rattle.writer.proofs.OutputLaws.{row_counted, row_fits, row_put, rows_kept, all_put}
+use Rattle.writer.proofs.OutputLaws.{row_counted, row_fits, row_put, all_put}
 use Rattle.writer.proofs.output.put_script.Goals as goal
 
-pub put_five-at-requires : goal.put_five-at-requires
-put_five-at-requires c = omega arith
-
-pub loop-left-init : goal.loop-left-init
+pub loop-row-init : goal.loop-row-init
 unfolding flat
-loop-left-init c = (omega arith, c.put_five-at.ensures.0, refl)
+loop-row-init c = record { place = c.put-at.ensures.0; put = refl }
 
 pub put_row_bytes-at-requires : goal.put_row_bytes-at-requires
 put_row_bytes-at-requires c =
     let a = c.args in
-    let loop = c.loop-left in
-    (omega arith, omega (arith, row_fits a.rows.now loop.i a.terms (omega arith), rows_kept _ _ _ _ loop.invariant.2, c.put_five-at.auto.output))
+    let l = c.loop-row in
+    (omega arith, omega (arith, row_fits a.rows.now l.row a.terms (omega arith), l.invariant.place, l.auto.output, c.put-at.auto.output))
 
-pub overflow_add-i : goal.overflow_add-i
-overflow_add-i c = omega arith
-
-pub overflow_sub-left : goal.overflow_sub-left
-overflow_sub-left c = omega arith
-
-pub loop-left-smaller : goal.loop-left-smaller
-loop-left-smaller c = omega arith
-
-pub loop-left-preserved : goal.loop-left-preserved
-loop-left-preserved c =
-    let loop = c.loop-left in
-    (omega arith, omega (arith, row_counted c.args.rows.now loop.i), row_put _ _ _ _ _ _ loop.invariant.1 loop.invariant.2 c.put_row_bytes-at.ensures.1)
-
-pub shape_of-output : goal.shape_of-output
-shape_of-output c = rows_kept _ _ _ _ c.loop-left.invariant.2 ∙ c.put_five-at.auto.output
+pub loop-row-preserved : goal.loop-row-preserved
+loop-row-preserved c =
+    let l = c.loop-row in
+    record { place = omega (arith, row_counted c.args.rows.now l.row, c.put_row_bytes-at.ensures.0); put = row_put _ _ _ _ _ _ l.invariant.place l.invariant.put c.put_row_bytes-at.ensures.1 }
 
 pub returns : goal.returns
-returns c =
-    let loop = c.loop-left in
-    all_put _ _ _ (omega arith) (omega arith) _ c.args.output.now _ _ c.put_five-at.ensures.1 loop.invariant.2
+returns c = all_put _ _ _ c.loop-row.auto.row-end c.loop-row-test.false _ c.args.output.now _ _ (rw c.to_be_bytes.ensures at c.put-at.ensures.1) c.loop-row.invariant.put

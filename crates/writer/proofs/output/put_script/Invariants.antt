@@ -6,8 +6,5 @@ use Rattle.writer.specs.OutputParts.{flat}
 use Rattle.writer.proofs.output.put_script.Given as goal
 
 -- `writer::output::put_script` meets its contract. The loop's invariant: after the mark and the version stand the bytes of the rows passed, up to `at`.
-abbrev pub invariant-loop-left : goal.invariant-loop-left
-invariant-loop-left l = (l.i + l.left ≡ l.terms) × (l.at ≡ 5 + length (flat l.i l.rows)) × (l.output ≡ sets l.initial.output 5 (flat l.i l.rows))
-
-abbrev pub decreases-loop-left : goal.decreases-loop-left
-decreases-loop-left l = l.left
+abbrev pub invariant-loop-row : goal.invariant-loop-row
+invariant-loop-row l = record { place : l.at ≡ 5 + length (flat l.row l.rows); put : l.output ≡ sets l.initial.output 5 (flat l.row l.rows) }

@@ -1,23 +1,23 @@
+-- `writer::output::row_length` meets its contract: each arm is a case of what a row of its kinds gives. Assumes nothing.
 use native.Mathlib.Omega.{arith}
-use borrow.Author.Rules.{rules}
-use mathlib.Core.Path.{◌≡◌, ap}
-use mathlib.Core.Logic.{◌⊎◌, ⊎_elim, inl, inr}
+use mathlib.Core.Path.{ap}
 use lib.ListN.{length}
-use Rattle.writer.proofs.OutputLaws.{word_bytes, one_bytes, none_bytes, places_bytes, place_bytes}
+use Rattle.writer.proofs.OutputLaws.{five_bytes, one_bytes, none_bytes, place_bytes, other_bytes}
 use Rattle.writer.proofs.output.row_length.Goals as goal
 
--- `writer::output::row_length` meets its contract: each arm is a case of what a row of its kinds gives.
-pub returns-in-1 : goal.returns-in-1
-returns-in-1 c = (λ a b x d. ⊎_elim (λ e. ap length (word_bytes _ a b x d e)) (λ e. ap length (places_bytes _ a b x d e)) c.in-1.is, omega arith)
-
-pub returns-in-2 : goal.returns-in-2
-returns-in-2 c = (λ a b x d. ap length (one_bytes _ a b x d c.in-2.is), omega arith)
-
-pub returns-in-7 : goal.returns-in-7
-returns-in-7 c = (λ a b x d. ap length (none_bytes _ a b x d c.in-7.is), omega arith)
-
 pub returns-in_default : goal.returns-in_default
-returns-in_default c =
-    let five : (c.args.kind ≡ 1) ⊎ ((c.args.kind ≡ 10) ⊎ (c.args.kind ≡ 13)) → ⊥ = search rules in
-    let two : (c.args.kind ≡ 2) ⊎ ((c.args.kind ≡ 8) ⊎ (c.args.kind ≡ 11)) → ⊥ = search rules in
-    (λ a b x d. ap length (place_bytes _ a b x d (λ e. five (inl e)) two (omega arith) (λ e. five (inr e))), omega arith)
+returns-in_default c = (λ a b x d. ap length (other_bytes _ a b x d c.in_default.ensures), omega arith)
+
+pub returns-in-Number : goal.returns-in-Number
+returns-in-Number c = (λ a b x d. five_bytes _ _ a b x d c.in-Ok.ensures c.in-Number.is, omega arith)
+
+pub returns-in-Reading : goal.returns-in-Reading
+returns-in-Reading c = (λ a b x d. ap length (one_bytes _ _ a b x d c.in-Ok.ensures c.in-Reading.is), omega arith)
+
+pub returns-in-Box : goal.returns-in-Box
+returns-in-Box c = (λ a b x d. ap length (none_bytes _ _ a b x d c.in-Ok.ensures c.in-Box.is), omega arith)
+
+pub returns-in_default-kind : goal.returns-in_default-kind
+returns-in_default-kind c =
+    let o = c.in_default-kind in
+    (λ a b x d. ap length (place_bytes _ _ a b x d c.in-Ok.ensures o.not-Number o.not-Below o.not-Sum o.not-Reading o.not-Let o.not-Block o.not-Box), omega arith)
