@@ -14,20 +14,15 @@ use Rattle.syntax.specs.Measures.{size}
 use Rattle.syntax.specs.Layout.{rows_of}
 use Rattle.syntax.specs.Within.{Within, Under}
 use Rattle.syntax.specs.RowTrees.{RowTree, tree_at}
-use Rattle.reader.specs.Outcomes.{told}
 use Rattle.syntax.specs.Answers.{rows_tree, judged_of}
-use Rattle.reader.specs.declared.Outcome.{Outcome}
-use Rattle.reader.specs.declared.Outcome.TheVariants as outcome
 use Rattle.syntax.proofs.Answers.{then}
 use Rattle.syntax.proofs.Lists.{under_all}
 use Rattle.syntax.proofs.RoundTrip.{decoded}
 use Rattle.syntax.proofs.RowTrees.{tree_stands}
 use Rattle.reader.proofs.Promise.{Decoded, tree_decoded}
 use Rattle.syntax.proofs.Ranges.{Ranged, ranged}
-use Rattle.rules.specs.declared.rules.Requirement.{Requirement}
-use Rattle.rules.specs.declared.rules.Requirement.TheVariants as requirement
+use Rattle.statics.specs.Rules.{Judged}
 use Rattle.statics.specs.Judge.{judge_script}
-use Rattle.rules.specs.RuleAnswers.{as_requirement}
 use Rattle.ownership.specs.Answers.{check_of}
 use Rattle.uses.specs.RowUses.{NamesBelow}
 use Rattle.term_judge.specs.JudgeRows.{script_at, EndsAt}
@@ -38,13 +33,13 @@ pub under_words : (rows : List ℕ) → ((i : ℕ) → Fits w32 (get_or rows i 0
 under_words rows h = under_all 4294967296 rows (λ i. omega (arith, h i))
 
 -- The reader refuses.
-pub rows_refused : (l : Limits) (rows : List ℕ) (o : Outcome) (n at : ℕ) → told o ≡ judged_of l rows → o ≡ outcome.Refused n at → err (n, at) ≡ check_of l rows
-unfolding told judged_of check_of ◌>>=◌
-rows_refused l rows o n at h q = go (rows_tree l rows) (rw q at h)
+pub rows_refused : (l : Limits) (rows : List ℕ) (x : Refusal) → err x ≡ judged_of l rows → err x ≡ check_of l rows
+unfolding judged_of check_of ◌>>=◌
+rows_refused l rows x h = go (rows_tree l rows) h
   where
-    go : (r : Result Refusal Term) → ◌≡◌ {A = Result Refusal ℕ} (err (n, at)) (r >>= λ t. ok (size t)) → ◌≡◌ {A = Result Refusal ℕ} (err (n, at)) (r >>= λ t. judge_script l.variables t >>= λ _. ok (size t))
-    go (ok t) z = let y : ◌≡◌ {A = ℕ} 0 1 = cc in absurd (omega arith)
-    go (err e) z = z
+    go : (r : Result Refusal Term) → err x ≡ (r >>= λ t. ok (size t)) → err x ≡ (r >>= λ t. judge_script l.variables t >>= λ _. ok (size t))
+    go (ok t) z = cc
+    go (err e) z = cc
 
 -- The reader counts n terms.
 module _ (l : Limits) (rows : List ℕ) (under : Under 4294967296 rows) (n : ℕ) (counted : judged_of l rows ≡ ok n) where
@@ -75,14 +70,14 @@ module _ (l : Limits) (rows : List ℕ) (under : Under 4294967296 rows) (n : ℕ
   script_names = subst (λ (k : ℕ). NamesBelow l.variables rows k) (sym script.3) (names_below l rows script.0 rows_decoded.0 script.4)
 
   -- The judge's answer is the check's, with the number of terms where it accepts.
-  judged : (r : Requirement) → as_requirement r ≡ script_at l.variables tree → (as_requirement r >>= λ _. ok n) ≡ check_of l rows
+  judged : (r : Judged (Unit {0})) → r ≡ script_at l.variables tree → (r >>= λ _. ok n) ≡ check_of l rows
   unfolding check_of script_at ◌>>=◌
   judged r e = rw (e, script.4, script.2) (ap (λ (k : ℕ). judge_script l.variables script.0 >>= λ _. ok k) script.3)
 
-  pub rules_accepted : (r : Requirement) → as_requirement r ≡ script_at l.variables tree → r ≡ requirement.Met → ok n ≡ check_of l rows
-  unfolding as_requirement ◌>>=◌
-  rules_accepted r e met = rw met at (judged r e)
+  pub rules_accepted : ok tt ≡ script_at l.variables tree → ok n ≡ check_of l rows
+  unfolding ◌>>=◌
+  rules_accepted e = judged (ok tt) e
 
-  pub rules_refused : (r : Requirement) → as_requirement r ≡ script_at l.variables tree → (m at : ℕ) → r ≡ requirement.Refused m at → err (m, at) ≡ check_of l rows
-  unfolding as_requirement ◌>>=◌
-  rules_refused r e m at p = rw p at (judged r e)
+  pub rules_refused : (x : Refusal) → err x ≡ script_at l.variables tree → err x ≡ check_of l rows
+  unfolding ◌>>=◌
+  rules_refused x e = judged (err x) e

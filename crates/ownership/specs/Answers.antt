@@ -1,17 +1,10 @@
 -- What `check` answers on every input (LANGUAGE 6.5).
 use Rattle.std.specs.Prelude.{ℕ, List}
-use Rattle.syntax.specs.Result.{Result, ok, err, Refusal, ◌>>=◌}
+use Rattle.syntax.specs.Result.{Result, ok, Refusal, ◌>>=◌}
 use Rattle.syntax.specs.Limits.{Limits}
 use Rattle.syntax.specs.Measures.{size}
 use Rattle.syntax.specs.Answers.{rows_tree}
 use Rattle.statics.specs.Judge.{judge_script}
-use Rattle.ownership.specs.declared.Checked.{Checked}
-use Rattle.ownership.specs.declared.Checked.TheVariants.{Accepted, Refused}
-
--- The number of terms, or the refusal and its place (LANGUAGE 5.2), for each case of the code's answer.
-unfoldable pub told_checked : Checked → Result Refusal ℕ
-told_checked (Accepted n) = ok n
-told_checked (Refused n p) = err (n, p)
 
 -- `check` (LANGUAGE 6.5): 74, 2, then 12 to 19, then 30 to 43 (5.7); for an accepted script (3.30) its number of terms.
 unfoldable pub check_of : Limits → List ℕ → Result Refusal ℕ

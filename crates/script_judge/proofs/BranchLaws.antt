@@ -4,18 +4,17 @@ use mathlib.Core.Path.{◌≡◌, refl, sym, ap, ◌∙◌, subst}
 use mathlib.Core.Option.{some}
 use mathlib.Core.List.{List, [], ◌∷◌, ◌++◌, append_assoc}
 use lib.ListN.{length, drop}
-use Rattle.syntax.specs.Result.{ok, err, ◌>>=◌}
+use Rattle.std.specs.Prelude as prelude
+use Rattle.syntax.specs.declared.refusals.Reason.{Reason}
+use Rattle.syntax.specs.declared.refusals.Refusal as refusals
+use Rattle.syntax.specs.Refusals.{number_of}
+use Rattle.syntax.specs.Result.{ok, err, Refusal, ◌>>=◌}
 use Rattle.syntax.specs.Script.{Term, block, choice}
 use Rattle.syntax.specs.Measures.{sizes}
 use Rattle.syntax.specs.RowParts.{field_at}
 use Rattle.syntax.specs.RowTrees.{place_at, RowTree, IsTree, block_at, tree_at}
 use Rattle.variables.specs.declared.table.Place.{Place}
-use Rattle.rules.specs.declared.rules.Readable.{Readable}
-use Rattle.rules.specs.declared.rules.Readable.TheVariants as readable
-use Rattle.variables.specs.declared.verdicts.Told.{Told}
-use Rattle.variables.specs.declared.verdicts.Value.{Value}
-use Rattle.variables.specs.declared.verdicts.Verdict.TheVariants as verdict
-use Rattle.term_judge.specs.declared.terms.JudgedTerm.{JudgedTerm}
+use Rattle.term_judge.specs.declared.terms.Judged as code
 use Rattle.statics.specs.Links.{Link}
 use Rattle.statics.specs.Environment.{Environment}
 use Rattle.statics.specs.Choice.{carried, joined}
@@ -25,11 +24,11 @@ use Rattle.statics.specs.Judge.{judge}
 use Rattle.statics.specs.Neat.{Neat, NeatValue, LetsBelow, LetsBelowAll}
 use Rattle.statics.specs.Met.{judge_branch}
 use Rattle.variables.specs.Table.{environment_of, SameLinks, as_place}
-use Rattle.variables.specs.Verdicts.{as_value, verdict_of, answered, Joins}
+use Rattle.variables.specs.Verdicts.{as_value, Verdict, answered, Joins}
 use Rattle.rules.specs.RuleAnswers.{NumberIs}
 use Rattle.choices.specs.Kept.{Stays}
 use Rattle.uses.specs.RowPlaces.{row_place}
-use Rattle.term_judge.specs.JudgeRows.{at_row, ended, judged_at, judge_at, judge_branches, branches_at}
+use Rattle.term_judge.specs.JudgeRows.{Ended, at_row, told_as, ended, judged_at, judge_at, judge_branches, branches_at}
 use Rattle.syntax.proofs.ChoiceRows.{tree_some, BlockRows, ChoiceRows, choice_rows}
 use Rattle.statics.proofs.Answers.{same_steps}
 use Rattle.statics.proofs.Slots.{live_carried}
@@ -37,7 +36,7 @@ use Rattle.statics.proofs.Finishing.{left_after_block}
 use Rattle.statics.proofs.SameLater.{SameLater, same_append, judged_alike}
 use Rattle.term_judge.proofs.TreeNames.{branch_is}
 use Rattle.term_judge.proofs.LaterLaws.{Follows}
-use Rattle.term_judge.proofs.JudgeLaws.{refused_ended, told_ended, refused_is, fine_is}
+use Rattle.term_judge.proofs.JudgeLaws.{told_ended, refused_is, fine_is}
 use Rattle.statics.proofs.NeatSteps.{Fine, Lived}
 use Rattle.statics.proofs.NeatBlocks.{neat_carried}
 use Rattle.statics.proofs.NeatJudged as neat
@@ -46,43 +45,43 @@ use Rattle.script_judge.proofs.ChoiceValues.{live_long, AsLong, same_value, link
 
 -- ---- one block
 
--- The block at row j has been judged from Γ, and accepted; ns is what comes after it.
-pub record Accepted (nv l : ℕ) (rows : List ℕ) (j : ℕ) (here : BlockRows nv l rows j) (level : ℕ) (ns : Unfinished) (Γ : Environment) (env : List ℕ) (r : JudgedTerm) (v : Value) : Type 0 where
-  pub stands : r.next ≡ here.end
-  pub judged : judge_branch nv here.terms j level ((finishing_all here.terms ++ naming []) ++ ns) Γ ≡ ok (environment_of env, as_value env v)
+-- The block at row j has been judged from Γ, and accepted, with that outcome; ns is what comes after it.
+pub record Accepted (nv l : ℕ) (rows : List ℕ) (j : ℕ) (here : BlockRows nv l rows j) (level : ℕ) (ns : Unfinished) (Γ : Environment) (o : Out × ℕ) : Type 0 where
+  pub stands : o.1 ≡ here.end
+  pub judged : judge_branch nv here.terms j level ((finishing_all here.terms ++ naming []) ++ ns) Γ ≡ ok o.0
   pub lets : LetsBelowAll nv here.terms
 
-module _ (nv l : ℕ) (rows : List ℕ) (j : ℕ) (here : BlockRows nv l rows j) (level : ℕ) (later : ℕ → Unfinished) (Γ : Environment) (env : List ℕ) (r : JudgedTerm) (e : ended env r ≡ judge_at nv (tree_at nv l rows j) level later Γ) (ns : Unfinished) (same : SameLater nv (later here.end) ns) where
+module _ (nv l : ℕ) (rows : List ℕ) (j : ℕ) (here : BlockRows nv l rows j) (level : ℕ) (later : ℕ → Unfinished) (Γ : Environment) (ns : Unfinished) (same : SameLater nv (later here.end) ns) where
   abbrev answer : Judged Out
   answer = judge_branch nv here.terms j level ((finishing_all here.terms ++ naming []) ++ ns) Γ
 
-  block_ended : ended env r ≡ at_row here.end answer
+  block_ended : (E : Ended) → E ≡ judge_at nv (tree_at nv l rows j) level later Γ → E ≡ at_row here.end answer
   unfolding judged_at judge finishing
-  block_ended = rw here.is at e ∙ ap (at_row here.end) (judged_alike nv (block j here.terms) level (later here.end) ns Γ same)
+  block_ended E e = rw here.is at e ∙ ap (at_row here.end) (judged_alike nv (block j here.terms) level (later here.end) ns Γ same)
 
   block_lets : LetsBelowAll nv here.terms
   unfolding LetsBelow
   block_lets = rw here.is at (tree_lets nv l rows j)
 
-  pub accepted : (v : Value) → verdict_of r.told ≡ verdict.Fine v → Accepted nv l rows j here level ns Γ env r v
-  accepted v fine =
-      let z = fine_is answer here.end env r block_ended v fine in
+  pub accepted : (o : Out × ℕ) → ok o ≡ judge_at nv (tree_at nv l rows j) level later Γ → Accepted nv l rows j here level ns Γ o
+  accepted o e =
+      let z = fine_is answer here.end o (block_ended _ e) in
       record { stands = z.1; judged = z.0; lets = block_lets }
 
-  not_accepted : (n : ℕ) → verdict_of r.told ≡ verdict.Refused n → answer ≡ err (n, r.next)
-  not_accepted n q = refused_is answer here.end env r block_ended n q
+  not_accepted : (x : Refusal) → err x ≡ judge_at nv (tree_at nv l rows j) level later Γ → answer ≡ err x
+  not_accepted x e = refused_is answer here.end x (block_ended _ e)
 
-module _ {nv l : ℕ} {rows : List ℕ} {j : ℕ} {here : BlockRows nv l rows j} {level : ℕ} {ns : Unfinished} {Γ : Environment} {env : List ℕ} {r : JudgedTerm} {v : Value} (N : Neat nv Γ level) (A : Accepted nv l rows j here level ns Γ env r v) where
-  both : Fine nv Γ (environment_of env) (as_value env v) level × Lived Γ (environment_of env)
-  both = neat.branch nv j here.terms (neat.neat_after_all nv here.terms) level ((finishing_all here.terms ++ naming []) ++ ns) Γ (environment_of env, as_value env v) A.lets A.judged N
+module _ {nv l : ℕ} {rows : List ℕ} {j : ℕ} {here : BlockRows nv l rows j} {level : ℕ} {ns : Unfinished} {Γ : Environment} {o : Out × ℕ} (N : Neat nv Γ level) (A : Accepted nv l rows j here level ns Γ o) where
+  both : Fine nv Γ o.0.0 o.0.1 level × Lived Γ o.0.0
+  both = neat.branch nv j here.terms (neat.neat_after_all nv here.terms) level ((finishing_all here.terms ++ naming []) ++ ns) Γ o.0 A.lets A.judged N
 
-  accepted_neat : Neat nv (environment_of env) level
+  accepted_neat : Neat nv o.0.0 level
   accepted_neat = both.0.neat
 
-  accepted_value : NeatValue (environment_of env) level (as_value env v)
+  accepted_value : NeatValue o.0.0 level o.0.1
   accepted_value = both.0.value
 
-  accepted_stays : Stays Γ (environment_of env)
+  accepted_stays : Stays Γ o.0.0
   accepted_stays = record { lives = both.0.lives; lived = λ x w q. (let k = both.1 x w q in (k.0, k.1)); taken = both.0.taken }
 
 -- ---- both
@@ -112,7 +111,7 @@ module _ (nv l : ℕ) (rows : List ℕ) (i : ℕ) (good : IsTree (tree_at nv l r
   pub first_ready : IsTree (inside (i + 1)) × (field_at rows (i + 1) 0 ≡ 11)
   first_ready = (tree_some _ both_blocks.first.is, both_blocks.first.kind)
 
-  module _ (level : ℕ) (later : ℕ → Unfinished) (follows : Follows nv later inside) (Γ : Environment) (env₁ : List ℕ) (one : JudgedTerm) (e₁ : ended env₁ one ≡ judge_at nv (inside (i + 1)) level later Γ) where
+  module _ (level : ℕ) (later : ℕ → Unfinished) (follows : Follows nv later inside) (Γ : Environment) where
     -- What comes after the second block, and after the first: the second block, then that.
     abbrev after_both : Unfinished
     after_both = later both_blocks.second.end
@@ -124,13 +123,13 @@ module _ (nv l : ℕ) (rows : List ℕ) (i : ℕ) (good : IsTree (tree_at nv l r
     unfolding finishing
     second_next = follows both_blocks.first.end (block both_blocks.first.end both_blocks.second.terms) both_blocks.second.end both_blocks.second.is
 
-    pub first_refused : (n : ℕ) → verdict_of one.told ≡ verdict.Refused n → ended env₁ one ≡ branches_at nv l rows i level later Γ
+    pub first_refused : (x : Refusal) → err x ≡ judge_at nv (inside (i + 1)) level later Γ → err x ≡ branches_at nv l rows i level later Γ
     unfolding judged_at judge_branches ◌>>=◌
-    first_refused n q = rw (refused_ended env₁ one n q, first_is, second_is, not_accepted nv (l - 1) rows (i + 1) both_blocks.first level later Γ env₁ one e₁ after_first second_next n q)
+    first_refused x e = rw (first_is, second_is, not_accepted nv (l - 1) rows (i + 1) both_blocks.first level later Γ after_first second_next x e)
 
-    module _ (N : Neat nv Γ level) (v : Value) (fine₁ : verdict_of one.told ≡ verdict.Fine v) where
-      first : Accepted nv (l - 1) rows (i + 1) both_blocks.first level after_first Γ env₁ one v
-      first = accepted nv (l - 1) rows (i + 1) both_blocks.first level later Γ env₁ one e₁ after_first second_next v fine₁
+    module _ (N : Neat nv Γ level) (env₁ : List ℕ) (one : code.Judged) (e₁ : ok (told_as env₁ one) ≡ judge_at nv (inside (i + 1)) level later Γ) where
+      first : Accepted nv (l - 1) rows (i + 1) both_blocks.first level after_first Γ (told_as env₁ one)
+      first = accepted nv (l - 1) rows (i + 1) both_blocks.first level later Γ after_first second_next (told_as env₁ one) e₁
 
       pub first_neat : Neat nv (environment_of env₁) level
       first_neat = accepted_neat N first
@@ -147,33 +146,32 @@ module _ (nv l : ℕ) (rows : List ℕ) (i : ℕ) (good : IsTree (tree_at nv l r
         pub second_start : Neat nv Γ₂ level
         second_start = subst (λ (Δ : Environment). Neat nv Δ level) (sym from) (neat_carried (environment_of env₁) N)
 
-        module _ (env₂ : List ℕ) (two : JudgedTerm) (e₂ : ended env₂ two ≡ judge_at nv (inside one.next) level later Γ₂) where
-          judged₂ : ended env₂ two ≡ judge_at nv (inside both_blocks.first.end) level later Γ₂
-          judged₂ = rw first.stands at e₂
+        judged₂ : (E : Ended) → E ≡ judge_at nv (inside one.next) level later Γ₂ → E ≡ judge_at nv (inside both_blocks.first.end) level later Γ₂
+        judged₂ E e = rw first.stands at e
 
-          pub second_refused : (n : ℕ) → verdict_of two.told ≡ verdict.Refused n → ended env₂ two ≡ branches_at nv l rows i level later Γ
-          unfolding judged_at judge_branches ◌>>=◌
-          second_refused n q =
-              let z = not_accepted nv (l - 1) rows both_blocks.first.end both_blocks.second level later Γ₂ env₂ two judged₂ after_both (λ x b. refl) n q in
-              rw (refused_ended env₂ two n q, first_is, second_is, first.judged, ← from, z)
+        pub second_refused : (x : Refusal) → err x ≡ judge_at nv (inside one.next) level later Γ₂ → err x ≡ branches_at nv l rows i level later Γ
+        unfolding judged_at judge_branches ◌>>=◌
+        second_refused x e =
+            let z = not_accepted nv (l - 1) rows both_blocks.first.end both_blocks.second level later Γ₂ after_both (λ y b. refl) x (judged₂ _ e) in
+            rw (first_is, second_is, first.judged, ← from, z)
 
-          module _ (w : Value) (fine₂ : verdict_of two.told ≡ verdict.Fine w) where
-            second : Accepted nv (l - 1) rows both_blocks.first.end both_blocks.second level after_both Γ₂ env₂ two w
-            second = accepted nv (l - 1) rows both_blocks.first.end both_blocks.second level later Γ₂ env₂ two judged₂ after_both (λ x b. refl) w fine₂
+        module _ (env₂ : List ℕ) (two : code.Judged) (e₂ : ok (told_as env₂ two) ≡ judge_at nv (inside one.next) level later Γ₂) where
+          second : Accepted nv (l - 1) rows both_blocks.first.end both_blocks.second level after_both Γ₂ (told_as env₂ two)
+          second = accepted nv (l - 1) rows both_blocks.first.end both_blocks.second level later Γ₂ after_both (λ y b. refl) (told_as env₂ two) (judged₂ _ e₂)
 
-            pub second_neat : Neat nv (environment_of env₂) level
-            second_neat = accepted_neat second_start second
+          pub second_neat : Neat nv (environment_of env₂) level
+          second_neat = accepted_neat second_start second
 
-            pub second_stays : Stays (carried Γ (environment_of env₁)) (environment_of env₂)
-            second_stays = subst (λ (Δ : Environment). Stays Δ (environment_of env₂)) from (accepted_stays second_start second)
+          pub second_stays : Stays (carried Γ (environment_of env₁)) (environment_of env₂)
+          second_stays = subst (λ (Δ : Environment). Stays Δ (environment_of env₂)) from (accepted_stays second_start second)
 
-            module _ (env₃ : List ℕ) (same : SameLinks env₂ env₃) where
-              first_value : as_value env₃ v ≡ as_value env₁ v
-              first_value = links_value env₂ env₃ same v ∙ same_value env₁ env₂ (as_long Γ env₁ env₂ first_stays second_stays) v level (accepted_value N first)
+          module _ (env₃ : List ℕ) (same : SameLinks env₂ env₃) where
+            first_value : as_value env₃ one.value ≡ as_value env₁ one.value
+            first_value = links_value env₂ env₃ same one.value ∙ same_value env₁ env₂ (as_long Γ env₁ env₂ first_stays second_stays) one.value level (accepted_value N first)
 
-              pub branches_fine : environment_of env₃ ≡ joined Γ (environment_of env₁) (environment_of env₂) → (t : Told) → Joins v w t → (out : JudgedTerm) → ((env : List ℕ) → ended env out ≡ at_row two.next (answered env i t)) → ended env₃ out ≡ branches_at nv l rows i level later Γ
-              unfolding judged_at judge_branches judge_choice ◌>>=◌
-              branches_fine j t J out E = told_ended _ _ _ _ _ E env₃ (J env₃ i) ∙ rw (second.stands, first_is, second_is, first.judged, ← from, second.judged, first_value, links_value env₂ env₃ same w, j)
+            pub branches_fine : environment_of env₃ ≡ joined Γ (environment_of env₁) (environment_of env₂) → (t : Verdict) → Joins one.value two.value t → (out : prelude.Result code.Judged refusals.Refusal) → ((env : List ℕ) → ended env out ≡ at_row two.next (answered env i t)) → ended env₃ out ≡ branches_at nv l rows i level later Γ
+            unfolding judged_at judge_branches judge_choice ◌>>=◌
+            branches_fine j t J out E = told_ended _ _ _ _ _ E env₃ (J env₃ i) ∙ rw (second.stands, first_is, second_is, first.judged, ← from, second.judged, first_value, links_value env₂ env₃ same two.value, j)
 
   -- ---- the choice
 
@@ -181,7 +179,7 @@ module _ (nv l : ℕ) (rows : List ℕ) (i : ℕ) (good : IsTree (tree_at nv l r
   chosen = choice i (place_at rows i 1) (i + 1) both_blocks.first.terms both_blocks.first.end both_blocks.second.terms
 
   -- Its place is judged first; none of the term has finished then.
-  module _ (p : Place) (is : p ≡ row_place rows i 1) (level : ℕ) (later : ℕ → Unfinished) (Γ : Environment) (r : Readable)
+  module _ (p : Place) (is : p ≡ row_place rows i 1) (level : ℕ) (later : ℕ → Unfinished) (Γ : Environment) (r : prelude.Result (Unit {0}) Reason)
       (e : (t : Term) (next : ℕ) → tree_at nv l rows i ≡ some (t, next) → NumberIs (judge_number nv (finishing t ++ later next) Γ i (as_place p)) i r) where
     abbrev left : Unfinished
     left = finishing chosen ++ later both_blocks.second.end
@@ -189,11 +187,11 @@ module _ (nv l : ℕ) (rows : List ℕ) (i : ℕ) (good : IsTree (tree_at nv l r
     place_judged : NumberIs (judge_number nv left Γ i (place_at rows i 1)) i r
     place_judged = rw is at (e chosen both_blocks.second.end both_blocks.is)
 
-    pub choice_refused : (n : ℕ) → r ≡ readable.Refused n → (t : Told) → verdict_of t ≡ verdict.Refused n → (env : List ℕ) → ended env (record { next = i; told = t }) ≡ judge_at nv (tree_at nv l rows i) level later Γ
+    pub choice_refused : (n : Reason) → r ≡ prelude.Err n → err (number_of n, i) ≡ judge_at nv (tree_at nv l rows i) level later Γ
     unfolding judged_at judge ◌>>=◌
-    choice_refused n q t h env =
-        let z : judge_number nv left Γ i (place_at rows i 1) ≡ err (n, i) = rw q at place_judged in
-        refused_ended env (record { next = i; told = t }) n h ∙ rw (both_blocks.is, z)
+    choice_refused n q =
+        let z : judge_number nv left Γ i (place_at rows i 1) ≡ err (number_of n, i) = rw q at place_judged in
+        rw (both_blocks.is, z)
 
     -- The blocks are judged with `inner` after them, which has the choice in it.
     module _ (inner : ℕ → Unfinished) (same : (next : ℕ) → SameLater nv (inner next) ((field_at rows i 1 ∷ []) ∷ later next)) where
@@ -220,8 +218,8 @@ module _ (nv l : ℕ) (rows : List ℕ) (i : ℕ) (good : IsTree (tree_at nv l r
           (judged_alike nv (block j vs) level within (own ++ ns) (carried Γ a.0) S ∙ ap (λ (ks : Unfinished). judge_branch nv vs j level ks (carried Γ a.0)) (sym d))
           (λ b q. refl)))
 
-      pub choice_met : (m : ℕ) → r ≡ readable.Rest m → (env : List ℕ) (out : JudgedTerm) → ended env out ≡ branches_at nv l rows i level inner Γ → ended env out ≡ judge_at nv (tree_at nv l rows i) level later Γ
+      pub choice_met : (u : Unit {0}) → r ≡ prelude.Ok u → (E : Ended) → E ≡ branches_at nv l rows i level inner Γ → E ≡ judge_at nv (tree_at nv l rows i) level later Γ
       unfolding judged_at
-      choice_met m q env out w =
+      choice_met u q E w =
           let z : judge_number nv left Γ i (place_at rows i 1) ≡ ok tt = rw q at place_judged in
           w ∙ rw (first_is, second_is, both_blocks.is) (ap (at_row both_blocks.second.end) (blocks_judged z))

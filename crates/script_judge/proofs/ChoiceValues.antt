@@ -6,9 +6,9 @@ use mathlib.Core.Option.{some}
 use mathlib.Core.List.{List, [], ◌∷◌}
 use lib.ListN.{length}
 use Rattle.syntax.specs.Script.{Place}
+use Rattle.std.specs.Prelude as value
 use Rattle.variables.specs.declared.roots.Roots.{Roots}
-use Rattle.variables.specs.declared.verdicts.Value.{Value}
-use Rattle.variables.specs.declared.verdicts.Value.TheVariants as value
+use Rattle.variables.specs.declared.verdicts.ValueType.{ValueType}
 use Rattle.statics.specs.Links.{Link, boxed, shared, exclusive}
 use Rattle.statics.specs.Environment.{Borrow, shared_of, exclusive_of, places, borrow_end, Variable, live}
 use Rattle.statics.specs.Neat.{Among, Holds, NeatValue}
@@ -48,17 +48,15 @@ module _ (env env' : List ℕ) (long : AsLong env env') where
       let R = H.recorded p (subst (λ (ps : List Place). Among p ps) (sym e) i) in
       long y R.variable R.is))
 
-  pub same_value : (v : Value) (level : ℕ) → NeatValue (environment_of env) level (as_value env v) → as_value env' v ≡ as_value env v
-  unfolding as_value
+  pub same_value : (v : value.Option ValueType) (level : ℕ) → NeatValue (environment_of env) level (as_value env v) → as_value env' v ≡ as_value env v
   same_value value.None level n = refl
-  same_value (value.Of t) level n =
+  same_value (value.Some t) level n =
       let ks = chain_of t.links in
       ap (λ (b : Borrow). some (type_of ks b)) (same_end_in ks t.roots level (n (type_of ks (end_in env ks t.roots)) refl))
 
 -- The links of no variable have changed.
-pub links_value : (env env' : List ℕ) → SameLinks env env' → (v : Value) → as_value env' v ≡ as_value env v
-unfolding as_value
+pub links_value : (env env' : List ℕ) → SameLinks env env' → (v : value.Option ValueType) → as_value env' v ≡ as_value env v
 links_value env env' same value.None = refl
-links_value env env' same (value.Of t) =
+links_value env env' same (value.Some t) =
     let ks = chain_of t.links in
     ap (λ (ps : List Place). some (type_of ks (borrow_end ks ps))) (same_roots 128 (has t.roots) (has t.roots) (long_at env') (long_at env) (left ks) (λ y. refl) (λ y h. ap (λ (k : ℕ). length (chain_of k)) (same y)))

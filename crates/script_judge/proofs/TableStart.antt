@@ -35,23 +35,23 @@ first_words (suc m) (suc w) (suc k) = first_words m w k
 part_length : (m w : ℕ) → w ≤ m → length {A = ℕ} (take w (replicate m 0)) ≡ w
 part_length m w h = length-take-le w (replicate m 0) (rw (length-replicate {A = ℕ} m 0) h)
 
--- The parts of two arrays for m variables that nv variables take.
-module _ (m nv : ℕ) (fits : nv ≤ m) where
+-- The parts of two arrays, of w words and of u, that nv variables take.
+module _ (w u nv : ℕ) (words : nv * 8 + 16 ≤ w) (fits : nv ≤ u) where
   abbrev table : List ℕ
-  table = take (nv * 8 + 16) (replicate (m * 8 + 16) 0)
+  table = take (nv * 8 + 16) (replicate w 0)
 
   abbrev uses : List ℕ
-  uses = take nv (replicate m 0)
+  uses = take nv (replicate u 0)
 
   pub table_long : nv * 8 + 16 ≡ length table
-  table_long = sym (part_length (m * 8 + 16) (nv * 8 + 16) (omega (arith, fits)))
+  table_long = sym (part_length w (nv * 8 + 16) words)
 
   pub uses_long : nv ≡ length uses
-  uses_long = sym (part_length m nv fits)
+  uses_long = sym (part_length u nv fits)
 
   -- What is asked of both before the script is judged.
-  pub tables_ready : m ≤ 128 → TableFor table nv × (environment_of table ≡ nothing_taken nv) × (length uses ≡ nv) × ((x : ℕ) → ◌≡◌ {A = ℕ} (get_or uses x 0) 0)
-  tables_ready most = ((sym table_long, omega (arith, fits, most), all_noted table zeros nv), all_free table zeros nv, sym uses_long, first_words m nv)
+  pub tables_ready : nv ≤ 128 → TableFor table nv × (environment_of table ≡ nothing_taken nv) × (length uses ≡ nv) × ((x : ℕ) → ◌≡◌ {A = ℕ} (get_or uses x 0) 0)
+  tables_ready most = ((sym table_long, most, all_noted table zeros nv), all_free table zeros nv, sym uses_long, first_words u nv)
     where
       zeros : (k : ℕ) → ◌≡◌ {A = ℕ} (get_or table k 0) 0
-      zeros = first_words (m * 8 + 16) (nv * 8 + 16)
+      zeros = first_words w (nv * 8 + 16)

@@ -1,10 +1,10 @@
 -- Terms that stand around one inner term: what comes before it, and what follows it, give the term's answer.
 use Prim.Native.Nat.{ℕ, ◌+◌, ◌-◌, ◌≤◌}
 use native.Mathlib.Omega.{arith}
-use mathlib.Core.Path.{◌≡◌, refl, sym, ◌∙◌, ap, fun_ext}
+use mathlib.Core.Path.{◌≡◌, refl, ◌∙◌, ap, fun_ext}
 use mathlib.Core.Logic.{⊎_elim}
 use mathlib.Core.Bool.{Bool, true, false}
-use mathlib.Core.Option.{none, some}
+use mathlib.Core.Option.{Option, none, some}
 use mathlib.Core.List.{List, [], ◌∷◌, ◌++◌, append_assoc}
 use Rattle.syntax.specs.Result.{ok, err, Refusal, need, ◌>>=◌}
 use Rattle.syntax.specs.Script.{Term, box, declare, assign}
@@ -13,24 +13,16 @@ use Rattle.syntax.specs.RowParts.{field_at}
 use Rattle.syntax.specs.RowTrees.{place_at, RowTree, IsTree, around, tree_at}
 use Rattle.syntax.proofs.KindBytes.{wrapping}
 use Rattle.syntax.proofs.RowTreeLaws.{has_room, box_is, let_number, let_is, assign_root, assign_is, wrapped_inner}
-use Rattle.rules.specs.declared.rules.Requirement.{Requirement}
-use Rattle.rules.specs.declared.rules.Requirement.TheVariants as requirement
-use Rattle.variables.specs.declared.verdicts.Value.{Value}
-use Rattle.variables.specs.declared.verdicts.Verdict.TheVariants as verdict
-use Rattle.statics.specs.Environment.{used, Environment, update, is_free}
+use Rattle.statics.specs.Environment.{used, Environment, Ty, update, is_free}
 use Rattle.statics.specs.Uses.{Unfinished, naming, finishing}
 use Rattle.statics.specs.Rules.{Judged, judge_box, judge_let, judge_assign}
 use Rattle.statics.specs.Judge.{judge}
-use Rattle.variables.specs.Table.{environment_of}
-use Rattle.rules.specs.RuleAnswers.{begun}
-use Rattle.variables.specs.Verdicts.{as_value, verdict_of}
-use Rattle.term_judge.specs.declared.terms.JudgedTerm.{JudgedTerm}
 use Rattle.uses.specs.RowUses.{row_names}
-use Rattle.term_judge.specs.JudgeRows.{at_row, ended, judged_at, judge_at, begin_at, rule_after, after_at}
+use Rattle.term_judge.specs.JudgeRows.{Ended, at_row, judged_at, judge_at, begin_at, rule_after, after_at}
 use Rattle.uses.specs.RowPlaces.{Wraps, AllWrap}
 use Rattle.statics.proofs.Finishing.{left_after}
-use Rattle.uses.proofs.FoundUses.{wrap_one, box_none}
-use Rattle.term_judge.proofs.JudgeLaws.{refused_ended, fine_ended, inner_step}
+use Rattle.uses.proofs.KindNames.{wrap_one, box_none}
+use Rattle.term_judge.proofs.JudgeLaws.{inner_step}
 
 -- What a let asks before its inner term.
 pub begin_ok : (b : Bool) (e : Refusal) (Γ Γ₀ : Environment) → (need b e >>= λ _. ok Γ) ≡ ok Γ₀ → (b ≡ true) × (Γ ≡ Γ₀)
@@ -55,15 +47,6 @@ unfolding judged_at judge need ◌>>=◌
 not_declared nv level i x later Γ a none h = absurd h
 not_declared nv level i x later Γ a (some t) h = rw a
 
-module _ (Γ : Environment) {r : Requirement} {j : Judged Environment} where
-  pub met_begun : r ≡ requirement.Met → begun Γ r ≡ j → j ≡ ok Γ
-  unfolding begun
-  met_begun q e = sym e ∙ rw q
-
-  pub refused_begun : {n at : ℕ} → r ≡ requirement.Refused n at → begun Γ r ≡ j → j ≡ err (n, at)
-  unfolding begun
-  refused_begun q e = sym e ∙ rw q
-
 -- The rule that follows, by kind.
 module _ (nv level : ℕ) (rows : List ℕ) (i : ℕ) (ns : Unfinished) where
   box_rule : field_at rows i 0 ≡ 7 → rule_after nv level rows i ns ≡ (λ o. judge_box nv o.0 i o.1)
@@ -78,28 +61,23 @@ module _ (nv level : ℕ) (rows : List ℕ) (i : ℕ) (ns : Unfinished) where
   unfolding rule_after
   assign_rule e = fun_ext λ o. rw e
 
--- The code's answer, after the inner term's.
-module _ (nv level : ℕ) (rows : List ℕ) (i : ℕ) (later : ℕ → Unfinished) (env : List ℕ) (inner : JudgedTerm) where
-  pub after_refused : (n : ℕ) → verdict_of inner.told ≡ verdict.Refused n → ended env inner ≡ after_at nv level rows i later (ended env inner)
+-- The answer E, after the inner term's: the state Γ and the value v, before row `next`.
+module _ (nv level : ℕ) (rows : List ℕ) (i : ℕ) (later : ℕ → Unfinished) (Γ : Environment) (v : Option Ty) (next : ℕ) (E : Ended) where
+  abbrev left : Unfinished
+  left = row_names rows i ∷ later next
+
+  after_fine : E ≡ at_row next (rule_after nv level rows i left (Γ, v)) → E ≡ after_at nv level rows i later (ok ((Γ, v), next))
   unfolding ◌>>=◌
-  after_refused n q = rw (refused_ended env inner n q)
+  after_fine w = w
 
-  module _ (v : Value) (fine : verdict_of inner.told ≡ verdict.Fine v) (env' : List ℕ) (out : JudgedTerm) where
-    abbrev left : Unfinished
-    left = row_names rows i ∷ later inner.next
+  pub after_box : field_at rows i 0 ≡ 7 → E ≡ at_row next (judge_box nv Γ i v) → E ≡ after_at nv level rows i later (ok ((Γ, v), next))
+  after_box k w = after_fine (rw (box_rule nv level rows i left k) w)
 
-    after_fine : ended env' out ≡ at_row inner.next (rule_after nv level rows i left (environment_of env, as_value env v)) → ended env' out ≡ after_at nv level rows i later (ended env inner)
-    unfolding ◌>>=◌
-    after_fine w = rw (fine_ended env inner v fine) w
+  pub after_let : field_at rows i 0 ≡ 8 → (x : ℕ) → x ≡ field_at rows i 1 → E ≡ at_row next (judge_let nv level Γ i x v) → E ≡ after_at nv level rows i later (ok ((Γ, v), next))
+  after_let k x ex w = after_fine (rw (let_rule nv level rows i left k, ← ex) w)
 
-    pub after_box : field_at rows i 0 ≡ 7 → ended env' out ≡ at_row inner.next (judge_box nv (environment_of env) i (as_value env v)) → ended env' out ≡ after_at nv level rows i later (ended env inner)
-    after_box k w = after_fine (rw (box_rule nv level rows i left k) w)
-
-    pub after_let : field_at rows i 0 ≡ 8 → (x : ℕ) → x ≡ field_at rows i 1 → ended env' out ≡ at_row inner.next (judge_let nv level (environment_of env) i x (as_value env v)) → ended env' out ≡ after_at nv level rows i later (ended env inner)
-    after_let k x ex w = after_fine (rw (let_rule nv level rows i left k, ← ex) w)
-
-    pub after_assign : Wraps nv rows i → (field_at rows i 0 ≡ 7 → ⊥) → (field_at rows i 0 ≡ 8 → ⊥) → ended env' out ≡ at_row inner.next (judge_assign nv left (environment_of env) i (place_at rows i 1) (as_value env v)) → ended env' out ≡ after_at nv level rows i later (ended env inner)
-    after_assign W a b w = after_fine (rw (assign_rule nv level rows i left (⊎_elim (λ k. absurd (a k)) (λ h. ⊎_elim (λ k. absurd (b k)) (λ k. k) h) (wrapping (field_at rows i 0) W.kind))) w)
+  pub after_assign : Wraps nv rows i → (field_at rows i 0 ≡ 7 → ⊥) → (field_at rows i 0 ≡ 8 → ⊥) → E ≡ at_row next (judge_assign nv left Γ i (place_at rows i 1) v) → E ≡ after_at nv level rows i later (ok ((Γ, v), next))
+  after_assign W a b w = after_fine (rw (assign_rule nv level rows i left (⊎_elim (λ k. absurd (a k)) (λ h. ⊎_elim (λ k. absurd (b k)) (λ k. k) h) (wrapping (field_at rows i 0) W.kind))) w)
 
 -- The last of those around.
 pub last_wraps : (nv : ℕ) (rows : List ℕ) (start i : ℕ) → start ≤ i → AllWrap nv rows start (i + 1 - start) → Wraps nv rows i

@@ -1,13 +1,14 @@
 -- The judge at a row: the rules' judge at the tree that stands there, and the row after it. No rule of the language is stated here.
 use Rattle.std.specs.Prelude.{ℕ, zero, suc, ◌+◌, ◌-◌, ◌<◌, ◌≡◌, List, [], ◌∷◌, ◌++◌, eqb}
 use Rattle.std.proofs.Math.Option.{Option, none, some}
+use Rattle.std.specs.Prelude as prelude
+use Rattle.syntax.specs.declared.refusals.Refusal.{Refusal}
+use Rattle.syntax.specs.Refusals.{told}
 use Rattle.syntax.specs.Result.{ok, err, pick, ◌>>=◌}
 use Rattle.syntax.specs.Script.{Place, Term, Terms}
 use Rattle.syntax.specs.Kinds.{Kind, k_number, k_reading, k_copy, k_move, k_shared, k_exclusive, k_box, k_let, k_assign, k_below, k_block, k_choice, k_sum}
 use Rattle.syntax.specs.RowParts.{field_at}
 use Rattle.syntax.specs.RowTrees.{place_at, RowTree, several_at, block_at, then_block, tree_at}
-use Rattle.variables.specs.declared.verdicts.Value.{Value}
-use Rattle.variables.specs.declared.verdicts.Verdict.TheVariants as verdict
 use Rattle.statics.specs.Environment.{used, Environment, Ty}
 use Rattle.statics.specs.Choice.{carried}
 use Rattle.statics.specs.Uses.{Unfinished, naming, finishing, finishing_all}
@@ -16,9 +17,9 @@ use Rattle.statics.specs.Judge.{judge, judges, judge_script}
 use Rattle.statics.specs.Neat.{Neat, NeatValue}
 use Rattle.statics.specs.Met.{judge_branch}
 use Rattle.variables.specs.Table.{environment_of, TableFor}
-use Rattle.variables.specs.Verdicts.{verdict_of, as_value, answered}
+use Rattle.variables.specs.Verdicts.{as_value}
 use Rattle.rules.specs.RuleAnswers.{begin_let}
-use Rattle.term_judge.specs.declared.terms.JudgedTerm.{JudgedTerm}
+use Rattle.term_judge.specs.declared.terms.Judged as code
 use Rattle.uses.specs.RowUses.{row_names, UsesFor}
 
 abbrev pub Ended : Type 0
@@ -27,9 +28,13 @@ Ended = Judged (Out × ℕ)
 abbrev pub at_row : ℕ → Judged Out → Ended
 at_row j r = r >>= λ o. ok (o, j)
 
--- The code's answer. After a refusal, `next` is the term that is refused.
-unfoldable pub ended : List ℕ → JudgedTerm → Ended
-ended env r = at_row r.next (answered env r.next r.told)
+-- What the code gives, with the table afterwards: the state and the value, and the row after the term.
+abbrev pub told_as : List ℕ → code.Judged → Out × ℕ
+told_as env o = ((environment_of env, as_value env o.value), o.next)
+
+-- The code's answer.
+abbrev pub ended : List ℕ → prelude.Result code.Judged Refusal → Ended
+ended env r = told (told_as env) r
 
 -- Where no tree stands the answer does not matter: the code asks that one does.
 unfoldable pub judged_at : {A : Type 0} → (A → ℕ → Judged Out) → RowTree A → Ended
@@ -57,11 +62,11 @@ rule_after nv level rows i ns o =
 abbrev pub after_at : ℕ → ℕ → List ℕ → ℕ → (ℕ → Unfinished) → Ended → Ended
 after_at nv level rows i later inner = inner >>= λ o. at_row o.1 (rule_after nv level rows i (row_names rows i ∷ later o.1) o.0)
 
--- What is asked of the table after the inner term: its state and the value are neat, and the number of a let is taken.
-pub record AfterReady (nv level : ℕ) (rows : List ℕ) (i : ℕ) (env : List ℕ) (inner : JudgedTerm) : Type 0 where
-  pub neat : (v : Value) → verdict_of inner.told ≡ verdict.Fine v → Neat nv (environment_of env) level
-  pub value : (v : Value) → verdict_of inner.told ≡ verdict.Fine v → NeatValue (environment_of env) level (as_value env v)
-  pub taken : (v : Value) → verdict_of inner.told ≡ verdict.Fine v → field_at rows i 0 ≡ 8 → environment_of env (field_at rows i 1) ≡ used
+-- What is asked of what the inner term gave: its state and the value are neat, and the number of a let is taken.
+pub record AfterReady (nv level : ℕ) (rows : List ℕ) (i : ℕ) (inner : Out × ℕ) : Type 0 where
+  pub neat : Neat nv inner.0.0 level
+  pub value : NeatValue inner.0.0 level inner.0.1
+  pub taken : field_at rows i 0 ≡ 8 → inner.0.0 (field_at rows i 1) ≡ used
 
 -- What is asked of the tables where a term, a block or a choice is judged at this level, with so many levels left below it.
 pub record Ready (nv level levels : ℕ) (rows env uses : List ℕ) : Type 0 where

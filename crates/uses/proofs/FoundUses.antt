@@ -1,37 +1,25 @@
--- What a row names by its kind, and the last uses as they are found row by row. Assumes nothing.
+-- The last uses, as they are found row by row. Assumes nothing.
 use Prim.Native.Nat.{ℕ, suc, ◌<◌, ◌≤◌}
 use native.Mathlib.Omega.{arith}
 use native.Mathlib.Decide.{ℕ_discrete, dec_lt}
 use mathlib.Core.Path.{◌≡◌, refl, sym, ap, ◌∙◌}
-use mathlib.Core.Logic.{◌⊎◌, inl, inr, ⊎_elim}
 use mathlib.Core.Bool.{Bool, true, false, false≢true}
-use mathlib.Core.Option.{Option, none, some}
+use mathlib.Core.Option.{some}
 use mathlib.Core.List.{List, [], ◌∷◌}
 use lib.Dec.{eqb}
 use lib.ListN.{length, get_or, set, length-set}
 use lib.Seq.{get_or-set_same, get_or-set_other}
 use borrow.Author.Tests.{eq-eqb, ne_eqb}
 use Rattle.syntax.specs.Result.{pick}
-use Rattle.syntax.specs.Kinds.{Kind, k_number, k_reading, k_copy, k_move, k_shared, k_exclusive, k_box, k_let, k_assign, k_below, k_block, k_choice, k_sum, newest, byte_of, kinds, among, kind_of, wraps_of}
-use Rattle.syntax.specs.RowParts.{field_at}
-use Rattle.syntax.proofs.KindBytes.{found, wrapping}
 use Rattle.statics.specs.Uses.{names}
+use Rattle.syntax.specs.declared.kinds.Kind.{Kind}
+use Rattle.syntax.specs.KindNumbers.{as_kind}
 use Rattle.uses.specs.RowUses.{names_of, row_names, UsesFor, NamesBelow}
 use Rattle.uses.proofs.EitherLaws.{swapped}
 use Rattle.uses.proofs.RowUseLaws.{first_named, named_one}
+use Rattle.uses.proofs.KindNames.{NamesFirst, NamesBoth, names_first, names_both}
 
--- ---- what a kind names
-
--- b says whether a term of kind k names the variable in field 1, whatever fields 1 and 3 hold.
-abbrev FirstNamed : ℕ → Bool → Type 0
-FirstNamed k b = (x y : ℕ) → b ≡ names (names_of (kind_of newest k) x y) x
-
--- The kinds that name the variable in field 1 only, and those that name the one in field 3 besides.
-abbrev OneNamed : ℕ → Type 0
-OneNamed k = ((3 ≤ k) × (k < 7)) ⊎ ((8 ≤ k) × (k < 10)) ⊎ (k ≡ 12)
-
-abbrev TwoNamed : ℕ → Type 0
-TwoNamed k = (k ≡ 10) ⊎ (k ≡ 13)
+-- ---- what a row names
 
 first_in : (x : ℕ) (ys : List ℕ) → names (x ∷ ys) x ≡ true
 first_in x ys = rw (first_named x ys x, eq-eqb x x refl)
@@ -39,70 +27,11 @@ first_in x ys = rw (first_named x ys x, eq-eqb x x refl)
 last_named : (x y z : ℕ) → names (x ∷ y ∷ []) z ≡ pick (eqb y z) true (names (x ∷ []) z)
 last_named x y z = rw (first_named x (y ∷ []) z, named_one y z, named_one x z) (swapped (eqb x z) (eqb y z))
 
--- The kinds that name the variable in field 1, in the order of their bytes.
-pub naming_kinds : FirstNamed 3 true × FirstNamed 4 true × FirstNamed 5 true × FirstNamed 6 true × FirstNamed 8 true × FirstNamed 9 true × FirstNamed 10 true × FirstNamed 12 true × FirstNamed 13 true
-unfolding names_of newest kind_of among kinds byte_of
-naming_kinds = (one, one, one, one, one, one, two, one, two)
-  where
-    one : (x y : ℕ) → true ≡ names (x ∷ []) x
-    one x y = sym (first_in x [])
+pub first_of : (k : Kind) (x y : ℕ) → NamesFirst k → names (names_of (some (as_kind k)) x y) x ≡ true
+first_of k x y h = rw (names_first k x y h) (first_in x [])
 
-    two : (x y : ℕ) → true ≡ names (x ∷ y ∷ []) x
-    two x y = sym (first_in x (y ∷ []))
-
-pub same_kind : {k m : ℕ} → k ≡ m → FirstNamed m true → FirstNamed k true
-same_kind q f x y = rw q (f x y)
-
-names_two : (k x y : ℕ) → TwoNamed k → names_of (kind_of newest k) x y ≡ x ∷ y ∷ []
-unfolding names_of newest kind_of among kinds byte_of
-names_two k x y (inl q) = rw q
-names_two k x y (inr q) = rw q
-
-pub two_in : (k x y : ℕ) → TwoNamed k → (names (names_of (kind_of newest k) x y) x ≡ true) × (names (names_of (kind_of newest k) x y) y ≡ true)
-two_in k x y t = (rw (names_two k x y t) (first_in x (y ∷ [])), rw (names_two k x y t, last_named x y y, eq-eqb y y refl))
-
--- A term names nothing, or the variable in field 1, or two.
-by_kind : (k x y : ℕ) → (names_of (kind_of newest k) x y ≡ []) ⊎ (OneNamed k × (names_of (kind_of newest k) x y ≡ x ∷ [])) ⊎ TwoNamed k
-unfolding names_of byte_of
-by_kind k x y = go (kind_of newest k) refl
-  where
-    go : (o : Option Kind) → kind_of newest k ≡ o → (names_of o x y ≡ []) ⊎ (OneNamed k × (names_of o x y ≡ x ∷ [])) ⊎ TwoNamed k
-    go none h = inl refl
-    go (some k_number) h = inl refl
-    go (some k_reading) h = inl refl
-    go (some k_copy) h = inr (inl (inl (omega (arith, found newest k k_copy h)), refl))
-    go (some k_move) h = inr (inl (inl (omega (arith, found newest k k_move h)), refl))
-    go (some k_shared) h = inr (inl (inl (omega (arith, found newest k k_shared h)), refl))
-    go (some k_exclusive) h = inr (inl (inl (omega (arith, found newest k k_exclusive h)), refl))
-    go (some k_box) h = inl refl
-    go (some k_let) h = inr (inl (inr (inl (omega (arith, found newest k k_let h))), refl))
-    go (some k_assign) h = inr (inl (inr (inl (omega (arith, found newest k k_assign h))), refl))
-    go (some k_below) h = inr (inr (inl (sym (found newest k k_below h))))
-    go (some k_block) h = inl refl
-    go (some k_choice) h = inr (inl (inr (inr (sym (found newest k k_choice h))), refl))
-    go (some k_sum) h = inr (inr (inr (sym (found newest k k_sum h))))
-
--- So no other kind names the variable in field 1.
-pub other_kinds : (k : ℕ) → (OneNamed k → ⊥) → (TwoNamed k → ⊥) → FirstNamed k false
-unfolding names
-other_kinds k a b x y = ⊎_elim (λ q. rw q) (λ h. absurd (⊎_elim (λ o. a o.0) b h)) (by_kind k x y)
-
--- What does not name the variable in field 1 names nothing.
-names_none : (k x y : ℕ) → names (names_of (kind_of newest k) x y) x ≡ false → names_of (kind_of newest k) x y ≡ []
-names_none k x y e = ⊎_elim (λ q. q) (λ h. absurd (false≢true (sym e ∙ ⊎_elim (λ o. rw o.1 (first_in x [])) (λ t. (two_in k x y t).0) h))) (by_kind k x y)
-
-names_one : (k x y : ℕ) → names (names_of (kind_of newest k) x y) x ≡ true → (TwoNamed k → ⊥) → names_of (kind_of newest k) x y ≡ x ∷ []
-unfolding names
-names_one k x y e n = ⊎_elim (λ q. absurd (false≢true (ap (λ (ys : List ℕ). names ys x) (sym q) ∙ e))) (λ h. ⊎_elim (λ o. o.1) (λ t. absurd (n t)) h) (by_kind k x y)
-
--- Of the kinds around one inner term a let and an assign name one variable, and a box none.
-pub wrap_one : (k x y : ℕ) → wraps_of k ≡ true → (k ≡ 7 → ⊥) → names_of (kind_of newest k) x y ≡ x ∷ []
-unfolding names_of newest kind_of among kinds byte_of
-wrap_one k x y w n = ⊎_elim (λ q. absurd (n q)) (λ h. ⊎_elim (λ q. rw q) (λ q. rw q) h) (wrapping k w)
-
-pub box_none : (k x y : ℕ) → k ≡ 7 → names_of (kind_of newest k) x y ≡ []
-unfolding names_of newest kind_of among kinds byte_of
-box_none k x y q = rw q
+pub both_of : (k : Kind) (x y : ℕ) → NamesBoth k → (names (names_of (some (as_kind k)) x y) x ≡ true) × (names (names_of (some (as_kind k)) x y) y ≡ true)
+both_of k x y h = (rw (names_both k x y h) (first_in x (y ∷ [])), rw (names_both k x y h, last_named x y y, eq-eqb y y refl))
 
 -- ---- marks
 
@@ -177,31 +106,24 @@ module _ (nv : ℕ) (rows : List ℕ) where
 
   -- ---- one row
 
-  -- Row i has kind k, and b says whether it names the variable in field 1.
-  module _ (terms : ℕ) (B : NamesBelow nv rows terms) (i k : ℕ) (ek : k ≡ field_at rows i 0) {b : Bool} (f : FirstNamed k b) where
-    abbrev first : ℕ
-    first = field_at rows i 1
+  -- What row i names is below the number of variables, and it is marked for them.
+  module _ (terms : ℕ) (B : NamesBelow nv rows terms) (i : ℕ) (uses uses' : List ℕ) (long : length uses ≡ nv) where
+    pub marked_none : row_names rows i ≡ [] → uses' ≡ uses → Marked i (row_names rows i) uses uses'
+    marked_none e q = rw (q, e) (none_marked i uses)
 
-    abbrev second : ℕ
-    second = field_at rows i 3
+    module _ (x : ℕ) where
+      pub one_below : row_names rows i ≡ x ∷ [] → x < nv
+      one_below e = B.below i x (rw e (first_in x []))
 
-    pub first_below : b ≡ true → first < nv
-    first_below e = B.below i first (rw (← ek) (sym (f first second) ∙ e))
+      one_marked : (v : ℕ) → v ≡ suc i → x < nv → Marked i (x ∷ []) uses (set uses x v)
+      one_marked v ev l = more_marked i x v ev [] (x ∷ []) (first_named x []) uses uses (omega (arith, l)) (none_marked i uses)
 
-    pub second_below : TwoNamed k → second < nv
-    second_below t = B.below i second (rw (← ek) (two_in k first second t).1)
+      pub marked_one : row_names rows i ≡ x ∷ [] → (v : ℕ) → v ≡ suc i → uses' ≡ set uses x v → Marked i (row_names rows i) uses uses'
+      marked_one e v ev q = rw (q, e) (one_marked v ev (one_below e))
 
-    module _ (uses uses' : List ℕ) (long : length uses ≡ nv) where
-      pub marked_none : b ≡ false → uses' ≡ uses → Marked i (row_names rows i) uses uses'
-      marked_none e q = rw (q, ← ek, names_none k first second (sym (f first second) ∙ e)) (none_marked i uses)
+      module _ (y : ℕ) (e : row_names rows i ≡ x ∷ y ∷ []) where
+        pub two_below : (x < nv) × (y < nv)
+        two_below = (B.below i x (rw e (first_in x (y ∷ []))), B.below i y (rw (e, last_named x y y, eq-eqb y y refl)))
 
-      module _ (x v : ℕ) (ex : x ≡ first) (ev : v ≡ suc i) (e : b ≡ true) where
-        one_marked : Marked i (x ∷ []) uses (set uses x v)
-        one_marked = more_marked i x v ev [] (x ∷ []) (first_named x []) uses uses (omega (arith, first_below e)) (none_marked i uses)
-
-        pub marked_one : (TwoNamed k → ⊥) → uses' ≡ set uses x v → Marked i (row_names rows i) uses uses'
-        marked_one n q = rw (q, ← ek, names_one k first second (sym (f first second) ∙ e) n, ← ex) one_marked
-
-        module _ (y w : ℕ) (ey : y ≡ second) (ew : w ≡ suc i) where
-          pub marked_two : TwoNamed k → uses' ≡ set (set uses x v) y w → Marked i (row_names rows i) uses uses'
-          marked_two t q = rw (q, ← ek, names_two k first second t, ← ex, ← ey) (more_marked i y w ew (x ∷ []) (x ∷ y ∷ []) (last_named x y) uses (set uses x v) (omega (arith, second_below t)) one_marked)
+        pub marked_two : (v : ℕ) → v ≡ suc i → uses' ≡ set (set uses x v) y v → Marked i (row_names rows i) uses uses'
+        marked_two v ev q = rw (q, e) (more_marked i y v ev (x ∷ []) (x ∷ y ∷ []) (last_named x y) uses (set uses x v) (omega (arith, two_below.1)) (one_marked v ev two_below.0))

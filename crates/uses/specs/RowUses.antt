@@ -1,11 +1,14 @@
 -- What rows name, and the terms that have not finished where the code stands (LANGUAGE 3.32, 3.33). No rule of the language is stated here.
-use Rattle.std.specs.Prelude.{ℕ, zero, suc, ◌+◌, ◌*◌, ◌≤◌, ◌<◌, ◌≡◌, Bool, true, List, [], ◌∷◌, length, get_or}
+use Rattle.std.specs.Prelude.{ℕ, zero, suc, ◌+◌, ◌*◌, ◌-◌, ◌≤◌, ◌<◌, ◌≡◌, Bool, true, List, [], ◌∷◌, length, get_or}
 use Rattle.std.proofs.Math.Option.{Option, none, some}
 use Rattle.syntax.specs.Result.{pick}
 use Rattle.syntax.specs.Kinds.{Kind, k_number, k_reading, k_copy, k_move, k_shared, k_exclusive, k_box, k_let, k_assign, k_below, k_block, k_choice, k_sum, newest, kind_of}
 use Rattle.syntax.specs.RowParts.{field_at}
 use Rattle.statics.specs.Uses.{Unfinished, naming, names, named_later}
+use Rattle.variables.specs.Masks.{has}
 use Rattle.bars.specs.Leading.{named_from}
+use Rattle.uses.specs.declared.script.Script.{Script}
+use Rattle.uses.specs.declared.script.Around.{Around}
 
 -- The variables that a term of the kind names, of those in fields 1 and 3 of its row.
 unfoldable pub names_of : Option Kind → ℕ → ℕ → List ℕ
@@ -62,3 +65,11 @@ later_in rows i (suc n) ns = row_names rows (i + n) ∷ later_in rows i n ns
 -- What a set and the n rows from i on name.
 abbrev pub named_with : List ℕ → ℕ → ℕ → (ℕ → Bool) → ℕ → Bool
 named_with rows i n named x = pick (named x) true (named_later (namings rows i n) x)
+
+-- What the terms around name.
+abbrev pub named_around : Script → Around → ℕ → Bool
+named_around s a = named_with s.rows.now a.start (a.end - a.start) (has a.named)
+
+-- What has not finished once the term inside those around has, which ends before row `next`.
+abbrev pub later_of : Script → Around → ℕ → Unfinished
+later_of s a next = later_in s.rows.now a.start (a.end - a.start) (later_at s.variables s.uses.now (has a.named) next)

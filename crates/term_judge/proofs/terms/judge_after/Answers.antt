@@ -1,62 +1,59 @@
 -- `term_judge::terms::judge_after` meets its contract. Assumes nothing.
-use Prim.Native.Nat.{ℕ, ◌-◌}
 use native.Mathlib.Omega.{arith}
-use mathlib.Core.Path.{sym, ◌∙◌}
-use Rattle.statics.specs.Uses.{Unfinished}
+use mathlib.Core.Path.{◌≡◌, sym, ap, ◌∙◌}
+use Rattle.syntax.specs.declared.kinds.Kind.{Kind}
+use Rattle.syntax.specs.declared.kinds.Kind.TheVariants as kind
+use Rattle.syntax.specs.KindNumbers.{number_in}
+use Rattle.syntax.specs.RowParts.{field_at}
 use Rattle.variables.specs.Masks.{has}
-use Rattle.uses.specs.RowUses.{later_at, later_in}
-use Rattle.uses.specs.RowPlaces.{Wraps}
+use Rattle.uses.specs.RowUses.{later_of}
+use Rattle.uses.proofs.KindNames.{wraps_kind, same_number}
 use Rattle.term_judge.proofs.LaterLaws.{after_later}
 use Rattle.term_judge.proofs.JudgeLaws.{told_ended}
-use Rattle.term_judge.proofs.AroundLaws.{after_refused, after_box, after_let, after_assign, last_wraps}
+use Rattle.term_judge.proofs.AroundLaws.{after_box, after_let, after_assign, last_wraps}
 use Rattle.term_judge.proofs.terms.judge_after.Goals as goal
-use Rattle.term_judge.proofs.terms.judge_after.Goals.{After-verdict_of-verdict}
+use Rattle.term_judge.proofs.terms.judge_after.Goals.{In-Ok, in-Box, in-Let, in_default-kind}
 
--- What has not finished once the term has.
-abbrev later : After-verdict_of-verdict → ℕ → Unfinished
-later s next = later_in s.args.rows.now s.args.start (s.args.i - s.args.start) (later_at s.args.variables s.args.uses.now (has s.args.named) next)
+pub field_at-requires : goal.field_at-requires
+field_at-requires c =
+    ((last_wraps _ _ _ _ c.requires.0 c.requires.1).room, omega arith)
 
-wraps : (s : After-verdict_of-verdict) → Wraps s.args.variables s.args.rows.now s.args.i
-wraps s = last_wraps _ _ _ _ s.requires.0 s.requires.1
+pub unreachable-requires : goal.unreachable-requires
+unreachable-requires c = c.in_default.ensures (wraps_kind _ (rw c.field_at.ensures (last_wraps _ _ _ _ c.requires.0 c.requires.1).kind))
 
-pub returns-in_default : goal.returns-in_default
-returns-in_default c =
-    (after_refused _ _ _ _ (later (goal.at.returns-in_default c).After-verdict_of-verdict) _ _ _ (sym c.verdict_of-verdict.ensures ∙ c.in_default.is), c.requires.2)
+-- Where the kind is known: what the row's number says of it.
+module _ (k : In-Ok) where
+  kind_number : (j : Kind) → k.in-Ok.kind ≡ j → field_at k.args.script.now.rows.now k.args.around.now.end 0 ≡ number_in j
+  kind_number j e =
+      let read : number_in k.in-Ok.kind ≡ k.field_at.result = k.in-Ok.ensures in
+      sym k.field_at.ensures ∙ sym read ∙ ap number_in e
 
-pub field_at-kind-requires : goal.field_at-kind-requires
-field_at-kind-requires c =
-    ((wraps (goal.at.field_at-kind-requires c).After-verdict_of-verdict).room, omega arith)
+  other_number : (j : Kind) → (k.in-Ok.kind ≡ j → ⊥) → field_at k.args.script.now.rows.now k.args.around.now.end 0 ≡ number_in j → ⊥
+  other_number j h q =
+      let read : number_in k.in-Ok.kind ≡ k.field_at.result = k.in-Ok.ensures in
+      h (same_number k.in-Ok.kind j (read ∙ k.field_at.ensures ∙ q))
 
 pub index_at-x-requires : goal.index_at-x-requires
 index_at-x-requires c =
-    ((wraps (goal.at.index_at-x-requires c).After-verdict_of-verdict).room, omega arith)
+    ((last_wraps _ _ _ _ c.requires.0 c.requires.1).room, omega arith)
 
-pub judge_let-requires : goal.judge_let-requires
-judge_let-requires c =
-    let fine = sym c.verdict_of-verdict.ensures ∙ c.in-Fine.is in
+pub judge_let-verdict-requires : goal.judge_let-verdict-requires
+judge_let-verdict-requires c =
     let ready = c.requires.4 in
-    let k = sym c.field_at-kind.ensures ∙ c.in-8.is in
+    let k = kind_number (goal.at.judge_let-verdict-requires c).In-Ok kind.Let c.in-Let.is in
     let x = c.index_at-x.ensures in
-    ((c.requires.2, (_, ready.neat _ fine)), omega (arith, x, (wraps (goal.at.judge_let-requires c).After-verdict_of-verdict).number (λ e. absurd (omega (arith, k, e)))), rw x (ready.taken _ fine k), ready.value _ fine)
+    ((c.requires.2, (_, ready.neat)), omega (arith, x, (last_wraps _ _ _ _ c.requires.0 c.requires.1).number (λ e. absurd (omega (arith, k, e)))), rw x (ready.taken k), ready.value)
 
-pub judge_assign-told-requires : goal.judge_assign-told-requires
-judge_assign-told-requires c =
-    let fine = sym c.verdict_of-verdict.ensures ∙ c.in-Fine.is in
-    ((c.requires.2, (_, c.requires.4.neat _ fine)), c.requires.3, c.requires.0, c.requires.1, (wraps (goal.at.judge_assign-told-requires c).After-verdict_of-verdict).number (λ e. omega (arith, c.field_at-kind.ensures)))
+pub judge_assign-verdict-requires : goal.judge_assign-verdict-requires
+judge_assign-verdict-requires c =
+    ((c.requires.2, (_, c.requires.4.neat)), c.requires.3, c.requires.0, c.requires.1, (last_wraps _ _ _ _ c.requires.0 c.requires.1).number (other_number (goal.at.judge_assign-verdict-requires c).In-Ok kind.Box c.in_default-kind.not-Box))
 
-pub returns-in-7 : goal.returns-in-7
-returns-in-7 c =
-    let fine = sym c.verdict_of-verdict.ensures ∙ c.in-Fine.is in
-    (after_box _ _ _ _ (later (goal.at.returns-in-7 c).After-verdict_of-verdict) _ _ _ fine _ _ (sym c.field_at-kind.ensures ∙ c.in-7.is) (told_ended _ _ _ _ _ c.judged_term.ensures _ (c.judge_box.ensures _ _ _)), c.requires.2)
-
-pub returns-in-8 : goal.returns-in-8
-returns-in-8 c =
-    let fine = sym c.verdict_of-verdict.ensures ∙ c.in-Fine.is in
-    (after_let _ _ _ _ (later (goal.at.returns-in-8 c).After-verdict_of-verdict) _ _ _ fine _ _ (sym c.field_at-kind.ensures ∙ c.in-8.is) _ c.index_at-x.ensures (told_ended _ _ _ _ _ c.judged_term-in-8.ensures _ (c.judge_let.ensures.0 _)), c.judge_let.ensures.1)
-
-pub returns-in_default-kind : goal.returns-in_default-kind
-returns-in_default-kind c =
-    let fine = sym c.verdict_of-verdict.ensures ∙ c.in-Fine.is in
-    let k = c.field_at-kind.ensures in
-    let assigned = c.judge_assign-told.ensures.0 _ (after_later _ c.args.rows.now c.args.uses.now (has c.args.named) _ _ c.requires.0 c.args.inner.next) in
-    (after_assign _ _ _ _ (later (goal.at.returns-in_default-kind c).After-verdict_of-verdict) _ _ _ fine _ _ (wraps (goal.at.returns-in_default-kind c).After-verdict_of-verdict) (λ e. omega (arith, k)) (λ e. omega (arith, k)) (told_ended _ _ _ _ _ c.judged_term-in_default-kind.ensures _ assigned), c.judge_assign-told.ensures.1)
+pub returns : goal.returns
+returns c =
+    let later = later_of c.args.script.now c.args.around.now in
+    let k = (goal.at.returns c).In-Ok in
+    (elim c.match-kind.branch [
+      | in-Box w ↦ (after_box _ _ _ _ later _ _ _ _ (kind_number k kind.Box w.in-Box.is) (told_ended _ _ _ _ _ c.judged_term.ensures _ (rw (w.verdict-is, w.env-is) (w.judge_box-verdict.ensures _ _ _))), rw w.env-is c.requires.2)
+      | in-Let w ↦ (after_let _ _ _ _ later _ _ _ _ (kind_number k kind.Let w.in-Let.is) _ w.index_at-x.ensures (told_ended _ _ _ _ _ c.judged_term.ensures _ (rw (w.verdict-is, w.env-is) (w.judge_let-verdict.ensures.0 _))), rw w.env-is w.judge_let-verdict.ensures.1)
+      | in_default-kind w ↦ (after_assign _ _ _ _ later _ _ _ _ (last_wraps _ _ _ _ c.requires.0 c.requires.1) (other_number k kind.Box w.in_default-kind.not-Box) (other_number k kind.Let w.in_default-kind.not-Let) (told_ended _ _ _ _ _ c.judged_term.ensures _ (rw (w.verdict-is, w.env-is) (w.judge_assign-verdict.ensures.0 _ (after_later _ c.args.script.now.rows.now c.args.script.now.uses.now (has c.args.around.now.named) _ _ c.requires.0 c.args.inner.next)))), rw w.env-is w.judge_assign-verdict.ensures.1)
+    ])
