@@ -29,7 +29,7 @@ use Rattle.dynamics.specs.Locate.{number_in}
 use Rattle.dynamics.specs.Run.{Outcome, run, run_script}
 use Rattle.dynamics.specs.Encode.{encode}
 use Rattle.dynamics.specs.Answers.{answered, refused, faulted, AnswerAndStore, run_fits, runnable, ran_into, run_into, unchecked_of}
-use Rattle.machine.specs.Outcomes.{told_unchecked}
+use Rattle.machine.specs.Outcomes.{old_told}
 use Rattle.dynamics.specs.Readings.{bits_of}
 use Rattle.store.specs.Words.{value_of, store_of}
 use Rattle.store.specs.StoreParts.{state_at, since}
@@ -110,8 +110,8 @@ module _ (set : Limits) where
   refused_rows readings w (err e) n p q = let z : ◌≡◌ {A = Refusal} (n, p) e = cc in ap (λ (x : Refusal). (refused x.0 x.1, w)) z
 
   module _ (rows : List ℕ) (readings : List ℤ) (w : List ℕ) where
-    pub unfit_refused : (n : ℕ) → run_fits set rows readings w ≡ err (n, 0) → ◌≡◌ {A = AnswerAndStore} (told_unchecked (out.Refused n 0), w) (unchecked_of set rows readings w)
-    unfolding told_unchecked unchecked_of run_into runnable ◌>>=◌
+    pub unfit_refused : (n : ℕ) → run_fits set rows readings w ≡ err (n, 0) → ◌≡◌ {A = AnswerAndStore} (old_told (out.Refused n 0), w) (unchecked_of set rows readings w)
+    unfolding old_told unchecked_of run_into runnable ◌>>=◌
     unfit_refused n e = rw e
 
     module _ (i : in_ranges set ≡ true) (a : length rows ≡ row_numbers set) (b : length w ≡ store_numbers set) (c : length readings ≡ 8) where
@@ -124,8 +124,8 @@ module _ (set : Limits) where
       judged_decoded = rw (i, eq-eqb (length rows) (row_numbers set) a)
 
       -- The rows are refused.
-      pub rows_refused : (n p : ℕ) → told (judgement.Refused n p) ≡ judged_of set rows → ◌≡◌ {A = AnswerAndStore} (told_unchecked (out.Refused n p), w) (unchecked_of set rows readings w)
-      unfolding told_unchecked unchecked_of told
+      pub rows_refused : (n p : ℕ) → told (judgement.Refused n p) ≡ judged_of set rows → ◌≡◌ {A = AnswerAndStore} (old_told (out.Refused n p), w) (unchecked_of set rows readings w)
+      unfolding old_told unchecked_of told
       rows_refused n p q = go (decode set rows) (q ∙ judged_decoded) ∙ ap (run_into set readings w) (sym runs_decoded)
         where
           go : (m : Result Refusal Term) → ◌≡◌ {A = Result Refusal ℕ} (err (n, p)) (m >>= λ t. ok (size t)) → ◌≡◌ {A = AnswerAndStore} (refused n p, w) (run_into set readings w m)
@@ -220,17 +220,17 @@ module _ (set : Limits) where
           ran = term_ran.is 0 (omega arith) ∙ ap (λ (S : Store). run_at readings (tree_at set.variables set.levels rows 0) (record { store = S; taken = 0; opened = [] })) closed_now
 
           -- A fault of a term.
-          pub script_faults : (r.fault ≡ 0 → ⊥) → ◌≡◌ {A = AnswerAndStore} (told_unchecked (out.Faulted r.fault r.term), w₃) (unchecked_of set rows readings w)
-          unfolding script_ran told_unchecked
+          pub script_faults : (r.fault ≡ 0 → ⊥) → ◌≡◌ {A = AnswerAndStore} (old_told (out.Faulted r.fault r.term), w₃) (unchecked_of set rows readings w)
+          unfolding script_ran old_told
           script_faults n = tree_faults readings w₃ b.tidy.words (tree_at set.variables set.levels rows 0) g.is r.fault r.term (sym (stood_stops set w₃ opened₂ 0 r n) ∙ ran) ∙ run_is rows readings w ready words
 
           module _ (n : r.fault ≡ 0) where
             -- The answer is no number.
-            pub script_wrong : (r.kind ≡ 1 → ⊥) → ◌≡◌ {A = AnswerAndStore} (told_unchecked (out.Faulted 61 0), w₃) (unchecked_of set rows readings w)
-            unfolding script_ran told_unchecked
+            pub script_wrong : (r.kind ≡ 1 → ⊥) → ◌≡◌ {A = AnswerAndStore} (old_told (out.Faulted 61 0), w₃) (unchecked_of set rows readings w)
+            unfolding script_ran old_told
             script_wrong k = tree_wrong readings w₃ b.tidy.words opened₂ r (tree_at set.variables set.levels rows 0) g.is (sym (stood_goes set w₃ opened₂ 0 r n) ∙ ran) k ∙ run_is rows readings w ready words
 
             -- The answer.
-            pub script_answers : r.kind ≡ 1 → (a : ℤ) → a ≡ to_z w32 r.payload → ◌≡◌ {A = AnswerAndStore} (told_unchecked (out.Answered a r.taken), w₃) (unchecked_of set rows readings w)
-            unfolding script_ran told_unchecked
+            pub script_answers : r.kind ≡ 1 → (a : ℤ) → a ≡ to_z w32 r.payload → ◌≡◌ {A = AnswerAndStore} (old_told (out.Answered a r.taken), w₃) (unchecked_of set rows readings w)
+            unfolding script_ran old_told
             script_answers k a ea = rw ea ((tree_answers readings w₃ b.tidy.words opened₂ r (tree_at set.variables set.levels rows 0) g.is (sym (stood_goes set w₃ opened₂ 0 r n) ∙ ran) k) ∙ run_is rows readings w ready words)

@@ -1,7 +1,7 @@
 -- What the code that runs a whole script answers. No rule of the language is stated here.
 use Rattle.std.specs.Prelude.{ℕ, ◌≤◌, ◌≡◌, true, List, eqb, ℤ, length}
 use Rattle.std.proofs.Math.Option.{none, some}
-use Rattle.syntax.specs.Result.{ok, pick}
+use Rattle.syntax.specs.Result.{Result, Refusal, need, ok, pick, ◌>>=◌}
 use Rattle.syntax.specs.Limits.{Limits, in_ranges, row_numbers, store_numbers}
 use Rattle.syntax.specs.Script.{Term, number}
 use Rattle.syntax.specs.Answers.{judged_of}
@@ -44,3 +44,10 @@ pub record RunReady (set : Limits) (rows : List ℕ) (readings : List ℤ) (w : 
   pub judged : judged_of set rows ≡ ok terms
   pub eight : length readings ≡ 8
   pub size : length w ≡ store_numbers set
+
+unfoldable pub fit_of : Limits → ℕ → ℕ → ℕ → Result Refusal (Unit {0})
+fit_of l rows store readings =
+    need (in_ranges l) (74, 0) >>= λ _.
+    need (eqb rows (row_numbers l)) (2, 0) >>= λ _.
+    need (eqb store (store_numbers l)) (3, 0) >>= λ _.
+    need (eqb readings 8) (4, 0)

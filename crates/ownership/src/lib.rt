@@ -3,10 +3,12 @@
 
 ghost use Rattle.std.specs.Prelude.{◌≡◌};
 ghost use Rattle.syntax.specs.Result.{ok};
+ghost use Rattle.syntax.specs.Refusals.{told as result_told};
 ghost use Rattle.syntax.specs.Answers.{judged_of};
 ghost use Rattle.ownership.specs.Answers.{told_checked, check_of};
 
-use reader::{Outcome, judge_rows};
+use reader::{Outcome, old_judge_rows};
+use syntax::refusals::Refusal;
 use rules::rules::Requirement;
 use script_judge::tables::judge_alone;
 use syntax::limits::Limits;
@@ -20,7 +22,7 @@ pub enum Checked {
 
 // Check (LANGUAGE 6.5), without 74, 2 and 12 to 19: of rows that were judged already, within the set and as so many
 // terms.
-pub fn check_judged(set: Limits, rows: &[u32], terms: usize) -> Checked
+pub fn old_check_judged(set: Limits, rows: &[u32], terms: usize) -> Checked
     requires { judged_of set rows.now ≡ ok terms }
     ensures { told_checked result ≡ check_of set rows.now }
 {
@@ -34,12 +36,35 @@ pub fn check_judged(set: Limits, rows: &[u32], terms: usize) -> Checked
 }
 
 // Check (LANGUAGE 6.5): 74, 2 and 12 to 19 by the reader, then 30 to 43 by the ownership rules (5.7).
-pub fn check(set: Limits, rows: &[u32]) -> Checked
+pub fn old_check(set: Limits, rows: &[u32]) -> Checked
     ensures { told_checked result ≡ check_of set rows.now }
 {
-    let outcome = judge_rows(set, rows);
+    let outcome = old_judge_rows(set, rows);
     match outcome {
         Outcome::Refused(number, row) => Checked::Refused(number, row),
-        Outcome::Count(terms) => check_judged(set, rows, terms),
+        Outcome::Count(terms) => old_check_judged(set, rows, terms),
     }
+}
+
+#[tactic(auto, unfolding(crate::specs::Answers::told_checked))]
+fn counted(outcome: Checked) -> Result<usize, Refusal>
+    ensures { result_told (λ n. n) result ≡ told_checked outcome }
+{
+    match outcome {
+        Checked::Accepted(n) => Ok(n),
+        Checked::Refused(number, place) => Err(reader::refusal(number, place)),
+    }
+}
+
+pub fn check_judged(set: Limits, rows: &[u32], terms: usize) -> Result<usize, Refusal>
+    requires { judged_of set rows.now ≡ ok terms }
+    ensures { result_told (λ n. n) result ≡ check_of set rows.now }
+{
+    counted(old_check_judged(set, rows, terms))
+}
+
+pub fn check(set: Limits, rows: &[u32]) -> Result<usize, Refusal>
+    ensures { result_told (λ n. n) result ≡ check_of set rows.now }
+{
+    counted(old_check(set, rows))
 }

@@ -3,7 +3,8 @@
 #![tactic(auto)]
 
 ghost use Rattle.std.specs.Prelude.{◌≡◌};
-ghost use Rattle.reader.specs.Outcomes.{told, told_read};
+ghost use Rattle.reader.specs.Outcomes.{told, told_read, script_told};
+ghost use Rattle.syntax.specs.Refusals.{refusal_of, told as result_told};
 ghost use Rattle.syntax.specs.Answers.{read_of, judged_of, length_of, written_of};
 ghost use Rattle.syntax.specs.Limits.{unpacked, version_of};
 ghost use Rattle.script_reader.specs.Lent.{RowsFor};
@@ -12,6 +13,7 @@ ghost use Rattle.syntax.specs.RowParts.{judged_in, given_terms};
 use row_judge::rows::{first_used, judge_block, no_block};
 use script_reader::script::{clear_from, read_script};
 use syntax::limits::{Limits, in_ranges, row_numbers};
+use syntax::refusals::{Reason, Refusal};
 use syntax::{kinds, limits, packed};
 use writer::output;
 
@@ -32,7 +34,7 @@ pub enum ReadOutcome {
 
 // Read (LANGUAGE 6.2): a script into term rows, its version and the number of terms. `newest` is the newest version
 // that the caller knows. Every refusal but the caller's 74, 1 and 2 leaves all rows 0.
-pub fn read(set: Limits, newest: u32, script: &[u8], rows: &mut [u32]) -> ReadOutcome
+pub fn old_read(set: Limits, newest: u32, script: &[u8], rows: &mut [u32]) -> ReadOutcome
     ensures { (told_read result, rows.new) ≡ read_of set newest script.now rows.old }
 {
     if !in_ranges(set) {
@@ -101,14 +103,14 @@ fn judge_in_version(set: Limits, version: u32, rows: &[u32]) -> Outcome
 
 // Judge rows (LANGUAGE 6.3) that the caller made, of any version: the number of terms, or 74, 2, 12 to 19. The newest
 // version has the kinds of all.
-pub fn judge_rows(set: Limits, rows: &[u32]) -> Outcome
+pub fn old_judge_rows(set: Limits, rows: &[u32]) -> Outcome
     ensures { told result ≡ judged_of set rows.now }
 {
     judge_in_version(set, kinds::NEWEST, rows)
 }
 
 // Length (LANGUAGE 6.4): how many bytes `write` fills, from all that it is given but the output; or its refusal, 5 aside.
-pub fn length(set: Limits, version: u32, rows: &[u32]) -> Outcome
+pub fn old_length(set: Limits, version: u32, rows: &[u32]) -> Outcome
     ensures { told result ≡ length_of set version rows.now }
 {
     let judged = judge_in_version(set, version, rows);
@@ -121,7 +123,7 @@ pub fn length(set: Limits, version: u32, rows: &[u32]) -> Outcome
 // Write (LANGUAGE 6.4): the script of rows with the kinds of a version at the front of the output, and its length; or
 // the refusal, with the output unchanged. The length is worked out from the rows, and each row is then written in its
 // place: no copy of the script is kept. 5 comes after the rows (5.8).
-pub fn write(set: Limits, version: u32, rows: &[u32], output: &mut [u8]) -> Outcome
+pub fn old_write(set: Limits, version: u32, rows: &[u32], output: &mut [u8]) -> Outcome
     ensures { (told result, output.new) ≡ written_of set version rows.now output.old }
 {
     let judged = judge_in_version(set, version, rows);
@@ -134,4 +136,57 @@ pub fn write(set: Limits, version: u32, rows: &[u32], output: &mut [u8]) -> Outc
     }
     output::put_script(version, rows, terms, output);
     Outcome::Count(bytes)
+}
+
+#[derive(Clone, Copy, Debug, PartialEq, Eq)]
+pub struct Script {
+    pub version: u32,
+    pub terms: usize,
+}
+
+pub fn refusal(number: u32, place: usize) -> Refusal
+    ensures { refusal_of result ≡ (number, place) }
+{
+    Refusal {
+        reason: Reason::Other(number),
+        place,
+    }
+}
+
+#[tactic(auto, unfolding(crate::specs::Outcomes::told))]
+fn counted(outcome: Outcome) -> Result<usize, Refusal>
+    ensures { result_told (λ n. n) result ≡ told outcome }
+{
+    match outcome {
+        Outcome::Count(n) => Ok(n),
+        Outcome::Refused(number, place) => Err(refusal(number, place)),
+    }
+}
+
+#[tactic(auto, unfolding(crate::specs::Outcomes::told_read))]
+pub fn read(set: Limits, newest: u32, script: &[u8], rows: &mut [u32]) -> Result<Script, Refusal>
+    ensures { (result_told script_told result, rows.new) ≡ read_of set newest script.now rows.old }
+{
+    match old_read(set, newest, script, rows) {
+        ReadOutcome::Script(version, terms) => Ok(Script { version, terms }),
+        ReadOutcome::Refused(number, place) => Err(refusal(number, place)),
+    }
+}
+
+pub fn judge_rows(set: Limits, rows: &[u32]) -> Result<usize, Refusal>
+    ensures { result_told (λ n. n) result ≡ judged_of set rows.now }
+{
+    counted(old_judge_rows(set, rows))
+}
+
+pub fn length(set: Limits, version: u32, rows: &[u32]) -> Result<usize, Refusal>
+    ensures { result_told (λ n. n) result ≡ length_of set version rows.now }
+{
+    counted(old_length(set, version, rows))
+}
+
+pub fn write(set: Limits, version: u32, rows: &[u32], output: &mut [u8]) -> Result<usize, Refusal>
+    ensures { (result_told (λ n. n) result, output.new) ≡ written_of set version rows.now output.old }
+{
+    counted(old_write(set, version, rows, output))
 }

@@ -41,6 +41,7 @@ number_of reason.NotThere = 60
 number_of reason.WrongKind = 61
 number_of reason.OpenAlready = 62
 number_of reason.BackAlready = 63
+number_of (reason.Other n) = n
 
 -- A refusal as number and place (LANGUAGE 5.2).
 abbrev pub refusal_of : answer.Refusal → Refusal

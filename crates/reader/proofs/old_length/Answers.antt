@@ -1,7 +1,7 @@
 -- `reader::length` meets its contract, from what judging the rows and counting ensure. Assumes nothing.
 use mathlib.Core.Path.{refl}
 use Rattle.reader.proofs.OutputAnswers.{judged, length_refused, length_told}
-use Rattle.reader.proofs.length.Goals as goal
+use Rattle.reader.proofs.old_length.Goals as goal
 
 pub returns-in_default : goal.returns-in_default
 returns-in_default c = length_refused _ _ _ _ c.judge_in_version-judged.ensures _ _ c.in_default.is

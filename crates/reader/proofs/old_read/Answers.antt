@@ -5,7 +5,7 @@ use Rattle.syntax.specs.Limits.{row_numbers}
 use Rattle.syntax.proofs.PackedLaws.{found_refused, found_fine}
 use Rattle.reader.proofs.ReadLaws.{known_alike, read_set, read_long, read_rows, read_refused, read_room, read_fine}
 use Rattle.syntax.proofs.Lists.{under_bytes}
-use Rattle.reader.proofs.read.Goals as goal
+use Rattle.reader.proofs.old_read.Goals as goal
 
 pub returns-then-not-in_ranges : goal.returns-then-not-in_ranges
 returns-then-not-in_ranges c = read_set _ _ _ _ (sym c.in_ranges.ensures ∙ c.if-not-in_ranges.true)

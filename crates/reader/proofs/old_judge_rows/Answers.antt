@@ -2,7 +2,7 @@
 use mathlib.Core.Path.{◌∙◌}
 use Rattle.syntax.specs.Kinds.{newest}
 use Rattle.reader.proofs.RowsJudged.{given_newest}
-use Rattle.reader.proofs.judge_rows.Goals as goal
+use Rattle.reader.proofs.old_judge_rows.Goals as goal
 
 pub returns : goal.returns
 unfolding newest

@@ -2,7 +2,7 @@
 use native.Mathlib.Omega.{arith}
 use mathlib.Core.Path.{refl}
 use Rattle.reader.proofs.OutputAnswers.{judged, writing_refused, short_output, script_written}
-use Rattle.reader.proofs.write.Goals as goal
+use Rattle.reader.proofs.old_write.Goals as goal
 
 pub returns-in_default : goal.returns-in_default
 returns-in_default c = writing_refused _ _ _ _ c.judge_in_version-judged.ensures _ _ _ c.in_default.is

@@ -2,7 +2,7 @@
 use native.Mathlib.Omega.{arith}
 use Rattle.ownership.specs.Answers.{told_checked}
 use Rattle.ownership.proofs.CheckLaws.{under_words, set_ranged, script_ends, script_names, script_few, rules_accepted, rules_refused}
-use Rattle.ownership.proofs.check_judged.Goals as goal
+use Rattle.ownership.proofs.old_check_judged.Goals as goal
 
 pub judge_alone-verdict-requires : goal.judge_alone-verdict-requires
 judge_alone-verdict-requires c =
