@@ -1,22 +1,31 @@
 -- What `run` and `run_unchecked` do with rows that the check accepts or refuses (LANGUAGE 6.6, 7.4): what the check's answer says of the rows,
 -- and safety of their script.
 use Prim.Native.Nat.{ℕ}
-use mathlib.Core.Path.{◌≡◌, ap, ◌∙◌}
+use lib.IntN.{ℤ}
+use Rattle.std.specs.Prelude.{Ok, Err}
+use native.Mathlib.Omega.{arith}
+use mathlib.Core.Path.{◌≡◌, sym, ap, ◌∙◌}
 use mathlib.Core.List.{List}
 use mir.Syntax.{w32}
 use mir.Val.{to_z}
 use Rattle.syntax.specs.Limits.{Limits}
+use Rattle.syntax.specs.Within.{Under}
 use Rattle.ownership.proofs.Accepted.{accepted}
 use Rattle.dynamics.specs.Values.{closed}
 use Rattle.dynamics.specs.Store.{Store, State}
 use Rattle.dynamics.specs.Readings.{bits_of}
-use Rattle.dynamics.specs.Answers.{unchecked_of}
+use Rattle.dynamics.specs.Answers.{AnswerAndStore, answered, unchecked_of}
+use Rattle.machine.specs.Outcomes.{told_unchecked}
+use Rattle.machine.specs.declared.Ran.{Ran}
+use Rattle.machine.specs.declared.Stopped.{Stopped}
+use Rattle.machine.specs.declared.Stopped.TheVariants as stopped
 use Rattle.safety.proofs.Demand3.{demand_three}
 use Rattle.safety.proofs.Larger.{one_end}
-use Rattle.room.specs.Running.{run_of}
+use Rattle.room.specs.Running.{told_run, run_of}
 use Rattle.room.specs.Accepted.{AcceptedRuns, RefusedRuns}
 use Rattle.room.proofs.TreeRows.{unchecked_safe, run_safe}
-use Rattle.room.proofs.RunLaws.{check_refuses}
+use Rattle.room.specs.Parts.{of_unchecked, RunAccepted}
+use Rattle.room.proofs.RunLaws.{check_refuses, check_accepts}
 
 pub accepted_runs : (l : Limits) → AcceptedRuns l
 accepted_runs l rows n u e readings store eight long =
@@ -41,3 +50,19 @@ accepted_runs l rows n u e readings store eight long =
 
 pub refused_runs : (l : Limits) → RefusedRuns l
 refused_runs l rows e h readings store eight long = check_refuses l rows readings store eight long e h
+
+-- The machine's run of accepted rows does not stop, and answers what `run` answers.
+module _ (l : Limits) (rows : List ℕ) (readings : List ℤ) (store : List ℕ) (u : Under 4294967296 rows) (a : RunAccepted l rows readings store) where
+  pub never_stopped : (s : Stopped) (store₁ : List ℕ) → (told_unchecked (Err s), store₁) ≡ unchecked_of l rows readings store → ⊥
+  unfolding told_unchecked
+  never_stopped s store₁ e = go s (ap (λ (k : AnswerAndStore). k.0) (e ∙ (accepted_runs l rows a.terms u a.accepted readings store a.eight a.size).ran_unchecked))
+    where
+      go : (t : Stopped) {y : ℤ} {n : ℕ} → told_unchecked (Err t) ≡ answered y n → ⊥
+      go (stopped.Refused r) q = let z : ◌≡◌ {A = ℕ} 0 1 = cc in absurd (omega arith)
+      go (stopped.Faulted r) q = let z : ◌≡◌ {A = ℕ} 0 1 = cc in absurd (omega arith)
+
+  pub run_accepted : (r : Ran) (store₁ : List ℕ) → (told_unchecked (Ok r), store₁) ≡ unchecked_of l rows readings store → (told_run (Ok r), store₁) ≡ run_of l rows readings store
+  unfolding told_unchecked told_run of_unchecked
+  run_accepted r store₁ q =
+      ap (λ (x : AnswerAndStore). (of_unchecked x.0, x.1)) q
+      ∙ sym (check_accepts l rows readings store a.eight a.size a.terms a.accepted)

@@ -1,100 +1,55 @@
 -- The answers of reading and of running, put together, are what a call answers, under any set.
-use Prim.Native.Nat.{ℕ, zero, suc}
-use native.Mathlib.Omega.{arith}
-use mathlib.Core.Path.{◌≡◌, refl, sym, ap, ◌∙◌, subst}
+use Prim.Native.Nat.{ℕ, ◌≤◌}
+use mathlib.Core.Path.{◌≡◌, refl, ap, ◌∙◌}
 use mathlib.Core.Bool.{Bool, true, false}
 use mathlib.Core.List.{List}
 use lib.IntN.{ℤ}
 use lib.ListN.{length}
-use lib.Dec.{leb, ltb, eqb}
-use borrow.Author.Tests.{ltb-true, ltb-false, le-leb, lt-leb}
-use Rattle.syntax.specs.Result.{ok, err, need, pick, ◌>>=◌}
+use lib.Dec.{leb, eqb}
+use borrow.Author.Tests.{leb-true}
+use Rattle.syntax.specs.Result.{ok, err, Refusal, need, ◌>>=◌}
 use Rattle.syntax.specs.Limits.{Limits, in_ranges, max_bytes, row_numbers}
 use Rattle.syntax.specs.Kinds.{newest}
 use Rattle.syntax.specs.Answers.{Told, Answered, lengths_fit, read_of}
-use Rattle.reader.specs.Outcomes.{told_read}
-use Rattle.reader.specs.declared.ReadOutcome.{ReadOutcome}
-use Rattle.reader.specs.declared.ReadOutcome.TheVariants as read
+use Rattle.syntax.proofs.Answers.{then, needed}
 use Rattle.dynamics.specs.Answers.{run_fits}
-use Rattle.machine.specs.ScriptParts as machine
-use Rattle.machine.proofs.FitLaws.{Fit, unfit, all_fit}
-use Rattle.room.specs.Running.{told_run, run_of}
-use Rattle.room.specs.Calling.{CallAnswer, told_call, call_fits, with_terms, run_called, read_called, fit_called, call_of}
-use Rattle.room.specs.Parts.{fit_number}
-use Rattle.room.specs.declared.RunOutcome.{RunOutcome}
-use Rattle.room.specs.declared.Called.{Called}
-use Rattle.room.specs.declared.Called.TheVariants as room
+use Rattle.machine.proofs.FitLaws.{Fit, fit_says}
+use Rattle.room.specs.Running.{RunMade, run_of}
+use Rattle.room.specs.Calling.{refused, call_fits, run_called, read_called, fit_called, call_of}
 
 module _ (l : Limits) (script : List ℕ) (readings : List ℤ) (rows store : List ℕ) where
-  abbrev number : ℕ
-  number = fit_number l (length script) (length rows) (length store) (length readings)
-
-  abbrev rest : ℕ
-  rest = machine.fit_number l (length rows) (length store) (length readings)
-
-  -- What the caller's number says of the set and the lengths.
-  Says : ℕ → Type 0
-  Says zero = (call_fits l script readings rows store ≡ ok tt) × Fit l rows readings store
-  Says (suc n) = call_fits l script readings rows store ≡ err (suc n, 0)
-
-  -- With the set, the script's length and the rows' length right, what is left is a run's.
-  as_run : (n : ℕ) → n ≡ rest → call_fits l script readings rows store ≡ run_fits l rows readings store → Says n
-  unfolding Says
-  as_run zero e q = let f = all_fit l rows readings store zero e refl in (q ∙ f.fits, f)
-  as_run (suc n) e q = q ∙ unfit l rows readings store (suc n) e (λ z. absurd (omega arith))
-
-  says : Says number
-  unfolding Says fit_number machine.fit_number call_fits lengths_fit need ◌>>=◌
-  says = go (in_ranges l) (ltb max_bytes (length script)) refl refl
+  -- With the set and the script's length right, what is left is a run's.
+  pub as_run : in_ranges l ≡ true → leb (length script) max_bytes ≡ true → call_fits l script readings rows store ≡ run_fits l rows readings store
+  unfolding call_fits lengths_fit run_fits need ◌>>=◌
+  as_run q few = go (eqb (length rows) (row_numbers l)) refl
     where
-      go : (r a : Bool) → in_ranges l ≡ r → ltb max_bytes (length script) ≡ a → Says (pick r (pick a 1 rest) 74)
-      go false a q e = rw q refl
-      go true true q e = rw (q, lt-leb (length script) max_bytes (ltb-true _ _ e)) refl
-      go true false q e = of_rows (eqb (length rows) (row_numbers l)) refl
-        where
-          few : leb (length script) max_bytes ≡ true
-          few = le-leb (length script) max_bytes (ltb-false _ _ e)
+      go : (b : Bool) → eqb (length rows) (row_numbers l) ≡ b → call_fits l script readings rows store ≡ run_fits l rows readings store
+      go false e = rw (q, few, e) refl
+      go true e = rw (q, few, e) refl
 
-          of_rows : (b : Bool) → eqb (length rows) (row_numbers l) ≡ b → Says rest
-          of_rows false f =
-              let c : call_fits l script readings rows store ≡ err (2, 0) = rw (q, few, f) in
-              let n : rest ≡ 2 = rw (q, f) in
-              subst Says (sym n) c
-          of_rows true f =
-              let c : call_fits l script readings rows store ≡ run_fits l rows readings store = rw (q, few, f) in
-              as_run rest refl c
+  -- The lengths that no set changes, and those that a run asks.
+  pub fits_say : (u : Unit {0}) → call_fits l script readings rows store ≡ ok u → (length script ≤ max_bytes) × Fit l rows readings store
+  unfolding call_fits lengths_fit
+  fits_say u h =
+      let x = then (lengths_fit l script rows) (λ _. run_fits l rows readings store) u h in
+      let y = then (need (in_ranges l) (74, 0)) _ x.0 x.1 in
+      let z = then (need (leb (length script) max_bytes) (1, 0)) _ x.0 y.2 in
+      (leb-true _ _ (needed _ _ z.0 z.1), fit_says l rows readings store u x.2)
 
-  pub call_unfit : (n : ℕ) → n ≡ number → (n ≡ 0 → ⊥)
-      → (told_call (room.Refused n 0), (rows, store)) ≡ call_of l script readings rows store
-  unfolding Says call_of fit_called told_call
-  call_unfit zero e h = absurd (h refl)
-  call_unfit (suc n) e h = let f : call_fits l script readings rows store ≡ err (suc n, 0) = subst Says (sym e) says in rw f refl
+  pub call_unfit : (e : Refusal) → err e ≡ call_fits l script readings rows store → (refused e.0 e.1, (rows, store)) ≡ call_of l script readings rows store
+  unfolding call_of fit_called
+  call_unfit e h = rw (← h) refl
 
-  module _ (n : ℕ) (e : n ≡ number) (z : n ≡ 0) where
-    fits : Says 0
-    fits = subst Says (sym e ∙ z) says
+  module _ (u : Unit {0}) (fits : ok u ≡ call_fits l script readings rows store) where
+    call_is : read_called l readings store (read_of l newest script rows).0 (read_of l newest script rows).1 ≡ call_of l script readings rows store
+    unfolding call_of fit_called
+    call_is = rw (← fits) refl
 
-    pub fit_run : Fit l rows readings store
-    unfolding Says
-    fit_run = fits.1
+    pub call_unread : (e : Refusal) (rows₁ : List ℕ) → (err e, rows₁) ≡ read_of l newest script rows → (refused e.0 e.1, (rows₁, store)) ≡ call_of l script readings rows store
+    unfolding read_called
+    call_unread e rows₁ q = ap (λ (x : Answered Told). read_called l readings store x.0 x.1) q ∙ call_is
 
-    -- What reading answered.
-    module _ (o : ReadOutcome) (rows₁ : List ℕ) (q : (told_read o, rows₁) ≡ read_of l newest script rows) where
-      call_is : read_called l readings store (told_read o) rows₁ ≡ call_of l script readings rows store
-      unfolding Says call_of fit_called
-      call_is =
-          let f : call_fits l script readings rows store ≡ ok tt = fits.0 in
-          rw f (ap (λ (x : Answered Told). read_called l readings store x.0 x.1) q)
-
-      pub call_unread : (m p : ℕ) → o ≡ read.Refused m p → (told_call (room.Refused m p), (rows₁, store)) ≡ call_of l script readings rows store
-      unfolding told_read told_call read_called
-      call_unread m p r = ap (λ (x : ReadOutcome). read_called l readings store (told_read x) rows₁) (sym r) ∙ call_is
-
-      pub call_read : (v terms : ℕ) → o ≡ read.Script v terms → (r : RunOutcome) (store₁ : List ℕ) → (told_run r, store₁) ≡ run_of l rows₁ readings store
-          → (a : Called) → told_call a ≡ with_terms terms (told_run r) → (told_call a, (rows₁, store₁)) ≡ call_of l script readings rows store
-      unfolding told_read read_called
-      call_read version terms c r store₁ v a w =
-          ap (λ (x : CallAnswer). (x, (rows₁, store₁))) w
-          ∙ ap (run_called terms rows₁) v
-          ∙ ap (λ (x : ReadOutcome). read_called l readings store (told_read x) rows₁) (sym c)
-          ∙ call_is
+    pub call_read : (v n : ℕ) (rows₁ : List ℕ) → (ok (v, n), rows₁) ≡ read_of l newest script rows → (m : RunMade) → m ≡ run_of l rows₁ readings store
+        → run_called n rows₁ m ≡ call_of l script readings rows store
+    unfolding read_called
+    call_read v n rows₁ q m r = ap (run_called n rows₁) r ∙ ap (λ (x : Answered Told). read_called l readings store x.0 x.1) q ∙ call_is

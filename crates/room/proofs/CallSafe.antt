@@ -22,7 +22,7 @@ use Rattle.dynamics.specs.Values.{closed}
 use Rattle.dynamics.specs.Store.{Store}
 use Rattle.dynamics.specs.Answers.{run_fits}
 use Rattle.dynamics.specs.Readings.{bits_of}
-use Rattle.machine.proofs.FitLaws.{Fit, fit_says}
+use Rattle.machine.proofs.FitLaws.{Fit}
 use Rattle.safety.specs.Safety.{Safe, tidy_store}
 use Rattle.safety.proofs.Demand3.{demand_three}
 use Rattle.room.specs.Running.{RunMade, run_of}
@@ -31,6 +31,7 @@ use Rattle.room.specs.Calling.{CallAnswer, called, refused, CallMade, call_fits,
 use Rattle.room.proofs.Numbers.{call_number}
 use Rattle.room.proofs.TreeRows.{checks_tree, run_safe}
 use Rattle.room.proofs.RunLaws.{check_refuses}
+use Rattle.room.proofs.CallLaws.{fits_say}
 
 pub called_refused : {A : Type 0} {n c m p : ℕ} {a : ℤ} → called n a c ≡ refused m p → A
 called_refused e = let z : ◌≡◌ {A = ℕ} 0 1 = cc in absurd (omega arith)
@@ -74,16 +75,16 @@ module _ (l : Limits) (script : List ℕ) (readings : List ℤ) (rows store : Li
 
   -- Set and lengths fit.
   module _ (fits : call_fits l script readings rows store ≡ ok tt) where
-    halves : (x : Unit {0}) × (lengths_fit l script rows ≡ ok x) × (run_fits l rows readings store ≡ ok tt)
+    long : (x : Unit {0}) × (lengths_fit l script rows ≡ ok x) × (run_fits l rows readings store ≡ ok tt)
     unfolding call_fits
-    halves = then (lengths_fit l script rows) (λ _. run_fits l rows readings store) tt fits
+    long = then (lengths_fit l script rows) (λ _. run_fits l rows readings store) tt fits
 
     f : Fit l rows readings store
-    f = fit_says l rows readings store tt halves.2
+    f = (fits_say l script readings rows store tt fits).1
 
     read_is : read_of l newest script rows ≡ parsed_into l (parse l newest script)
     unfolding read_of on_fit
-    read_is = rw halves.1
+    read_is = rw long.1
 
     -- The script was read.
     module _ (whole : Whole) (w : parse l newest script ≡ ok whole) where

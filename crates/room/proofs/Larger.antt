@@ -6,10 +6,9 @@ use mathlib.Core.Bool.{true}
 use mathlib.Core.List.{List, ◌++◌}
 use lib.IntN.{ℤ}
 use lib.ListN.{length}
-use lib.Dec.{leb}
 use mir.Syntax.{w32}
 use mir.Val.{to_z}
-use borrow.Author.Tests.{leb-true, le-leb, eq-eqb}
+use borrow.Author.Tests.{le-leb, eq-eqb}
 use Rattle.syntax.specs.Result.{Result, ok, err, need, Refusal, ◌>>=◌}
 use Rattle.syntax.specs.Limits.{Limits, in_ranges, max_bytes, row_numbers, store_numbers}
 use Rattle.syntax.specs.Larger.{NoSmaller}
@@ -19,7 +18,7 @@ use Rattle.syntax.specs.Measures.{size}
 use Rattle.syntax.specs.Within.{Within}
 use Rattle.syntax.specs.Kinds.{newest}
 use Rattle.syntax.specs.Answers.{Told, lengths_fit, read_of, rows_tree, judged_of}
-use Rattle.syntax.proofs.Answers.{then, needed}
+use Rattle.syntax.proofs.Answers.{then}
 use Rattle.syntax.proofs.RoundTrip.{decoded}
 use Rattle.syntax.proofs.MoreLimits.{within_more, allowed_more, rows_more}
 use Rattle.reader.proofs.Undo.{read_says, reads_tree}
@@ -31,7 +30,7 @@ use Rattle.dynamics.specs.Values.{closed}
 use Rattle.dynamics.specs.Store.{State}
 use Rattle.dynamics.specs.Answers.{run_fits}
 use Rattle.dynamics.specs.Readings.{bits_of}
-use Rattle.machine.proofs.FitLaws.{Fit, fit_says}
+use Rattle.machine.proofs.FitLaws.{Fit}
 use Rattle.safety.proofs.Larger as trees
 use Rattle.room.specs.Running as running
 use Rattle.room.specs.Running.{RunAnswer, answered, RunMade, run_of}
@@ -40,6 +39,7 @@ use Rattle.room.specs.Larger.{SameAgain, LargerScripts, LargerRows, SameChecks, 
 use Rattle.room.proofs.TreeRows.{checks_tree, run_safe}
 use Rattle.room.proofs.RunLaws.{check_refuses}
 use Rattle.room.proofs.RunSafe.{answered_refused}
+use Rattle.room.proofs.CallLaws.{fits_say}
 use Rattle.room.proofs.CallSafe.{called_refused}
 
 -- A call that answers: its lengths fit, its script is read, and the rows run.
@@ -51,15 +51,6 @@ record Answers (l : Limits) (script : List ℕ) (readings : List ℤ) (rows stor
   pub ran : (run_of l (read_of l newest script rows).1 readings store).0 ≡ answered a c
 
 module _ (l : Limits) (script : List ℕ) (readings : List ℤ) (rows store : List ℕ) (n : ℕ) (a : ℤ) (c : ℕ) where
-  -- The lengths that no set changes, and those that a run asks.
-  fits_say : (u : Unit {0}) → call_fits l script readings rows store ≡ ok u → (length script ≤ max_bytes) × Fit l rows readings store
-  unfolding call_fits lengths_fit
-  fits_say u h =
-      let x = then (lengths_fit l script rows) (λ _. run_fits l rows readings store) u h in
-      let y = then (need (in_ranges l) (74, 0)) _ x.0 x.1 in
-      let z = then (need (leb (length script) max_bytes) (1, 0)) _ x.0 y.2 in
-      (leb-true _ _ (needed _ _ z.0 z.1), fit_says l rows readings store u x.2)
-
   terms_say : (k : ℕ) (r : RunAnswer) → with_terms k r ≡ called n a c → (k ≡ n) × (r ≡ answered a c)
   unfolding with_terms
   terms_say k (answered b d) h = (cc, cc)
@@ -78,7 +69,7 @@ module _ (l : Limits) (script : List ℕ) (readings : List ℤ) (rows store : Li
 
       fit : (f : Result Refusal (Unit {0})) → call_fits l script readings rows store ≡ f
           → (fit_called f rows store (read_called l readings store (read_of l newest script rows).0 (read_of l newest script rows).1)).0 ≡ called n a c → Answers l script readings rows store n a c
-      fit (ok x) g h = read (fits_say x g) (read_of l newest script rows).0 refl h
+      fit (ok x) g h = read (fits_say l script readings rows store x g) (read_of l newest script rows).0 refl h
       fit (err e) g h = called_refused (sym h)
 
 -- A call whose lengths fit answers what reading and running answer.

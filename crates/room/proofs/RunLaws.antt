@@ -14,21 +14,15 @@ use Rattle.syntax.specs.Measures.{size}
 use Rattle.syntax.specs.Answers.{rows_tree, judged_of}
 use Rattle.syntax.proofs.Answers.{then, err_ok}
 use Rattle.statics.specs.Judge.{judge_script}
-use Rattle.ownership.specs.Answers.{told_checked, check_of}
-use Rattle.ownership.specs.declared.Checked.{Checked}
-use Rattle.ownership.specs.declared.Checked.TheVariants as checked
+use Rattle.ownership.specs.Answers.{check_of}
 use Rattle.dynamics.specs.Values.{closed}
 use Rattle.dynamics.specs.Store.{State, Ran}
 use Rattle.dynamics.specs.Run.{run_script}
-use Rattle.dynamics.specs.Answers.{AnswerAndStore, run_fits, runnable, ran_into, run_into, unchecked_of}
-use Rattle.machine.specs.Outcomes.{told_unchecked}
+use Rattle.dynamics.specs.Answers.{run_fits, runnable, ran_into, run_into, unchecked_of}
 use Rattle.dynamics.specs.Readings.{bits_of}
 use Rattle.machine.specs.ScriptParts.{RunReady}
-use Rattle.machine.specs.declared.UncheckedOutcome.{UncheckedOutcome}
-use Rattle.machine.specs.declared.UncheckedOutcome.TheVariants as machine
-use Rattle.room.specs.Running.{RunMade, refused, told_run, checked_first, ended_into, checked_into, run_of}
+use Rattle.room.specs.Running.{refused, checked_first, ended_into, checked_into, run_of}
 use Rattle.room.specs.Parts.{of_unchecked}
-use Rattle.room.specs.declared.RunOutcome.TheVariants as room
 
 -- A run's end, told with the machine's answer and without.
 end_is : (l : Limits) (x : Ran (State × ℕ)) → ended_into l x ≡ (of_unchecked (ran_into l x).0, (ran_into l x).1)
@@ -41,9 +35,9 @@ module _ (l : Limits) (rows : List ℕ) (readings : List ℤ) (store : List ℕ)
   unfolding run_of checked_into
   first_refused e h = rw h
 
-  pub run_unfit : (n : ℕ) → run_fits l rows readings store ≡ err (n, 0) → (told_run (room.Refused n 0), store) ≡ run_of l rows readings store
-  unfolding told_run checked_first runnable ◌>>=◌
-  run_unfit n h = let j : checked_first l rows readings store ≡ err (n, 0) = rw h in sym (first_refused (n, 0) j)
+  pub run_unfit : (e : Refusal) → err e ≡ run_fits l rows readings store → (refused e.0 e.1, store) ≡ run_of l rows readings store
+  unfolding checked_first runnable ◌>>=◌
+  run_unfit e h = let j : checked_first l rows readings store ≡ err e = rw (← h) refl in sym (first_refused e j)
 
   module _ (eight : length readings ≡ 8) (long : length store ≡ store_numbers l) where
     -- With these lengths what is left to judge is what the check judges.
@@ -76,42 +70,10 @@ module _ (l : Limits) (rows : List ℕ) (readings : List ℤ) (store : List ℕ)
       counted : (u : Unit {0}) × (judge_script l.variables tree.0 ≡ ok u) × (◌≡◌ {A = Result Refusal ℕ} (ok (size tree.0)) (ok n))
       counted = then (judge_script l.variables tree.0) (λ _. ok (size tree.0)) n tree.2
 
-      ready : RunReady l rows readings store
+      pub run_ready : RunReady l rows readings store
       unfolding judged_of ◌>>=◌
-      ready = record { terms = n; judged = rw tree.1 counted.2; eight = eight; size = long }
+      run_ready = record { terms = n; judged = rw tree.1 counted.2; eight = eight; size = long }
 
-      check_accepts : run_of l rows readings store ≡ (of_unchecked (unchecked_of l rows readings store).0, (unchecked_of l rows readings store).1)
+      pub check_accepts : run_of l rows readings store ≡ (of_unchecked (unchecked_of l rows readings store).0, (unchecked_of l rows readings store).1)
       unfolding run_of checked_first checked_into unchecked_of run_into ◌>>=◌
       check_accepts = rw (runnable_is ∙ tree.1, counted.1) (end_is l (run_script (bits_of readings) tree.0 (λ x. closed)))
-
-    module _ (k : Checked) (h : told_checked k ≡ check_of l rows) where
-      pub run_unaccepted : (n p : ℕ) → k ≡ checked.Refused n p → (told_run (room.Refused n p), store) ≡ run_of l rows readings store
-      unfolding told_checked told_run
-      run_unaccepted n p e = sym (check_refuses (n, p) (sym h ∙ ap told_checked e))
-
-      module _ (n : ℕ) (e : k ≡ checked.Accepted n) where
-        is_accepted : check_of l rows ≡ ok n
-        unfolding told_checked
-        is_accepted = sym h ∙ ap told_checked e
-
-        pub run_ready : RunReady l rows readings store
-        run_ready = ready n is_accepted
-
-        module _ (o : UncheckedOutcome) (store₁ : List ℕ) (q : (told_unchecked o, store₁) ≡ unchecked_of l rows readings store) where
-          ran : (a : UncheckedOutcome) → o ≡ a → ◌≡◌ {A = RunMade} (of_unchecked (told_unchecked a), store₁) (run_of l rows readings store)
-          ran a w =
-              ap (λ (x : UncheckedOutcome). (of_unchecked (told_unchecked x), store₁)) (sym w)
-              ∙ ap (λ (x : AnswerAndStore). (of_unchecked x.0, x.1)) q
-              ∙ sym (check_accepts n is_accepted)
-
-          pub run_answered : (a : ℤ) (c : ℕ) → o ≡ machine.Answered a c → (told_run (room.Answered a c), store₁) ≡ run_of l rows readings store
-          unfolding told_run told_unchecked of_unchecked
-          run_answered a c w = ran (machine.Answered a c) w
-
-          pub run_refused : (m p : ℕ) → o ≡ machine.Refused m p → (told_run (room.Refused m p), store₁) ≡ run_of l rows readings store
-          unfolding told_run told_unchecked of_unchecked
-          run_refused m p w = ran (machine.Refused m p) w
-
-          pub run_faulted : (m i : ℕ) → o ≡ machine.Faulted m i → (told_run (room.Refused m i), store₁) ≡ run_of l rows readings store
-          unfolding told_run told_unchecked of_unchecked
-          run_faulted m i w = ran (machine.Faulted m i) w

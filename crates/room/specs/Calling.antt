@@ -1,8 +1,11 @@
 -- What `call` answers and leaves in lent memory on every input (LANGUAGE 6.8), and what safety (7.4) says of it.
 use Rattle.std.specs.Prelude.{ℕ, ◌+◌, ◌*◌, ◌≤◌, ◌≡◌, ◌⊎◌, List, leb, ℤ, pos, length, get_or}
+use Rattle.std.specs.Prelude as prelude
 use Rattle.std.specs.Int.{w32}
 use Rattle.std.proofs.Common.{to_z}
 use Rattle.syntax.specs.Result.{Result, ok, err, Refusal, pick, ◌>>=◌}
+use Rattle.syntax.specs.Refusals.{number_of}
+use Rattle.syntax.specs.declared.refusals.Refusal as answer
 use Rattle.syntax.specs.Limits.{Limits}
 use Rattle.syntax.specs.Kinds.{newest}
 use Rattle.syntax.specs.Script.{Term, Whole}
@@ -18,7 +21,6 @@ use Rattle.dynamics.specs.Readings.{bits_of}
 use Rattle.room.specs.Running as running
 use Rattle.room.specs.Running.{RunAnswer, RunMade, run_of}
 use Rattle.room.specs.declared.Called.{Called}
-use Rattle.room.specs.declared.Called.TheVariants.{Answered, Refused}
 
 -- The terms, the answer and the cells taken; or the refusal's number and its place.
 pub data CallAnswer : Type 0 where
@@ -26,9 +28,9 @@ pub data CallAnswer : Type 0 where
   refused : ℕ → ℕ → CallAnswer
 
 -- The numbers and values of each case of the code's answer. No case is a fault.
-unfoldable pub told_call : Called → CallAnswer
-told_call (Answered n a c) = called n a c
-told_call (Refused n p) = refused n p
+unfoldable pub told_call : prelude.Result Called answer.Refusal → CallAnswer
+told_call (prelude.Ok r) = called r.terms r.answer r.cells
+told_call (prelude.Err r) = refused (number_of r.reason) r.place
 
 -- The answer, the rows and the store afterwards.
 abbrev pub CallMade : Type 0

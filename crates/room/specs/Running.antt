@@ -1,8 +1,11 @@
 -- What `run` answers and leaves in the store on every input (LANGUAGE 6.6), and what safety (7.4) says of it.
 use Rattle.std.specs.Prelude.{ℕ, ◌≤◌, ◌≡◌, ◌⊎◌, List, ℤ}
+use Rattle.std.specs.Prelude as prelude
 use Rattle.std.specs.Int.{w32}
 use Rattle.std.proofs.Common.{to_z}
 use Rattle.syntax.specs.Result.{Result, ok, err, Refusal, ◌>>=◌}
+use Rattle.syntax.specs.Refusals.{number_of}
+use Rattle.syntax.specs.declared.refusals.Refusal as answer
 use Rattle.syntax.specs.Limits.{Limits, store_rows}
 use Rattle.syntax.specs.Script.{Term}
 use Rattle.syntax.specs.Answers.{rows_tree}
@@ -14,8 +17,7 @@ use Rattle.dynamics.specs.Encode.{encode}
 use Rattle.dynamics.specs.Answers.{runnable}
 use Rattle.dynamics.specs.Readings.{bits_of}
 use Rattle.safety.specs.Safety.{Safe, tidy_store}
-use Rattle.room.specs.declared.RunOutcome.{RunOutcome}
-use Rattle.room.specs.declared.RunOutcome.TheVariants.{Answered, Refused}
+use Rattle.machine.specs.declared.Ran as machine
 
 -- The answer and the cells taken; or the refusal's number and its place.
 pub data RunAnswer : Type 0 where
@@ -23,9 +25,9 @@ pub data RunAnswer : Type 0 where
   refused : ℕ → ℕ → RunAnswer
 
 -- The numbers and values of each case of the code's answer. No case is a fault.
-unfoldable pub told_run : RunOutcome → RunAnswer
-told_run (Answered a c) = answered a c
-told_run (Refused n p) = refused n p
+unfoldable pub told_run : prelude.Result machine.Ran answer.Refusal → RunAnswer
+told_run (prelude.Ok r) = answered r.answer r.cells
+told_run (prelude.Err r) = refused (number_of r.reason) r.place
 
 -- The script that is to run (LANGUAGE 5.7): 74, 2 to 4 and 12 to 19 as for a run that is not checked, then 30 to 43.
 unfoldable pub checked_first : Limits → List ℕ → List ℤ → List ℕ → Result Refusal Term
