@@ -1,10 +1,8 @@
 // The store machine (LANGUAGE 4): running a script that is given as term rows.
 #![tactic(auto)]
 
-ghost use Rattle.std.specs.Prelude.{◌≡◌, ◌≤◌, true, length};
-ghost use Rattle.syntax.specs.Limits.{in_ranges, row_numbers};
-ghost use Rattle.syntax.specs.Refusals.{number_of, told};
-ghost use Rattle.syntax.specs.Answers.{judged_of};
+ghost use Rattle.std.specs.Prelude.{◌≡◌, ◌≤◌, length};
+ghost use Rattle.syntax.specs.Refusals.{told};
 ghost use Rattle.machine.specs.Outcomes.{told_ran, told_unchecked};
 ghost use Rattle.dynamics.specs.Answers.{unchecked_of};
 ghost use Rattle.machine.specs.ScriptParts.{fit_of, RunReady};
@@ -117,37 +115,6 @@ pub fn fit(set: Limits, rows: usize, store: usize, readings: usize) -> Result<()
     Err(Refusal { reason, place: 0 })
 }
 
-// The reason of each number by which `judge_rows` refuses rows that fit (LANGUAGE 5.4).
-fn reason_of(number: u32) -> Reason
-    requires { (12 ≤ number) × (number ≤ 19) }
-    ensures { number_of result ≡ number }
-{
-    match number {
-        12 => Reason::Ended,
-        13 => Reason::UnknownKind,
-        14 => Reason::Operand,
-        15 => Reason::TooDeep,
-        16 => Reason::TooManyTerms,
-        17 => Reason::TooManyBoxes,
-        18 => Reason::NoBlock,
-        _ => Reason::LeftOver,
-    }
-}
-
-// The number of terms of rows that fit, or why they are refused (LANGUAGE 5.4).
-fn judge_rows(set: Limits, rows: &[u32]) -> Result<usize, Refusal>
-    requires { (in_ranges set ≡ true) × (length rows.now ≡ row_numbers set) }
-    ensures { told (λ n. n) result ≡ judged_of set rows.now }
-{
-    match reader::judge_rows(set, rows) {
-        reader::Outcome::Count(terms) => Ok(terms),
-        reader::Outcome::Refused(number, row) => Err(Refusal {
-            reason: reason_of(number),
-            place: row,
-        }),
-    }
-}
-
 // Run unchecked (LANGUAGE 6.7): the script of the term rows, accepted by the check or not, with the readings, under the
 // set (2.8). A refusal leaves the store unchanged; a fault leaves it as the run rules had it (4.21). It is for lessons
 // and tests that show what a script does that the check refuses; the run that checks first is `room::run`.
@@ -162,7 +129,7 @@ pub fn run_unchecked(
     if let Err(refusal) = fit(set, rows.len(), store.len(), readings.len()) {
         return Err(Stopped::Refused(refusal));
     }
-    match judge_rows(set, rows) {
+    match reader::judge_rows(set, rows) {
         Ok(_) => run_judged(set, rows, readings, store),
         Err(refusal) => Err(Stopped::Refused(refusal)),
     }

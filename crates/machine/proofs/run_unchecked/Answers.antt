@@ -7,11 +7,6 @@ use Rattle.machine.proofs.run_unchecked.Goals as goal
 pub returns-in-Err : goal.returns-in-Err
 returns-in-Err c = unfit_refused _ _ _ _ _ (unfit _ _ _ _ _ c.in-Err.ensures)
 
-pub judge_rows-requires : goal.judge_rows-requires
-judge_rows-requires c =
-    let fit = all_fit _ c.args.rows.now c.args.readings.now c.args.store.now _ c.in_default.ensures in
-    (fit.ranges, fit.long)
-
 pub run_judged-requires : goal.run_judged-requires
 run_judged-requires c =
     let fit = all_fit _ c.args.rows.now c.args.readings.now c.args.store.now _ c.in_default.ensures in
