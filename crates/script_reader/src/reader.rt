@@ -1,5 +1,5 @@
-// A reader of a script in its named form: the lent bytes and the next offset. Its methods are few and thin: each leaves its
-// work to a function on slice and number, and moves on past what that has read. After a refusal the reader stays.
+// A reader of a script in its named form: the lent bytes and the next offset. Its methods are few and thin: each leaves
+// its work to a function on slice and number, and moves on past what that has read. After a refusal the reader stays.
 ghost use Rattle.std.specs.Prelude.{◌≡◌, ℕ, ◌+◌, [], ◌∷◌, leb};
 ghost use Rattle.syntax.specs.Result.{ok};
 ghost use Rattle.syntax.specs.Refusals.{told};
@@ -29,7 +29,8 @@ pub struct Reader<'a> {
 
 // ---- on slice and number
 
-// The mark from offset `at` on (LANGUAGE 2.1), each byte judged by itself (5.9): 12 where there is none, 10 where it differs.
+// The mark from offset `at` on (LANGUAGE 2.1), each byte judged by itself (5.9): 12 where there is none, 10 where it
+// differs.
 fn judge_mark(script: &[u8], at: usize) -> Result<(), Refusal>
     requires { Inside script.now at }
     ensures { told (λ u. at + 3) result ≡ marked (0x52 ∷ 0x43 ∷ 0x53 ∷ []) script.now at (ok (at + 3)) }
@@ -52,8 +53,8 @@ fn judge_mark(script: &[u8], at: usize) -> Result<(), Refusal>
     Ok(())
 }
 
-// Mark and version from offset `at` on (LANGUAGE 2.1, 5.9): the version, two bytes, the high one first (1.4), or the refusal.
-// Any version that there is will do here.
+// Mark and version from offset `at` on (LANGUAGE 2.1, 5.9): the version, two bytes with the high one first (1.4), or the
+// refusal. Any version that there is will do here.
 fn judge_lead(script: &[u8], at: usize) -> Result<u32, Refusal>
     requires { Inside script.now at }
     ensures { LeadRead script.now at (version_got (at + 5) result) }
@@ -77,9 +78,9 @@ fn judge_lead(script: &[u8], at: usize) -> Result<u32, Refusal>
 }
 
 // The outermost term (LANGUAGE 2.1), with the kinds of this version (2.3), which is 11 where it is newer than the newest
-// that is known (5.4, 6.2). It is read from the part of the script that begins at its kind byte (2.2), as a block of one term
-// is. 18 is asked here, so that the readers are entered by the block reader: the compiler then makes the term reader part of
-// it.
+// that is known (5.4, 6.2). It is read from the part of the script that begins at its kind byte (2.2), as a block of one
+// term is. 18 is asked here, so that the readers are entered by the block reader: the compiler then makes the term reader
+// part of it.
 fn read_outermost_term(
     limits: &Limits,
     newest: usize,

@@ -110,21 +110,14 @@ pub const CHOICE_AND_SUM_SINCE: usize = 2;
 pub fn knows_version(newest: u32, version: u32) -> bool
     ensures { result ≡ knows newest version }
 {
-    if version < 1 {
-        return false;
-    }
-    version <= newest && version <= NEWEST
+    1 <= version && version <= newest && version <= NEWEST
 }
 
 // The newest version that a reader knows which is told any number (LANGUAGE 6.2): it knows none that there is not.
 pub fn newest_known(newest: u32) -> usize
     ensures { (result ≤ 2) × ((v : ℕ) → knows result v ≡ knows newest v) }
 {
-    if NEWEST < newest {
-        NEWEST as usize
-    } else {
-        newest as usize
-    }
+    newest.min(NEWEST) as usize
 }
 
 // A kind of this version (LANGUAGE 2.3); any other is refused with 13 (5.4). The last one is the same for a whole script,

@@ -98,25 +98,13 @@ pub const LEFT_OVER: u32 = 19;
 pub fn in_ranges(set: Limits) -> bool
     ensures { result ≡ in_ranges set }
 {
-    if set.terms < 1 {
-        return false;
-    }
-    if MOST_TERMS < set.terms {
-        return false;
-    }
-    if set.variables < 1 {
-        return false;
-    }
-    if MOST_VARIABLES < set.variables {
-        return false;
-    }
-    if MOST_BOXES < set.boxes {
-        return false;
-    }
-    if set.levels < 1 {
-        return false;
-    }
-    set.levels <= MOST_LEVELS
+    1 <= set.terms
+        && set.terms <= MOST_TERMS
+        && 1 <= set.variables
+        && set.variables <= MOST_VARIABLES
+        && set.boxes <= MOST_BOXES
+        && 1 <= set.levels
+        && set.levels <= MOST_LEVELS
 }
 
 // The length of the term rows (LANGUAGE 2.9): five numbers for each term. No set makes the product wrap.

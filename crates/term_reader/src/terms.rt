@@ -1,5 +1,5 @@
-// Terms, blocks and choices in a script's bytes. Each term is read from the part of the script that begins at its kind byte
-// (LANGUAGE 2.2); how far the script is read stands in the progress, which each reader moves on.
+// Terms, blocks and choices in a script's bytes. Each term is read from the part of the script that begins at its kind
+// byte (LANGUAGE 2.2); how far the script is read stands in the progress, which each reader moves on.
 ghost use Rattle.std.specs.Prelude.{true, false, ◌<◌};
 ghost use Rattle.syntax.specs.Layout.{lay, lays, in_rows};
 ghost use Rattle.syntax.specs.ByteParts.{Ready, got_read, Reading, read_term, read_block, read_branches};
@@ -12,7 +12,8 @@ use syntax::progress::Progress;
 use syntax::refusals::{Reason, Refusal};
 
 // A term (LANGUAGE 2.2): what stands at its kind byte (5.10), its operands (5.11), its inner terms one level deeper
-// (2.7). tail begins at the kind byte. Box, let and assign go round the loop, so that only a block and a choice cost a call.
+// (2.7). tail begins at the kind byte. Box, let and assign go round the loop, so that only a block and a choice cost a
+// call.
 #[cycle(terms)]
 fn read_term(
     limits: &Limits,
