@@ -78,6 +78,7 @@ pub fn no_block(version: usize, rows: &[u32], i: usize) -> bool
 
 // The kind of row i, or why it is refused, in the order 12, 13, 15, 17, 14 (LANGUAGE 5.12). 16 cannot be met, since the rows
 // hold no more terms than the set has.
+#[tactic(auto, unfolding(syntax::specs::Limits::row_numbers))]
 fn judge_row(
     limits: &Limits,
     version: usize,
