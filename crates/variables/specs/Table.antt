@@ -1,6 +1,6 @@
 -- The table of the variables, 8 words to each, and what it says in the rules' terms. Six of them are a variable's entry: every six words say
 -- something. Two are a note, which must be right. No rule of the language is stated here.
-use Rattle.std.specs.Prelude.{ℕ, suc, ◌+◌, ◌*◌, ◌%◌, ◌<◌, ◌≤◌, ◌≡◌, Bool, true, false, ◌&&◌, List, [], ◌∷◌, leb, ltb, eqb, length, get_or}
+use Rattle.std.specs.Prelude.{ℕ, suc, ◌+◌, ◌*◌, ◌%◌, ◌<◌, ◌≤◌, ◌≡◌, true, false, ◌&&◌, List, [], ◌∷◌, leb, ltb, eqb, length, get_or}
 use Rattle.syntax.specs.Result.{pick}
 use Rattle.syntax.specs.Script as script
 use Rattle.variables.specs.declared.table.Place.{Place}
