@@ -16,20 +16,26 @@ use term_runner::around::{Standing, close_block, run_assign, run_box, run_let};
 use term_runner::plain::{place_at, run_leaf, run_number};
 use term_runner::skip::{chosen, past_choice};
 
+// What a run is lent and only reads: the limits (LANGUAGE 2.8), the term rows and the readings.
+#[derive(Clone, Copy)]
+pub struct Script<'a> {
+    pub limits: &'a Limits,
+    pub rows: &'a [u32],
+    pub readings: &'a [i32],
+}
+
 // The term at row i, if it has no inner term (LANGUAGE 4.9 to 4.12, 4.16): it opens no variable and takes no cell.
 fn run_plain(
-    limits: &Limits,
-    rows: &[u32],
+    script: &Script,
     i: usize,
-    readings: &[i32],
     store: &mut [u32],
     count: usize,
     taken: usize,
 ) -> Result<Standing, Refusal>
-    requires { LeafReady limits.now rows.now i readings.now store.old × (i < limits.now.terms) }
-    ensures { PlainRan limits.now rows.now i readings.now store.old count taken store.new result }
+    requires { LeafReady script.now.limits.now script.now.rows.now i script.now.readings.now store.old × (i < script.now.limits.now.terms) }
+    ensures { PlainRan script.now.limits.now script.now.rows.now i script.now.readings.now store.old count taken store.new result }
 {
-    match run_leaf(limits, rows, i, readings, store) {
+    match run_leaf(script.limits, script.rows, i, script.readings, store) {
         Ok(value) => Ok(Standing {
             value,
             taken,
@@ -42,23 +48,29 @@ fn run_plain(
 
 // What follows the inner term of a box, let or assign (LANGUAGE 4.13 to 4.15), which is at row i.
 fn run_after(
-    limits: &Limits,
-    rows: &[u32],
+    script: &Script,
     i: usize,
     store: &mut [u32],
     opened: &mut [u8],
     inner: Standing,
 ) -> Result<Standing, Refusal>
-    requires { AfterReady limits.now rows.now i store.old opened.old inner }
-    ensures { AfterRan limits.now rows.now i store.old opened.old inner store.new opened.new result }
+    requires { AfterReady script.now.limits.now script.now.rows.now i store.old opened.old inner }
+    ensures { AfterRan script.now.limits.now script.now.rows.now i store.old opened.old inner store.new opened.new result }
 {
-    let Ok(kind) = Kind::try_from(field_at(rows, i, 0)) else {
+    let Ok(kind) = Kind::try_from(field_at(script.rows, i, 0)) else {
         unreachable!();
     };
     match kind {
-        Kind::Box => Ok(run_box(limits, store, inner)),
-        Kind::Let => run_let(limits, store, opened, i, field_at(rows, i, 1), inner),
-        Kind::Assign => run_assign(limits, store, i, place_at(rows, i, 1), inner),
+        Kind::Box => Ok(run_box(script.limits, store, inner)),
+        Kind::Let => run_let(
+            script.limits,
+            store,
+            opened,
+            i,
+            field_at(script.rows, i, 1),
+            inner,
+        ),
+        Kind::Assign => run_assign(script.limits, store, i, place_at(script.rows, i, 1), inner),
         _ => unreachable!(),
     }
 }
@@ -67,77 +79,51 @@ fn run_after(
 // over. It does not run the block as a term, so that `run_inmost` is called in one place, and compiled into it.
 #[cycle(terms)]
 fn run_choice(
-    limits: &Limits,
-    rows: &[u32],
+    script: &Script,
     i: usize,
     levels: usize,
-    readings: &[i32],
     store: &mut [u32],
     opened: &mut [u8],
     count: usize,
     taken: usize,
 ) -> Result<Standing, Refusal>
-    requires { TermReady limits.now rows.now i levels readings.now store.old opened.old count taken × (field_at rows.now i 0 ≡ 12) }
-    ensures { TermRan limits.now rows.now i levels readings.now store.old opened.old count taken store.new opened.new result }
+    requires { TermReady script.now.limits.now script.now.rows.now i levels script.now.readings.now store.old opened.old count taken × (field_at script.now.rows.now i 0 ≡ 12) }
+    ensures { TermRan script.now.limits.now script.now.rows.now i levels script.now.readings.now store.old opened.old count taken store.new opened.new result }
 {
-    let number = match run_number(limits, store, place_at(rows, i, 1)) {
+    let number = match run_number(script.limits, store, place_at(script.rows, i, 1)) {
         Ok(number) => number,
         Err(reason) => return Err(Refusal { reason, place: i }),
     };
-    let block = chosen(rows, i, number);
-    let inner = run_block(
-        limits,
-        rows,
-        block,
-        levels - 1 - 1,
-        readings,
-        store,
-        opened,
-        count,
-        taken,
-    )?;
-    let ran = close_block(limits, store, opened, block, count, inner)?;
-    Ok(past_choice(rows, number, ran))
+    let block = chosen(script.rows, i, number);
+    let inner = run_block(script, block, levels - 1 - 1, store, opened, count, taken)?;
+    let ran = close_block(script.limits, store, opened, block, count, inner)?;
+    Ok(past_choice(script.rows, number, ran))
 }
 
 // The term at row i, which has no inner term, or is a choice, or a block: its terms, then its end (LANGUAGE 4.17).
 #[cycle(terms)]
 fn run_inmost(
-    limits: &Limits,
-    rows: &[u32],
+    script: &Script,
     i: usize,
     levels: usize,
-    readings: &[i32],
     store: &mut [u32],
     opened: &mut [u8],
     count: usize,
     taken: usize,
 ) -> Result<Standing, Refusal>
-    requires { TermReady limits.now rows.now i levels readings.now store.old opened.old count taken × (wraps_of (field_at rows.now i 0) ≡ false) }
-    ensures { TermRan limits.now rows.now i levels readings.now store.old opened.old count taken store.new opened.new result }
+    requires { TermReady script.now.limits.now script.now.rows.now i levels script.now.readings.now store.old opened.old count taken × (wraps_of (field_at script.now.rows.now i 0) ≡ false) }
+    ensures { TermRan script.now.limits.now script.now.rows.now i levels script.now.readings.now store.old opened.old count taken store.new opened.new result }
 {
-    let Ok(kind) = Kind::try_from(field_at(rows, i, 0)) else {
+    let Ok(kind) = Kind::try_from(field_at(script.rows, i, 0)) else {
         unreachable!();
     };
     match kind {
         Kind::Block => {
-            let inner = run_block(
-                limits,
-                rows,
-                i,
-                levels - 1,
-                readings,
-                store,
-                opened,
-                count,
-                taken,
-            )?;
-            close_block(limits, store, opened, i, count, inner)
+            let inner = run_block(script, i, levels - 1, store, opened, count, taken)?;
+            close_block(script.limits, store, opened, i, count, inner)
         }
-        Kind::Choice => run_choice(
-            limits, rows, i, levels, readings, store, opened, count, taken,
-        ),
-        _ => run_plain(limits, rows, i, readings, store, count, taken),
+        Kind::Choice => run_choice(script, i, levels, store, opened, count, taken),
+        _ => run_plain(script, i, store, count, taken),
     }
 }
 
@@ -146,30 +132,26 @@ fn run_inmost(
 // only. The way inwards ends at the first term that is around none, so the first loop has no range.
 #[cycle(terms)]
 fn run_term(
-    limits: &Limits,
-    rows: &[u32],
+    script: &Script,
     i: usize,
     levels: usize,
-    readings: &[i32],
     store: &mut [u32],
     opened: &mut [u8],
     count: usize,
     taken: usize,
 ) -> Result<Standing, Refusal>
-    requires { TermReady limits.now rows.now i levels readings.now store.old opened.old count taken }
-    ensures { TermRan limits.now rows.now i levels readings.now store.old opened.old count taken store.new opened.new result }
+    requires { TermReady script.now.limits.now script.now.rows.now i levels script.now.readings.now store.old opened.old count taken }
+    ensures { TermRan script.now.limits.now script.now.rows.now i levels script.now.readings.now store.old opened.old count taken store.new opened.new result }
 {
     let mut around = 0;
-    while wraps(field_at(rows, i + around, 0)) {
+    while wraps(field_at(script.rows, i + around, 0)) {
         around += 1;
     }
     let inmost = i + around;
     let deeper = levels - around;
-    let mut ran = run_inmost(
-        limits, rows, inmost, deeper, readings, store, opened, count, taken,
-    )?;
+    let mut ran = run_inmost(script, inmost, deeper, store, opened, count, taken)?;
     for k in (0..around).rev() {
-        ran = run_after(limits, rows, i + k, store, opened, ran)?;
+        ran = run_after(script, i + k, store, opened, ran)?;
     }
     Ok(ran)
 }
@@ -178,20 +160,18 @@ fn run_term(
 // its term.
 #[cycle(terms)]
 pub fn run_block(
-    limits: &Limits,
-    rows: &[u32],
+    script: &Script,
     block: usize,
     levels: usize,
-    readings: &[i32],
     store: &mut [u32],
     opened: &mut [u8],
     count: usize,
     taken: usize,
 ) -> Result<Standing, Refusal>
-    requires { BlockReady limits.now rows.now block levels readings.now store.old opened.old count taken }
-    ensures { BlockRan limits.now rows.now block levels readings.now store.old opened.old count taken store.new opened.new result }
+    requires { BlockReady script.now.limits.now script.now.rows.now block levels script.now.readings.now store.old opened.old count taken }
+    ensures { BlockRan script.now.limits.now script.now.rows.now block levels script.now.readings.now store.old opened.old count taken store.new opened.new result }
 {
-    let terms = index_at(rows, block, 1);
+    let terms = index_at(script.rows, block, 1);
     let mut at = Standing {
         value: Value::Empty,
         taken,
@@ -199,15 +179,13 @@ pub fn run_block(
         next: block + 1,
     };
     for _ in 0..terms {
-        if let Err(reason) = drop_value(limits, store, at.value) {
+        if let Err(reason) = drop_value(script.limits, store, at.value) {
             return Err(Refusal {
                 reason,
                 place: block,
             });
         }
-        at = run_term(
-            limits, rows, at.next, levels, readings, store, opened, at.opened, at.taken,
-        )?;
+        at = run_term(script, at.next, levels, store, opened, at.opened, at.taken)?;
     }
     Ok(at)
 }

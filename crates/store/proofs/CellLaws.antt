@@ -67,15 +67,15 @@ module _ (set : Limits) where
       go (value.Owner c) n i s = absurd (n c refl)
       go (value.Reference r) n i s = drop_reference i s (location_of set.variables r)
 
-  module _ (w : List ℕ) (v : held.Value) (p : ℕ) (o : v ≡ value.Owner p) (e : stored.Row) (l : Loaded set w (set.variables + p) e) where
+  module _ (w : List ℕ) (p : ℕ) (e : stored.Row) (l : Loaded set w (set.variables + p) e) where
     cell_row : store_of set w (cell p) ≡ as_row set e
     cell_row = ap (store_of set w) (sym (cell_location set.variables p)) ∙ l.is
 
-    pub drop_shut : ((u : held.Value) → e ≡ entry.Open u → ⊥) → Tidy set w → Dropped set w v w (Err BackAlready)
+    pub drop_shut : ((u : held.Value) → e ≡ entry.Open u → ⊥) → Tidy set w → Dropped set w (value.Owner p) w (Err BackAlready)
     drop_shut n t = record {
       tidy = t;
       is = λ i taken opened h.
-          sym (ap (λ (x : held.Value). drop_value i (state_at set w taken opened) (as_value set x)) o ∙ drop_not_open i (state_at set w taken opened) p (ap is_open cell_row ∙ shut set e n));
+          sym (drop_not_open i (state_at set w taken opened) p (ap is_open cell_row ∙ shut set e n));
     }
 
     module _ (u : held.Value) (n : e ≡ entry.Open u) (w₁ : List ℕ) (q : Written set w (set.variables + p) entry.GivenBack w₁) where
@@ -91,13 +91,13 @@ module _ (set : Limits) where
       back_state : (taken : ℕ) (opened : List ℕ) → state_at set w₁ taken opened ≡ without (state_at set w taken opened) p
       back_state taken opened = ap (λ (S : Store). record { store = S; taken = taken; opened = opened }) given_back_law
 
-      pub drop_goes : (w₂ : List ℕ) (r : prelude.Result (Unit {0}) Reason) → Dropped set w₁ u w₂ r → Dropped set w v w₂ r
+      pub drop_goes : (w₂ : List ℕ) (r : prelude.Result (Unit {0}) Reason) → Dropped set w₁ u w₂ r → Dropped set w (value.Owner p) w₂ r
       drop_goes w₂ r d = record {
         tidy = d.tidy;
         is = λ i taken opened h.
             d.is i taken opened (subst InOrder (sym (back_state taken opened)) (without_in_order (state_at set w taken opened) h p (as_value set u) cell_open))
             ∙ ap (λ (s : State). drop_value i s (as_value set u)) (back_state taken opened)
-            ∙ sym (ap (λ (x : held.Value). drop_value i (state_at set w taken opened) (as_value set x)) o ∙ drop_owner (state_at set w taken opened) h i p (as_value set u) cell_open);
+            ∙ sym (drop_owner (state_at set w taken opened) h i p (as_value set u) cell_open);
       }
 
       -- One cell fewer is not given back.
