@@ -7,6 +7,10 @@ use mathlib.Core.List.{List}
 use lib.ListN.{get_or}
 use mir.Val.{Fits}
 use mir.Syntax.{w32}
+use Rattle.std.specs.Prelude as std
+use Rattle.std.specs.Result.{result_and}
+use Rattle.syntax.specs.declared.refusals.Refusal as code
+use Rattle.syntax.specs.Refusals.{refusal_of, told}
 use Rattle.syntax.specs.Result.{Result, ok, err, Refusal, ◌>>=◌}
 use Rattle.syntax.specs.Limits.{Limits}
 use Rattle.syntax.specs.Script.{Term}
@@ -24,6 +28,7 @@ use Rattle.syntax.proofs.Ranges.{Ranged, ranged}
 use Rattle.statics.specs.Rules.{Judged}
 use Rattle.statics.specs.Judge.{judge_script}
 use Rattle.ownership.specs.Answers.{check_of}
+use Rattle.rules.specs.RuleAnswers.{as_requirement}
 use Rattle.uses.specs.RowUses.{NamesBelow}
 use Rattle.term_judge.specs.JudgeRows.{script_at, EndsAt}
 use Rattle.ownership.proofs.JudgedRows.{names_below}
@@ -74,10 +79,7 @@ module _ (l : Limits) (rows : List ℕ) (under : Under 4294967296 rows) (n : ℕ
   unfolding check_of script_at ◌>>=◌
   judged r e = rw (e, script.4, script.2) (ap (λ (k : ℕ). judge_script l.variables script.0 >>= λ _. ok k) script.3)
 
-  pub rules_accepted : ok tt ≡ script_at l.variables tree → ok n ≡ check_of l rows
+  pub rules_told : (r : std.Result (Unit {0}) code.Refusal) → as_requirement r ≡ script_at l.variables tree → told (λ (k : ℕ). k) (result_and r (std.Ok n)) ≡ check_of l rows
   unfolding ◌>>=◌
-  rules_accepted e = judged (ok tt) e
-
-  pub rules_refused : (x : Refusal) → err x ≡ script_at l.variables tree → err x ≡ check_of l rows
-  unfolding ◌>>=◌
-  rules_refused x e = judged (err x) e
+  rules_told (std.Ok u) e = judged (ok tt) e
+  rules_told (std.Err x) e = judged (err (refusal_of x)) e

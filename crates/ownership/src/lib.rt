@@ -21,8 +21,7 @@ pub fn check_judged(set: Limits, rows: &[u32], terms: usize) -> Result<usize, Re
 {
     let levels = set.levels as usize;
     let variables = set.variables as usize;
-    judge_alone(rows, levels, variables, terms)?;
-    Ok(terms)
+    judge_alone(rows, levels, variables, terms).and(Ok(terms))
 }
 
 // Check (LANGUAGE 6.5): 74, 2 and 12 to 19 by the reader, then 30 to 43 by the ownership rules (5.7).
