@@ -6,6 +6,5 @@ pub mod refusals; // refusals.rt: why something is refused
 pub mod limits; // limits.rt: limits and refusal numbers
 pub mod kinds; // kinds.rt: the versions, and the kinds of terms
 pub mod fields; // fields.rt: the numbers of a row
-pub mod packed; // packed.rt: answers about terms and blocks, each in one number
 pub mod progress; // progress.rt: how far a script's bytes are read
 pub mod opening; // opening.rt: what stands at a kind byte
