@@ -57,6 +57,7 @@ impl Text {
         self.push_decimal(n.unsigned_abs() as usize);
     }
 
+    #[tactic(auto, using(crate::proofs::LineLaws::lengths))]
     fn push_accepted(&mut self, call: Called)
         requires { self.old.length ≡ 0 }
         ensures put { Appended self.old (line_of (called call.terms call.answer call.cells)) self.new }
@@ -71,6 +72,7 @@ impl Text {
         self.push(b"\n");
     }
 
+    #[tactic(auto, using(crate::proofs::LineLaws::lengths))]
     fn push_refused(&mut self, number: u32, place: usize)
         requires { self.old.length ≡ 0 }
         ensures put { Appended self.old (line_of (refused number place)) self.new }
