@@ -9,7 +9,8 @@ use crate::report::LINE;
 use room::Called;
 use syntax::refusals::Refusal;
 
-// The bytes so far. There is room for every line that the numbers' types allow.
+// The bytes so far: there is no heap, so an array and the length that is in use. There is room for every line that the
+// numbers' types allow.
 #[derive(Drop)]
 pub struct Text {
     bytes: [u8; LINE],
