@@ -1,4 +1,5 @@
-// Answers in C's form: each case of the library's answers in the fields of a struct.
+// Answers in C's form: each case of the library's answers in the fields of a struct. The C interface has numbers, a flag
+// and values beside each other, so these structs keep them.
 //
 // Every struct begins with number and place. Where number is 0 there is an answer: place is 0, and the fields after it
 // tell it. Else number is that of a refusal (LANGUAGE 5.3 to 5.5) or of a fault (5.6), place is its place (5.2), and the
