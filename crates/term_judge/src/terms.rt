@@ -49,8 +49,7 @@ pub fn judged_term(i: usize, next: usize, verdict: Verdict) -> Result<Judged, Re
     }
 }
 
-// The terms that have no inner term: the rule of each kind (LANGUAGE 3.18 to 3.22, 3.27). The term is at the row before
-// which those around it end.
+// The terms that have no inner term: the rule of each kind (LANGUAGE 3.18 to 3.22, 3.27). The term is at row `around.end`.
 pub fn judge_leaf(
     script: &Script,
     around: &Around,
@@ -108,8 +107,8 @@ pub fn judge_before(script: &Script, i: usize, env: &mut [u64]) -> Result<(), Re
     begin_let(env, script.variables, i, x)
 }
 
-// The rest of the rule of the assign (LANGUAGE 3.25) that those around end before, after its right side, which ends
-// before row `next`.
+// The rest of the rule of the assign at row `around.end` (LANGUAGE 3.25), after its right side, which ends before row
+// `next`.
 fn judge_assign(
     script: &Script,
     around: &Around,
@@ -132,8 +131,7 @@ fn judge_assign(
     judge_written(barred)
 }
 
-// What follows the inner term of the box, let or assign that those around end before: the rest of the rule
-// (LANGUAGE 3.23 to 3.25).
+// What follows the inner term of the box, let or assign at row `around.end`: the rest of the rule (LANGUAGE 3.23 to 3.25).
 pub fn judge_after(
     script: &Script,
     around: &Around,
@@ -154,6 +152,7 @@ pub fn judge_after(
             let x = index_at(script.rows, i, 1);
             judge_let(env, script.variables, level, x, inner.value)
         }
+        // An assign, the third of the kinds that stand around one inner term.
         _ => judge_assign(script, around, inner.next, env, inner.value),
     };
     judged_term(i, inner.next, verdict)
