@@ -107,6 +107,38 @@ trailing_least (suc n) w k l = go (w % 2) refl k l (trailing_least n (w / 2))
     go zero e (suc j) h ih = next_bit w j ∙ ih j (omega arith)
     go (suc d) e j h ih = absurd (omega arith)
 
+nothing : (b : Bool) → pick b false false ≡ false
+nothing true = refl
+nothing false = refl
+
+twice : (b : Bool) → pick b b false ≡ b
+twice true = refl
+twice false = refl
+
+-- A word and one less have all its bits in common, but the lowest.
+lowest_out : (n w k : ℕ) → 0 < w → w < 2 ^ n → pick (bit w k) (bit (w - 1) k) false ≡ pick (eqb (count_trailing_zeros n w) k) false (bit w k)
+unfolding count_trailing_zeros
+lowest_out zero w k p l = absurd (omega arith)
+lowest_out (suc n) w k p l = go (w % 2) refl k (λ j q. lowest_out n (w / 2) j q (omega arith))
+  where
+    go : (d : ℕ) → w % 2 ≡ d → (j : ℕ)
+        → ((i : ℕ) → 0 < w / 2 → pick (bit (w / 2) i) (bit (w / 2 - 1) i) false ≡ pick (eqb (count_trailing_zeros n (w / 2)) i) false (bit (w / 2) i))
+        → pick (bit w j) (bit (w - 1) j) false ≡ pick (eqb (under d (count_trailing_zeros n (w / 2))) j) false (bit w j)
+    go zero e zero ih =
+        let none : bit w 0 ≡ false = first_bit w ∙ ap (λ (d : ℕ). eqb d 1) e in
+        rw (none, eqb-suc-zero (count_trailing_zeros n (w / 2))) refl
+    go zero e (suc i) ih =
+        let less : (w - 1) / 2 ≡ w / 2 - 1 = omega arith in
+        rw (next_bit w i, next_bit (w - 1) i, less, eqb-suc-suc (count_trailing_zeros n (w / 2)) i) (ih i (omega arith))
+    go (suc zero) e zero ih =
+        let even : (w - 1) % 2 ≡ 0 = omega arith in
+        let none : bit (w - 1) 0 ≡ false = first_bit (w - 1) ∙ ap (λ (d : ℕ). eqb d 1) even in
+        rw none (nothing (bit w 0))
+    go (suc zero) e (suc i) ih =
+        let half : (w - 1) / 2 ≡ w / 2 = omega arith in
+        rw (next_bit w i, next_bit (w - 1) i, half, eqb-zero-suc i) (twice (bit (w / 2) i))
+    go (suc (suc d)) e j ih = absurd (omega (arith, mod-lt w two_pos))
+
 no_bits : (n w : ℕ) → w < 2 ^ n → ((k : ℕ) → k < n → bit w k ≡ false) → w ≡ 0
 no_bits n zero l h = refl
 no_bits n (suc w) l h = let B = bit_trailing n (suc w) (zero-lt-suc w) l in absurd (true≢false (sym B.0 ∙ h _ B.1))
@@ -199,6 +231,39 @@ high_least s x z h = go (ltb x 64) refl (ltb (x - 64) (count_trailing_zeros 64 s
         let g = ltb-false x 64 e in
         let l = ltb-true (x - 64) (count_trailing_zeros 64 s.high) f in
         absurd (false≢true (sym (in_high s x g (omega (arith, trailing_le 64 s.high)) ∙ trailing_least 64 s.high (x - 64) l) ∙ h))
+
+-- Without its lowest number a set has the others.
+pub low_out : (s : Roots) → s.low < 2 ^ 64 → s.low ≢ 0 → (y : ℕ)
+    → has (record { low = bit_and s.low (s.low - 1); high = s.high }) y ≡ pick (eqb (count_trailing_zeros 64 s.low) y) false (has s y)
+unfolding has
+low_out s l n y = go (ltb y 64) (ltb y 128) refl
+  where
+    go : (a b : Bool) → ltb y 64 ≡ a → pick a (bit (bit_and s.low (s.low - 1)) y) (pick b (bit s.high (y - 64)) false)
+        ≡ pick (eqb (count_trailing_zeros 64 s.low) y) false (pick a (bit s.low y) (pick b (bit s.high (y - 64)) false))
+    go true b e = bit_and_law s.low (s.low - 1) y ∙ lowest_out 64 s.low y (omega arith) l
+    go false b e =
+        let g = ltb-false y 64 e in
+        let B = bit_trailing 64 s.low (omega arith) l in
+        sym (ap (λ (q : Bool). pick q false (pick b (bit s.high (y - 64)) false)) (ne_eqb (count_trailing_zeros 64 s.low) y (λ q. omega (arith, B.1))))
+
+pub high_out : (s : Roots) → s.high < 2 ^ 64 → s.low ≡ 0 → s.high ≢ 0 → (y : ℕ)
+    → has (record { low = s.low; high = bit_and s.high (s.high - 1) }) y ≡ pick (eqb (64 + count_trailing_zeros 64 s.high) y) false (has s y)
+unfolding has
+high_out s l z n y = go (ltb y 64) (ltb y 128) refl refl
+  where
+    moved : 64 ≤ y → (q : Bool) → eqb (count_trailing_zeros 64 s.high) (y - 64) ≡ q → q ≡ eqb (64 + count_trailing_zeros 64 s.high) y
+    moved g true e = let k = eqb-true (count_trailing_zeros 64 s.high) (y - 64) e in sym (eq-eqb (64 + count_trailing_zeros 64 s.high) y (omega arith))
+    moved g false e = sym (ne_eqb (64 + count_trailing_zeros 64 s.high) y (λ q. true≢false (sym (eq-eqb (count_trailing_zeros 64 s.high) (y - 64) (omega arith)) ∙ e)))
+
+    go : (a b : Bool) → ltb y 64 ≡ a → ltb y 128 ≡ b → pick a (bit s.low y) (pick b (bit (bit_and s.high (s.high - 1)) (y - 64)) false)
+        ≡ pick (eqb (64 + count_trailing_zeros 64 s.high) y) false (pick a (bit s.low y) (pick b (bit s.high (y - 64)) false))
+    go true b e f =
+        let none : bit s.low y ≡ false = ap (λ (w : ℕ). bit w y) z ∙ bit_zero y in
+        none ∙ sym (ap (pick (eqb (64 + count_trailing_zeros 64 s.high) y) false) none ∙ nothing (eqb (64 + count_trailing_zeros 64 s.high) y))
+    go false true e f =
+        bit_and_law s.high (s.high - 1) (y - 64) ∙ lowest_out 64 s.high (y - 64) (omega arith) l
+        ∙ ap (λ (q : Bool). pick q false (bit s.high (y - 64))) (moved (ltb-false y 64 e) (eqb (count_trailing_zeros 64 s.high) (y - 64)) refl)
+    go false false e f = sym (nothing (eqb (64 + count_trailing_zeros 64 s.high) y))
 
 -- ---- sets made of others
 

@@ -15,16 +15,22 @@ pub struct Roots {
 const WORD: usize = 64;
 
 impl Roots {
-    // Takes the lowest number out, for a walk over a set that may grow in between.
+    // Takes the lowest number out, for a walk over a set that may grow in between. A word and one less have all the bits
+    // in common that the word has, but its lowest one.
     pub fn take_lowest(&mut self) -> Option<usize>
         ensures { YieldsFirst members self.old result self.new }
     {
-        if is_empty(*self) {
-            return None;
+        if self.low != 0 {
+            let x = self.low.trailing_zeros() as usize;
+            self.low &= self.low - 1;
+            return Some(x);
         }
-        let x = lowest(*self);
-        *self = without(*self, x);
-        Some(x)
+        if self.high != 0 {
+            let x = self.high.trailing_zeros() as usize;
+            self.high &= self.high - 1;
+            return Some(WORD + x);
+        }
+        None
     }
 }
 
