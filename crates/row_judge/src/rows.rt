@@ -1,5 +1,5 @@
-// Terms, blocks and choices in term rows (LANGUAGE 5.12), and what stands after them (5.13): what check, machine and writer rely
-// on.
+// Terms, blocks and choices in term rows (LANGUAGE 5.12), and what stands after them (5.13): what check, machine and
+// writer rely on.
 ghost use Rattle.std.specs.Prelude.{◌≡◌, true, false, ◌∷◌, [], ◌+◌, ◌*◌, ◌<◌, ◌≤◌, length, take, drop};
 ghost use Rattle.syntax.specs.KindNumbers.{as_kind};
 ghost use Rattle.syntax.specs.Kinds.{until, fields};
@@ -13,7 +13,9 @@ use syntax::kinds::Kind;
 use syntax::limits::{self, Limits};
 use syntax::refusals::{Reason, Refusal};
 
-// What has been judged so far: all rows before the next one, with so many boxes among them.
+// What has been judged so far: all rows before the next one, with so many boxes among them. It is lent down, so that what
+// the judges return stays small. The set, the version and the rows are parameters beside it: with rows in the field of a
+// struct the proof did not close, since nothing says there that they are numbers of 32 bits.
 #[derive(Clone, Copy, Debug, PartialEq, Eq)]
 pub struct Progress {
     pub next: usize,
@@ -76,6 +78,7 @@ pub fn no_block(version: usize, rows: &[u32], i: usize) -> bool
 
 // The kind of row i, or why it is refused, in the order 12, 13, 15, 17, 14 (LANGUAGE 5.12). 16 cannot be met, since the rows
 // hold no more terms than the set has.
+#[tactic(auto, unfolding(syntax::specs::Limits::row_numbers))]
 fn judge_row(
     limits: &Limits,
     version: usize,
@@ -231,7 +234,9 @@ fn first_from(rows: &[u32], from: usize) -> usize
 
 // 19 (LANGUAGE 5.13): where the first number from `from` on that is not 0 stands; the length where there is none. In a
 // small script most rows are unused, so 32 numbers at a time are passed over: the time of a loop of a few instructions
-// depends on where it is linked (DECISIONS C51). The fewer than 32 at the end are looked at together too.
+// depends on where it is linked (DECISIONS C51). The fewer than 32 at the end are looked at together too. The loop steps an
+// index by 32, since the answer is an index: over `chunks_exact` it would be counted beside the chunks, and what they leave
+// be asked for besides.
 pub fn first_used(rows: &[u32], from: usize) -> usize
     requires { from ≤ length rows.now }
     ensures { result ≡ first_used from (drop from rows.now) }

@@ -12,9 +12,6 @@ use Rattle.reader.proofs.judge_given.Goals as goal
 pub returns-then-no_block : goal.returns-then-no_block
 returns-then-no_block c = judged_refused _ _ _ c.requires.1 _ (due_refused _ _ _ _ 0 0 c.requires.1 (omega arith) (sym c.no_block.ensures ∙ c.if-no_block.true))
 
-pub judge_block-requires : goal.judge_block-requires
-judge_block-requires c = (record { ranges = c.requires.0; full = c.requires.1; near = omega arith; few = omega arith }, omega arith)
-
 pub returns-in_err-judge_block : goal.returns-in_err-judge_block
 returns-in_err-judge_block c =
     let p = err_from_is_err_and c.from_residual.result c.from_residual.ensures.1 in

@@ -14,9 +14,6 @@ pub returns-then-not-knows_version : goal.returns-then-not-knows_version
 unfolding newest
 returns-then-not-knows_version c = version_refused _ _ _ (sym c.in_ranges.ensures ∙ c.if-not-in_ranges.false) (c.if-rows-row_numbers.false ∙ c.row_numbers.ensures) (sym c.knows_version.ensures ∙ c.if-not-knows_version.true)
 
-pub judge_given-requires : goal.judge_given-requires
-judge_given-requires c = (sym c.in_ranges.ensures ∙ c.if-not-in_ranges.false, c.if-rows-row_numbers.false ∙ c.row_numbers.ensures)
-
 pub returns : goal.returns
 unfolding newest
 returns c =

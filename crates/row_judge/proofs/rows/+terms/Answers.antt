@@ -15,9 +15,6 @@ use Rattle.row_judge.proofs.rows.+terms.Goals as goal
 pub judge_block-loop-term-init : goal.judge_block-loop-term-init
 judge_block-loop-term-init t c = record { ready = c.requires.0; rest = rest_left _ _ _ _ _ _ _ _ _ (omega arith) }
 
-pub judge_block-judge_term-requires : goal.judge_block-judge_term-requires
-judge_block-judge_term-requires t c = (omega (arith, c.decreases), c.loop-term.invariant.ready)
-
 pub judge_block-returns-in_err-judge_term : goal.judge_block-returns-in_err-judge_term
 judge_block-returns-in_err-judge_term t c =
     let p = err_from_is_err_and c.from_residual.result c.from_residual.ensures.1 in
@@ -62,20 +59,8 @@ judge_due_block-returns-then-no_block t c = due_refused _ _ _ _ _ _ c.requires.f
 pub judge_due_block-returns : goal.judge_due_block-returns
 judge_due_block-returns t c = c.judge_block.ensures ∙ due_same _ _ _ _ _ _ c.requires.full c.requires.few (sym c.no_block.ensures ∙ c.if-no_block.false)
 
-pub judge_term-loop-kind-init : goal.judge_term-loop-kind-init
-judge_term-loop-kind-init t c = record { ready = c.requires; deep = omega arith; same = refl }
-
-pub judge_term-judge_row-requires : goal.judge_term-judge_row-requires
-judge_term-judge_row-requires t c = (c.loop-kind.invariant.ready.full, c.loop-kind.invariant.ready.near)
-
 pub judge_term-returns-in-Err : goal.judge_term-returns-in-Err
 judge_term-returns-in-Err t c = refused_span _ _ _ _ _ _ _ c.loop-kind.invariant.ready _ c.in-Err.ensures ∙ c.loop-kind.invariant.same
-
-pub judge_term-overflow_add-progress : goal.judge_term-overflow_add-progress
-judge_term-overflow_add-progress t c =
-    let l = c.loop-kind in
-    let k = c.in-Ok.ensures in
-    omega (arith, row_room _ _ _ _ _ _ _ l.invariant.ready _ k, (ranged _ l.invariant.ready.ranges).terms)
 
 pub judge_term-overflow_sub-left : goal.judge_term-overflow_sub-left
 judge_term-overflow_sub-left t c =

@@ -4,9 +4,7 @@ use native.Mathlib.Omega.{arith}
 use mathlib.Core.Path.{◌≡◌, refl, sym, ap, ◌∙◌}
 use mathlib.Core.Bool.{Bool, true, false, ◌&&◌, false≢true}
 use lib.Dec.{leb, eqb}
-use borrow.Author.Rules.{rules}
 use borrow.Author.Tests.{eq-eqb, ne_eqb, le-leb, lt-leb}
-use Rattle.syntax.specs.Limits.{row_numbers}
 use Rattle.syntax.specs.RowParts.{row_number}
 use Rattle.syntax.specs.KindNumbers.{number_in}
 use Rattle.row_judge.proofs.RowSpans.{kind_fields, only_box}
@@ -28,10 +26,6 @@ pub returns-then-limits-i : goal.returns-then-limits-i
 unfolding row_number
 returns-then-limits-i c = (rw (le-leb _ _ c.if-limits-i.true), omega arith)
 
-pub field_at-number-requires : goal.field_at-number-requires
-unfolding row_numbers
-field_at-number-requires c = search rules
-
 pub returns-then-number-eq0 : goal.returns-then-number-eq0
 unfolding row_number
 returns-then-number-eq0 c = (rw (lt-leb _ _ c.if-limits-i.false, ← c.field_at-number.ensures, eq-eqb _ _ c.if-number-eq0.true), omega arith)
@@ -49,22 +43,6 @@ unfolding row_number
 returns-then-limits-progress c =
     let b : c.field_at-number.result ≡ 7 = elim c.match-matches.branch [ in-Box w ↦ sym c.in-Some.ensures.0 ∙ ap number_in w.in-Box.is | in_default-matches w ↦ absurd (false≢true (sym w.matches-is ∙ c.if-matches.true)) ] in
     (rw (lt-leb _ _ c.if-limits-i.false, ← c.field_at-number.ensures, ne_eqb _ _ c.if-number-eq0.false, c.in-Some.ensures.1, ne_eqb _ _ c.if-levels-eq0.false, eq-eqb _ _ b, le-leb _ _ c.if-limits-progress.true), omega arith)
-
-pub field_at-a-requires : goal.field_at-a-requires
-unfolding row_numbers
-field_at-a-requires c = search rules
-
-pub field_at-b-requires : goal.field_at-b-requires
-unfolding row_numbers
-field_at-b-requires c = search rules
-
-pub field_at-c-requires : goal.field_at-c-requires
-unfolding row_numbers
-field_at-c-requires c = search rules
-
-pub field_at-d-requires : goal.field_at-d-requires
-unfolding row_numbers
-field_at-d-requires c = search rules
 
 pub returns-then-not-fields_fit : goal.returns-then-not-fields_fit
 unfolding row_number
