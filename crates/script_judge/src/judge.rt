@@ -198,16 +198,16 @@ fn judge_term(
         end: i + count,
         named,
     };
-    let mut judged = judge_inmost(script, &around, levels - count, env, level)?;
+    let mut judged = judge_inmost(script, &around, levels - count, env, level);
     for k in (0..count).rev() {
         let around = Around {
             start: i,
             end: i + k,
             named,
         };
-        judged = judge_after(script, &around, env, level, judged)?;
+        judged = judge_after(script, &around, env, level, judged);
     }
-    Ok(judged)
+    judged
 }
 
 // A block's terms in order (LANGUAGE 3.28), count of them from row i on: the value of the last (3.4).
