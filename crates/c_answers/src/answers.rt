@@ -7,7 +7,7 @@
 // Run, RunUnchecked and Call are _ran, _ran_unchecked and _called.
 ghost use Rattle.std.specs.Prelude.{◌≡◌};
 ghost use Rattle.syntax.specs.Refusals.{told};
-ghost use Rattle.reader.specs.Outcomes.{script_told};
+ghost use Rattle.reader.specs.Outcomes.{told_read};
 ghost use Rattle.machine.specs.Outcomes.{told_unchecked};
 ghost use Rattle.room.specs.Running.{told_run};
 ghost use Rattle.room.specs.Calling.{told_call};
@@ -27,7 +27,7 @@ pub struct Script {
 }
 
 impl From<Result<reader::Script, Refusal>> for Script {
-    ghost from_gives = { λ read script. script ≡ script_in (told script_told read) };
+    ghost from_gives = { λ read script. script ≡ script_in (told_read read) };
 
     #[tactic(auto, unfolding(crate::specs::Answers::script_in))]
     fn from(read: Result<reader::Script, Refusal>) -> Script {
