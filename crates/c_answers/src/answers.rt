@@ -1,4 +1,5 @@
-// Answers in C's form: each case of the library's answers in the fields of a struct.
+// Answers in C's form: each case of the library's answers in the fields of a struct. The C interface has numbers, a flag
+// and values beside each other, so these structs keep them.
 //
 // Every struct begins with number and place. Where number is 0 there is an answer: place is 0, and the fields after it
 // tell it. Else number is that of a refusal (LANGUAGE 5.3 to 5.5) or of a fault (5.6), place is its place (5.2), and the
@@ -6,7 +7,7 @@
 // Run, RunUnchecked and Call are _ran, _ran_unchecked and _called.
 ghost use Rattle.std.specs.Prelude.{◌≡◌};
 ghost use Rattle.syntax.specs.Refusals.{told};
-ghost use Rattle.reader.specs.Outcomes.{script_told};
+ghost use Rattle.reader.specs.Outcomes.{told_read};
 ghost use Rattle.machine.specs.Outcomes.{told_unchecked};
 ghost use Rattle.room.specs.Running.{told_run};
 ghost use Rattle.room.specs.Calling.{told_call};
@@ -26,7 +27,7 @@ pub struct Script {
 }
 
 impl From<Result<reader::Script, Refusal>> for Script {
-    ghost from_gives = { λ read script. script ≡ script_in (told script_told read) };
+    ghost from_gives = { λ read script. script ≡ script_in (told_read read) };
 
     #[tactic(auto, unfolding(crate::specs::Answers::script_in))]
     fn from(read: Result<reader::Script, Refusal>) -> Script {

@@ -50,7 +50,7 @@ fn run_script(
     clear(store);
     let deeper = limits.levels as usize - 1;
     let script = Script {
-        limits,
+        limits: *limits,
         rows,
         readings,
     };

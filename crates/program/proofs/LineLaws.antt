@@ -9,6 +9,7 @@ use lib.IntN.{ℤ, pos, negsuc, nat_abs}
 use lib.Signed.{lt_z}
 use lib.ListN.{length, length-append}
 use mir.Syntax.{w32, w64}
+use mir.Facts.{to_z-of_z}
 use mir.Val.{Fits, SFits}
 use borrow.Author.Tests.{lt-ltb, le-ltb, ltb-true, ltb-false}
 use Rattle.syntax.specs.Result.{pick}
@@ -97,3 +98,6 @@ pub signed_short : (z : ℤ) → SFits w32 z → length (signed z) ≤ 11
 unfolding signed
 signed_short (pos n) h = omega (arith, decimal_half n (omega (arith, h.sfits)))
 signed_short (negsuc n) h = omega (arith, decimal_half (suc n) (omega (arith, h.sfits)))
+
+-- How long numbers are at most, for what puts several.
+pub ruleset lengths = (decimal_word, signed_short, to_z-of_z)

@@ -1,15 +1,14 @@
 -- What `report` leaves, from what the call answers and from the line that is put into the buffer.
-use Prim.Native.Nat.{ℕ, zero, suc, ◌*◌, ◌≤◌, ◌<◌}
+use Prim.Native.Nat.{ℕ, ◌≤◌, ◌<◌}
 use native.Mathlib.Omega.{arith}
-use mathlib.Core.Path.{◌≡◌, refl, sym, ap, ap₂, ◌∙◌}
+use mathlib.Core.Path.{◌≡◌, ap, ap₂, ◌∙◌}
 use mathlib.Core.List.{List, ◌++◌}
-use lib.IntN.{ℤ, pos}
-use lib.ListN.{length, get_or, take, drop}
+use lib.IntN.{ℤ}
+use lib.ListN.{length, take, drop}
 use borrow.Author.Tests.{lt-ltb, le-ltb}
 use Rattle.syntax.specs.Layout.{zeros}
 use Rattle.syntax.specs.Limits.{Limits, base, row_numbers, store_numbers}
-use Rattle.std.proofs.lemmas.List.{ext_get_or}
-use Rattle.room.specs.Calling.{CallAnswer, CallMade, call_of, reading_at}
+use Rattle.room.specs.Calling.{CallAnswer, CallMade, call_of}
 use Rattle.program.specs.Line.{line_of, short_line, readings_of, in_front, reported, report_call, report_of, line_reported, base_report_of}
 use Rattle.program.specs.declared.line.Text.{Text}
 use Rattle.program.specs.Texts.{text_in, Appended}
@@ -50,20 +49,3 @@ pub report_base : (input rows store line : List ℕ) (r : ℕ) (rows₁ store₁
 unfolding base_report_of
 report_base input rows store line r rows₁ store₁ after e p q =
     ap line_reported (e ∙ ap₂ (λ (x y : List ℕ). report_of base input x y line) p q)
-
--- Eight numbers that are the readings, one by one.
-each : (input : List ℕ) (k : ℕ) → k < 8 → get_or (readings_of input) k (pos 0) ≡ reading_at input (4 * k)
-unfolding readings_of
-each input zero h = refl
-each input (suc zero) h = refl
-each input (suc (suc zero)) h = refl
-each input (suc (suc (suc zero))) h = refl
-each input (suc (suc (suc (suc zero)))) h = refl
-each input (suc (suc (suc (suc (suc zero))))) h = refl
-each input (suc (suc (suc (suc (suc (suc zero)))))) h = refl
-each input (suc (suc (suc (suc (suc (suc (suc zero))))))) h = refl
-each input (suc (suc (suc (suc (suc (suc (suc (suc k)))))))) h = absurd (omega arith)
-
-pub readings_are : (input : List ℕ) (r : List ℤ) → length r ≡ 8 → ((k : ℕ) → k < 8 → get_or r k (pos 0) ≡ reading_at input (4 * k)) → r ≡ readings_of input
-unfolding readings_of
-readings_are input r l p = ext_get_or (pos 0) r (readings_of input) l (λ i h. let q : i < 8 = omega arith in p i q ∙ sym (each input i q))

@@ -9,7 +9,8 @@ use crate::report::LINE;
 use room::Called;
 use syntax::refusals::Refusal;
 
-// The bytes so far. There is room for every line that the numbers' types allow.
+// The bytes so far: there is no heap, so an array and the length that is in use. There is room for every line that the
+// numbers' types allow.
 #[derive(Drop)]
 pub struct Text {
     bytes: [u8; LINE],
@@ -57,6 +58,7 @@ impl Text {
         self.push_decimal(n.unsigned_abs() as usize);
     }
 
+    #[tactic(auto, using(crate::proofs::LineLaws::lengths))]
     fn push_accepted(&mut self, call: Called)
         requires { self.old.length ≡ 0 }
         ensures put { Appended self.old (line_of (called call.terms call.answer call.cells)) self.new }
@@ -71,6 +73,7 @@ impl Text {
         self.push(b"\n");
     }
 
+    #[tactic(auto, using(crate::proofs::LineLaws::lengths))]
     fn push_refused(&mut self, number: u32, place: usize)
         requires { self.old.length ≡ 0 }
         ensures put { Appended self.old (line_of (refused number place)) self.new }

@@ -41,7 +41,7 @@ fn readings_of(input: &[u8]) -> [i32; 8]
 }
 
 // The program's work (LANGUAGE 6.9): the line for an input of eight readings and a script goes to the front of `line`,
-// and the answer is its length.
+// and the answer is its length. (No heap: who calls lends the bytes.)
 pub fn report(
     set: Limits,
     input: &[u8],
