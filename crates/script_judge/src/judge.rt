@@ -39,7 +39,7 @@ fn judge_block(
     script: &Script,
     around: &Around,
     levels: usize,
-    env: &mut [u64],
+    env: &mut [Row],
     level: u64,
 ) -> Result<Judged, Refusal>
     requires { IsTree (tree_at script.now.variables levels script.now.rows.now around.now.end) × (field_at script.now.rows.now around.now.end 0 ≡ 11) × Ready script.now.variables level levels script.now.rows.now env.old script.now.uses.now × (around.now.start ≤ around.now.end) × AllAround script.now around.now }
@@ -62,7 +62,7 @@ fn judge_branches(
     script: &Script,
     i: usize,
     levels: usize,
-    env: &mut [u64],
+    env: &mut [Row],
     level: u64,
     named: Roots,
     kept: &mut [KeptState],
@@ -87,7 +87,7 @@ fn judge_few_kept(
     script: &Script,
     i: usize,
     levels: usize,
-    env: &mut [u64],
+    env: &mut [Row],
     level: u64,
     named: Roots,
     count: usize,
@@ -105,7 +105,7 @@ fn judge_many_kept(
     script: &Script,
     i: usize,
     levels: usize,
-    env: &mut [u64],
+    env: &mut [Row],
     level: u64,
     named: Roots,
     count: usize,
@@ -123,7 +123,7 @@ fn judge_choice(
     script: &Script,
     around: &Around,
     levels: usize,
-    env: &mut [u64],
+    env: &mut [Row],
     level: u64,
 ) -> Result<Judged, Refusal>
     requires { IsTree (tree_at script.now.variables levels script.now.rows.now around.now.end) × (field_at script.now.rows.now around.now.end 0 ≡ 12) × Ready script.now.variables level levels script.now.rows.now env.old script.now.uses.now × (around.now.start ≤ around.now.end) × AllAround script.now around.now }
@@ -151,7 +151,7 @@ fn judge_inmost(
     script: &Script,
     around: &Around,
     levels: usize,
-    env: &mut [u64],
+    env: &mut [Row],
     level: u64,
 ) -> Result<Judged, Refusal>
     requires { IsTree (tree_at script.now.variables levels script.now.rows.now around.now.end) × (wraps_of (field_at script.now.rows.now around.now.end 0) ≡ false) × Ready script.now.variables level levels script.now.rows.now env.old script.now.uses.now × (around.now.start ≤ around.now.end) × AllAround script.now around.now }
@@ -181,7 +181,7 @@ fn judge_term(
     script: &Script,
     i: usize,
     levels: usize,
-    env: &mut [u64],
+    env: &mut [Row],
     level: u64,
     named: Roots,
 ) -> Result<Judged, Refusal>
@@ -217,7 +217,7 @@ fn judge_terms(
     i: usize,
     count: usize,
     levels: usize,
-    env: &mut [u64],
+    env: &mut [Row],
     level: u64,
     named: Roots,
 ) -> Result<Judged, Refusal>
@@ -240,7 +240,7 @@ pub fn judge_script(
     rows: &[u32],
     terms: usize,
     levels: usize,
-    env: &mut [u64],
+    env: &mut [Row],
     variables: usize,
     uses: &mut [u32],
 ) -> Result<(), Refusal>

@@ -4,21 +4,25 @@ use native.Mathlib.Omega.{arith}
 use native.Mathlib.Decide.{ℕ_discrete, dec_lt}
 use mathlib.Core.Path.{◌≡◌, refl, sym, ap, ap₂, ◌∙◌}
 use mathlib.Core.Logic.{⊎_elim, ◌⊎◌, inl, inr}
-use mathlib.Core.Bool.{Bool, true, false, ◌&&◌}
+use mathlib.Core.Bool.{Bool, true, false, not, ◌&&◌}
 use mathlib.Core.List.{List}
-use lib.Dec.{eqb}
+use denote.Enum.Bare.{sameb}
+use lib.Dec.{eqb, leb}
 use lib.ListN.{length, set, get_or, length-set}
 use lib.Seq.{get_or-set_same, get_or-set_other}
-use borrow.Author.Tests.{eq-eqb, ne_eqb}
+use borrow.Author.Tests.{eq-eqb, ne_eqb, leb-true, leb-false}
 use Rattle.syntax.specs.Result.{pick}
 use Rattle.variables.specs.declared.table.Row.{Row}
 use Rattle.variables.specs.declared.roots.Roots.{Roots}
+use Rattle.variables.specs.declared.table.Status.{Status}
+use Rattle.variables.specs.declared.table.Status.TheVariants as status
+use Rattle.variables.specs.contracts.table.Status.{the_type}
 use Rattle.variables.specs.declared.table.Entry.TheVariants as entry
 use Rattle.statics.specs.Links.{Link}
 use Rattle.statics.specs.Environment.{free, used, borrow_end, level_of, is_free}
 use Rattle.variables.specs.Chains.{chain_of}
 use Rattle.variables.specs.Masks.{has}
-use Rattle.variables.specs.Table.{entry_word, links_at, long_at, roots_at, end_in, variable_of, slot_as, environment_of, state_at, entry_at, TableFor, SameLinks, put_at, put_set, row_at, words_of, blank}
+use Rattle.variables.specs.Table.{entry_word, links_at, long_at, roots_at, end_in, variable_of, slot_as, environment_of, state_at, entry_at, TableFor, SameLinks, put_at, put_set, row_at, words_of, blank, status_number}
 use Rattle.statics.proofs.RootLaws.{same_roots}
 use Rattle.variables.proofs.EntryLaws.{status_live}
 
@@ -98,6 +102,37 @@ module _ (l : List Row) (x : ℕ) (room : x < length l) (r : Row) where
       ∙ sym (own_row first x (k + 4) s.high i)) y j
 
 -- ---- a number by its status
+
+not_both : (b : Bool) → not b ≡ true → b ≡ false
+not_both true h = sym h
+not_both false h = refl
+
+not_neither : (b : Bool) → not b ≡ false → b ≡ true
+not_neither true h = refl
+not_neither false h = sym h
+
+pub free_if : (s : Status) → sameb the_type s status.Free ≡ eqb (status_number s) 0
+free_if status.Free = refl
+free_if status.Used = refl
+free_if status.Live = refl
+
+-- What a test for being in scope says.
+live_if : (s : Status) → sameb the_type s status.Live ≡ leb 2 (status_number s)
+live_if status.Free = refl
+live_if status.Used = refl
+live_if status.Live = refl
+
+pub now_live : (s : Status) (b : Bool) → b ≡ sameb the_type s status.Live → b ≡ true → 2 ≤ status_number s
+now_live s b e h = leb-true 2 (status_number s) (sym (live_if s) ∙ sym e ∙ h)
+
+pub now_dead : (s : Status) (b : Bool) → b ≡ sameb the_type s status.Live → b ≡ false → status_number s < 2
+now_dead s b e h = leb-false 2 (status_number s) (sym (live_if s) ∙ sym e ∙ h)
+
+pub not_dead : (s : Status) (b : Bool) → b ≡ not (sameb the_type s status.Live) → b ≡ false → 2 ≤ status_number s
+not_dead s b e h = now_live s (sameb the_type s status.Live) refl (not_neither (sameb the_type s status.Live) (sym e ∙ h))
+
+pub is_dead : (s : Status) (b : Bool) → b ≡ not (sameb the_type s status.Live) → b ≡ true → status_number s < 2
+is_dead s b e h = now_dead s (sameb the_type s status.Live) refl (not_both (sameb the_type s status.Live) (sym e ∙ h))
 
 module _ (env : List Row) (x : ℕ) where
   pub slot_free : entry_word env x 0 ≡ 0 → environment_of env x ≡ free
