@@ -25,6 +25,7 @@ use uses::row::place_at;
 use uses::script::{Around, Script};
 use uses::uses::{find_uses, read_barred};
 use variables::roots::{Roots, no_roots, only, unite};
+use variables::table::Row;
 
 // How many numbers' state a choice keeps in the smaller of two places, and in the larger, for the most variables that a
 // set may have (LANGUAGE 2.8).
