@@ -44,15 +44,15 @@ module _ {A : Type 0} (a : A) where
   part_length m w h = length-take-le w (replicate m a) (rw (length-replicate m a) h)
 
 -- The parts of two arrays, of w rows and of u numbers, that nv variables take.
-module _ (w u nv : ℕ) (rows : nv + 2 ≤ w) (fits : nv ≤ u) where
+module _ (r : Row) (new : r ≡ blank) (w u nv : ℕ) (rows : nv + 2 ≤ w) (fits : nv ≤ u) where
   abbrev table : List Row
-  table = take (nv + 2) (replicate w blank)
+  table = take (nv + 2) (replicate w r)
 
   abbrev uses : List ℕ
   uses = take nv (replicate u 0)
 
   pub table_long : nv + 2 ≡ length table
-  table_long = sym (part_length blank w (nv + 2) rows)
+  table_long = sym (part_length r w (nv + 2) rows)
 
   pub uses_long : nv ≡ length uses
   uses_long = sym (part_length 0 u nv fits)
@@ -62,4 +62,4 @@ module _ (w u nv : ℕ) (rows : nv + 2 ≤ w) (fits : nv ≤ u) where
   tables_ready most = ((sym table_long, most, all_noted table blanks nv), all_free table blanks nv, sym uses_long, first_same 0 u nv)
     where
       blanks : (x : ℕ) → row_at table x ≡ blank
-      blanks = first_same blank w (nv + 2)
+      blanks x = ap (λ (z : Row). get_or (take (nv + 2) (replicate w r)) x z) (sym new) ∙ first_same r w (nv + 2) x ∙ new
