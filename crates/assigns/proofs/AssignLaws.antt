@@ -11,6 +11,7 @@ use lib.Dec.{leb}
 use borrow.Author.Tests.{eq-eqb, ne_eqb}
 use Rattle.syntax.specs.Result.{ok, err, need, ◌>>=◌}
 use Rattle.syntax.specs.Script.{Place}
+use Rattle.variables.specs.declared.table.Row.{Row}
 use Rattle.variables.specs.declared.roots.Roots.{Roots}
 use Rattle.rules.specs.declared.rules.Located.{Located}
 use Rattle.std.specs.Prelude.{Result, Some}
@@ -45,7 +46,7 @@ passes_as follows k links r b e f h = ap (λ (j : ℕ). no_shared (take j (chain
 
 -- ---- the rule
 
-module _ (n : ℕ) (env : List ℕ) (level : ℕ) (N : Neat n (environment_of env) level) (i : ℕ) (p : Place) (links rest : ℕ) (to : Roots)
+module _ (n : ℕ) (env : List Row) (level : ℕ) (N : Neat n (environment_of env) level) (i : ℕ) (p : Place) (links rest : ℕ) (to : Roots)
     (F : PlaceFound n (environment_of env) p links rest to (judge_place n (environment_of env) i p)) where
   -- A variable that may be written has, from one of its own links on, the links that are left.
   own_rest : (x : ℕ) → has to x ≡ true → (r : ℕ) × (r ≤ leading_boxes (chain_of (links_at env x))) × (drop r (chain_of (links_at env x)) ≡ chain_of rest)
@@ -106,7 +107,7 @@ module _ (n : ℕ) (env : List ℕ) (level : ℕ) (N : Neat n (environment_of en
         unfolding judge_write valued need ◌>>=◌
         lives_too_short h = rw (F.is, F.chain, passed, after_links, same_links_law rest t.links, eq-eqb rest t.links same, lives, h) refl
 
-        module _ (enough : long ≡ true) (env' : List ℕ) (W : Written env n to s env') where
+        module _ (enough : long ≡ true) (env' : List Row) (W : Written env n to s env') where
           written_is : environment_of env' ≡ write (environment_of env) F.located.to b
           written_is =
               W.is b (length (chain_of rest)) (λ x h. written_end t.roots s recorded x h ∙ is_b)

@@ -18,11 +18,11 @@ use syntax::fields::index_of;
 use syntax::refusals::Reason;
 use variables::chains::no_shared;
 use variables::roots::{Roots, is_empty, lowest, without};
-use variables::table::Place;
+use variables::table::{Place, Row};
 use variables::verdicts::{ValueType, Verdict};
 
 // The roots live long enough for each variable that may be written (40; LANGUAGE 3.25).
-fn live_long_enough(env: &[u64], variables: usize, roots: Roots, to: Roots) -> bool
+fn live_long_enough(env: &[Row], variables: usize, roots: Roots, to: Roots) -> bool
     requires { TableFor env.now variables × ((y : ℕ) → has to y ≡ true → y < variables) }
     ensures { (m k : ℕ) → result ≡ every (λ q. every (λ p. leb (level_of (environment_of env.now p.root)) (level_of (environment_of env.now q.root))) (places_of 128 (has roots) (long_at env.now) m)) (places_of variables (has to) (lengths (environment_of env.now)) k) }
 {
@@ -39,7 +39,7 @@ fn live_long_enough(env: &[u64], variables: usize, roots: Roots, to: Roots) -> b
 }
 
 // One of these variables is written (LANGUAGE 3.25): each may be.
-fn widen_all(env: &mut [u64], variables: usize, to: Roots, roots: Roots)
+fn widen_all(env: &mut [Row], variables: usize, to: Roots, roots: Roots)
     requires { TableFor env.old variables × ((y : ℕ) → has to y ≡ true → y < variables) }
     ensures { WidenedAll env.old to roots env.new × TableFor env.new variables }
 {
@@ -50,7 +50,7 @@ fn widen_all(env: &mut [u64], variables: usize, to: Roots, roots: Roots)
 
 // A value that records these roots is written to one of these variables (LANGUAGE 3.25): the only one is whole again;
 // several may be written.
-fn write_to(env: &mut [u64], variables: usize, to: Roots, roots: Roots)
+fn write_to(env: &mut [Row], variables: usize, to: Roots, roots: Roots)
     requires { TableFor env.old variables × ((y : ℕ) → has to y ≡ true → y < variables) }
     ensures { Written env.old variables to roots env.new × TableFor env.new variables }
 {
@@ -67,7 +67,7 @@ fn write_to(env: &mut [u64], variables: usize, to: Roots, roots: Roots)
 
 // Assign to an own link of the root of the place (LANGUAGE 3.25): no shared link is passed, the same links (39), every
 // borrowed root lives long enough for the root (40), which is whole again.
-fn write_own(env: &mut [u64], variables: usize, place: Place, rest: u32, of: ValueType) -> Verdict
+fn write_own(env: &mut [Row], variables: usize, place: Place, rest: u32, of: ValueType) -> Verdict
     requires { NeatTable env.old variables × ((i : ℕ) → LocatedIs variables (environment_of env.old) i (as_place place) (Ok (located.Own rest))) }
     ensures { ((i : ℕ) → answered env.new i result ≡ judge_write variables (environment_of env.old) i (as_place place) (as_value env.old (Some of))) × TableFor env.new variables }
 {
@@ -86,7 +86,7 @@ fn write_own(env: &mut [u64], variables: usize, place: Place, rest: u32, of: Val
 // Assign beyond a borrow link (LANGUAGE 3.25): no shared link passed (36), the same links (39), every borrowed root
 // lives long enough for every variable that may be written (40).
 fn write_beyond(
-    env: &mut [u64],
+    env: &mut [Row],
     variables: usize,
     place: Place,
     beyond: Beyond,
@@ -112,7 +112,7 @@ fn write_beyond(
 // Assign (LANGUAGE 3.25), after the right side: it has a value (41), the path of the place (31, 32, 33); then by where
 // the place leads. This leaves the new value in place, and 35 still to be judged.
 pub fn judge_write(
-    env: &mut [u64],
+    env: &mut [Row],
     variables: usize,
     place: Place,
     inner: Option<ValueType>,

@@ -8,6 +8,7 @@ use lib.Dec.{ltb, eqb}
 use borrow.Author.Tests.{ltb-true, lt-ltb, not-true}
 use Rattle.syntax.specs.Result.{pick}
 use Rattle.bars.specs.declared.bars.Leading.{Leading}
+use Rattle.variables.specs.declared.table.Row.{Row}
 use Rattle.variables.specs.declared.roots.Roots.{Roots}
 use Rattle.statics.specs.Uses.{Unfinished, named_later}
 use Rattle.statics.specs.Bars.{borrows_any, held_by, held, in_use}
@@ -31,14 +32,14 @@ among true h a = refl
 among false h a = refl
 
 -- x holds y, which is one of these.
-abbrev holding_among : List ℕ → Roots → ℕ → ℕ → Bool
+abbrev holding_among : List Row → Roots → ℕ → ℕ → Bool
 holding_among env these x y = pick (held_by (borrows_by borrows.Any) (environment_of env x) y) (has these y) false
 
 -- The named are met, and of these whatever one holds that is met and no longer to do; none that is no longer to do holds such a borrow of the root.
-pub record Seeking (env : List ℕ) (which : Borrows) (root : ℕ) (these first met todo : Roots) : Type 0 where
+pub record Seeking (env : List Row) (which : Borrows) (root : ℕ) (these first met todo : Roots) : Type 0 where
   pub search : Search (has first) (holding_among env these) (λ x. not (held_by (borrows_by which) (environment_of env x) root)) (λ _. false) (has met) (has todo) (λ _. false)
 
-module _ (env : List ℕ) (n : ℕ) (T : TableFor env n) (which : Borrows) (root : ℕ) (may : Roots) (M : MayHold env which root may) (named : ℕ → Bool) (near : Leading) (L : LeadingTo env root may named near) where
+module _ (env : List Row) (n : ℕ) (T : TableFor env n) (which : Borrows) (root : ℕ) (may : Roots) (M : MayHold env which root may) (named : ℕ → Bool) (near : Leading) (L : LeadingTo env root may named near) where
   pub seek_begins : Seeking env which root near.all near.named near.named near.named
   seek_begins = record {
     search = search_begins (has near.named) (holding_among env near.all) (λ x. not (held_by (borrows_by which) (environment_of env x) root)) (λ _. false) (has near.named) (λ _. false) (λ y. refl) (λ y. refl);

@@ -7,6 +7,7 @@ use lib.Dec.{ltb}
 use borrow.Author.Tests.{le-leb, le-ltb, lt-ltb}
 use Rattle.syntax.specs.Result.{pick}
 use Rattle.syntax.specs.Script.{Place}
+use Rattle.variables.specs.declared.table.Row.{Row}
 use Rattle.variables.specs.declared.roots.Roots.{Roots}
 use Rattle.variables.specs.declared.table.VariableState.{VariableState}
 use Rattle.variables.specs.declared.table.Entry.{Entry}
@@ -39,7 +40,7 @@ borrows_rooted borrows.Exclusive no_borrow x e = absurd (false≢true e)
 borrows_rooted borrows.Exclusive (shared_of ps) x e = absurd (false≢true e)
 borrows_rooted borrows.Exclusive (exclusive_of ps) x e = e
 
-module _ (env : List ℕ) (x root : ℕ) where
+module _ (env : List Row) (x root : ℕ) where
   pub unheld : (h : Borrow → ℕ → Bool) → ((v : Variable) → environment_of env x ≡ live v → h v.borrow root ≡ true → ⊥) → false ≡ held_by h (environment_of env x) root
   unheld h none = sym (go (held_by h (environment_of env x) root) refl)
     where
@@ -48,7 +49,7 @@ module _ (env : List ℕ) (x root : ℕ) where
       go false k = refl
 
 -- By what the code loads of it.
-module _ (env : List ℕ) (x root : ℕ) (which : Borrows) (e : Entry) (loaded : e ≡ entry_at env x) where
+module _ (env : List Row) (x root : ℕ) (which : Borrows) (e : Entry) (loaded : e ≡ entry_at env x) where
   abbrev Holds : Bool
   Holds = held_by (borrows_by which) (environment_of env x) root
 
@@ -122,30 +123,30 @@ module _ (env : List ℕ) (x root : ℕ) (which : Borrows) (e : Entry) (loaded :
 -- ---- the note of a root
 
 -- Who holds is in scope, and its borrow end is such.
-held_live : (env : List ℕ) (which : Borrows) (y root : ℕ) → held_by (borrows_by which) (environment_of env y) root ≡ true → (2 ≤ entry_word env y 0) × (borrows_by which (variable_at env y).borrow root ≡ true)
+held_live : (env : List Row) (which : Borrows) (y root : ℕ) → held_by (borrows_by which) (environment_of env y) root ≡ true → (2 ≤ entry_word env y 0) × (borrows_by which (variable_at env y).borrow root ≡ true)
 held_live env which y root h =
     let k = held_out (borrows_by which) (environment_of env y) root h in
     let s = live_status env y k.0 k.1 in
     (s.0, ap (λ (u : Variable). borrows_by which u.borrow root) (sym s.1) ∙ k.2)
 
 -- Who holds a borrow of the root records it.
-pub held_recorded : (env : List ℕ) (which : Borrows) (y root : ℕ) → held_by (borrows_by which) (environment_of env y) root ≡ true → Records env y root
+pub held_recorded : (env : List Row) (which : Borrows) (y root : ℕ) → held_by (borrows_by which) (environment_of env y) root ≡ true → Records env y root
 held_recorded env which y root h =
     let k = held_live env which y root h in
     let r : rooted (places (variable_at env y).borrow) root ≡ true = borrows_rooted which (variable_at env y).borrow root k.1 in
     (k.0, end_in_set env (chain_of (links_at env y)) (roots_at env y) root r)
 
 -- Who records it is in its note, and is a variable of the table.
-pub recorded_noted : (env : List ℕ) (n root : ℕ) → TableFor env n → root < n → (y : ℕ) → Records env y root → (y < n) × (has (holders_at env root) y ≡ true)
+pub recorded_noted : (env : List Row) (n root : ℕ) → TableFor env n → root < n → (y : ℕ) → Records env y root → (y < n) × (has (holders_at env root) y ≡ true)
 recorded_noted env n root T l y k =
     let i = live_inside env n T y (variable_at env y) (status_live env y k.0) in
     (i, T.2.held y root i l k.0 k.1)
 
-pub held_noted : (env : List ℕ) (n root : ℕ) → TableFor env n → root < n → (which : Borrows) (y : ℕ) → held_by (borrows_by which) (environment_of env y) root ≡ true → (y < n) × (has (holders_at env root) y ≡ true)
+pub held_noted : (env : List Row) (n root : ℕ) → TableFor env n → root < n → (which : Borrows) (y : ℕ) → held_by (borrows_by which) (environment_of env y) root ≡ true → (y < n) × (has (holders_at env root) y ≡ true)
 held_noted env n root T l which y h = recorded_noted env n root T l y (held_recorded env which y root h)
 
 -- It is in the set of those in scope.
-pub held_scoped : (env : List ℕ) (n root : ℕ) → TableFor env n → (which : Borrows) (y : ℕ) → held_by (borrows_by which) (environment_of env y) root ≡ true → has (roots_at env (suc n)) y ≡ true
+pub held_scoped : (env : List Row) (n root : ℕ) → TableFor env n → (which : Borrows) (y : ℕ) → held_by (borrows_by which) (environment_of env y) root ≡ true → has (roots_at env (suc n)) y ≡ true
 held_scoped env n root T which y h = T.2.scope y ∙ le-leb 2 (entry_word env y 0) (held_live env which y root h).0
 
 -- An exclusive borrow end is that of an exclusive link.
@@ -157,7 +158,7 @@ exclusive_link (shared ∷ links) to x h = h
 exclusive_link (exclusive ∷ links) to x h = refl
 
 -- So all who hold are in what the note of the root and one of the two sets after the variables have in common.
-module _ (env : List ℕ) (n root : ℕ) (T : TableFor env n) (l : root < n) (s t may : Roots) (noted : s ≡ holders_at env root)
+module _ (env : List Row) (n root : ℕ) (T : TableFor env n) (l : root < n) (s t may : Roots) (noted : s ≡ holders_at env root)
     (both : (y : ℕ) → has may y ≡ pick (has s y) (has t y) false) where
   may_hold : (which : Borrows) → ((y : ℕ) → held_by (borrows_by which) (environment_of env y) root ≡ true → has t y ≡ true) → MayHold env which root may
   may_hold which h y k = both y ∙ ap₂ (λ (a b : Bool). pick a b false) (ap (λ (r : Roots). has r y) noted ∙ (held_noted env n root T l which y k).1) (h y k)

@@ -10,6 +10,7 @@ use lib.Dec.{eqb}
 use borrow.Author.Tests.{leb-true, le-leb, eqb-true, eq-eqb, ne_eqb}
 use Rattle.syntax.specs.Result.{pick}
 use Rattle.bars.specs.declared.bars.Leading.{Leading}
+use Rattle.variables.specs.declared.table.Row.{Row}
 use Rattle.variables.specs.declared.roots.Roots.{Roots}
 use Rattle.variables.specs.Masks.{has}
 use Rattle.variables.specs.Table.{entry_word, roots_at, holders_at, variable_at, TableFor, InScope}
@@ -29,7 +30,7 @@ both_in a b e f = ap₂ (λ (c d : Bool). pick c d false) e f
 
 -- Those still to be looked at and those found are apart. Who records the root, or one that is found, is found or still to be looked at; of those
 -- found, the named are known.
-pub record Gathering (env : List ℕ) (root : ℕ) (these : Roots) (named : ℕ → Bool) (all towards left found : Roots) : Type 0 where
+pub record Gathering (env : List Row) (root : ℕ) (these : Roots) (named : ℕ → Bool) (all towards left found : Roots) : Type 0 where
   pub scoped : InScope env all
   pub waiting : InScope env left
   pub apart : (y : ℕ) → has left y ≡ true → has all y ≡ false
@@ -51,7 +52,7 @@ either_of : (a b : Bool) → pick a true b ≡ true → (a ≡ true) ⊎ (b ≡ 
 either_of true b e = inl refl
 either_of false b e = inr e
 
-module _ (env : List ℕ) (n : ℕ) (T : TableFor env n) where
+module _ (env : List Row) (n : ℕ) (T : TableFor env n) where
   in_scope : (y : ℕ) → has (roots_at env (suc n)) y ≡ true → 2 ≤ entry_word env y 0
   in_scope y h = leb-true 2 (entry_word env y 0) (sym (T.2.scope y) ∙ h)
 

@@ -12,7 +12,7 @@ ghost use Rattle.bars.specs.Leading.{named_from, LaterIs, LeadingTo};
 use paths::environment::in_scope;
 use variables::chains::leading_boxes;
 use variables::roots::{Roots, common, is_empty, is_member, less, no_roots, only, unite};
-use variables::table::{BorrowEnd, Entry, holders_at, load, roots_at};
+use variables::table::{BorrowEnd, Entry, Row, load};
 
 // Which borrows of a place count: all bar writing it (LANGUAGE 3.12), exclusive ones reading it (3.11).
 #[derive(Clone, Copy)]
@@ -41,7 +41,7 @@ impl<'a> Later<'a> {
 }
 
 // Holding (LANGUAGE 3.10): the roots of the places of which x holds a borrow that counts.
-fn held_by(env: &[u64], variables: usize, x: usize, which: Borrows) -> Roots
+fn held_by(env: &[Row], variables: usize, x: usize, which: Borrows) -> Roots
     requires { TableFor env.now variables }
     ensures { (root : ℕ) → has result root ≡ held_by (borrows_by which) (environment_of env.now x) root }
 {
@@ -71,7 +71,7 @@ struct Leading {
 
 // Those of the set that record the root, and all that may lead to these. The notes tell whom to ask, and each is asked
 // what it records, since a note may be out of date: it is found if it records the root, or one that is found.
-fn leading_to(env: &[u64], variables: usize, later: &Later, root: usize, may: Roots) -> Leading
+fn leading_to(env: &[Row], variables: usize, later: &Later, root: usize, may: Roots) -> Leading
     requires { TableFor env.now variables × (length later.now.uses.now ≡ variables) × (root < variables) }
     ensures { LeadingTo env.now root may (named_from later.now.uses.now later.now.from (has later.now.named)) result }
 {
@@ -81,14 +81,14 @@ fn leading_to(env: &[u64], variables: usize, later: &Later, root: usize, may: Ro
     let mut named = no_roots();
     let mut left = common(may, scope);
     while let Some(x) = left.take_lowest() {
-        if !is_empty(common(roots_at(env, x), towards)) {
+        if !is_empty(common(env[x].roots, towards)) {
             let one = only(x);
             if later.names(x) {
                 named = unite(named, one);
             }
             all = unite(all, one);
             towards = unite(towards, one);
-            left = unite(left, common(less(holders_at(env, x), all), scope));
+            left = unite(left, common(less(env[x].holders, all), scope));
         }
     }
     Leading { all, named }
@@ -98,7 +98,7 @@ fn leading_to(env: &[u64], variables: usize, later: &Later, root: usize, may: Ro
 // lead to the root is named. From those that are, the search goes to what each holds, among those that may lead to the
 // root: all that it meets are in use.
 pub fn is_held(
-    env: &[u64],
+    env: &[Row],
     variables: usize,
     later: &Later,
     root: usize,
@@ -124,17 +124,17 @@ pub fn is_held(
 }
 
 // Those that may bar reading the root (LANGUAGE 3.11): all that hold an exclusive borrow of it are among them.
-pub fn may_bar_reading(env: &[u64], variables: usize, root: usize) -> Roots
+pub fn may_bar_reading(env: &[Row], variables: usize, root: usize) -> Roots
     requires { TableFor env.now variables × (root < variables) }
     ensures { MayHold env.now borrows.Exclusive root result }
 {
-    common(holders_at(env, root), roots_at(env, variables))
+    common(env[root].holders, env[variables].roots)
 }
 
 // Those that may bar writing it (LANGUAGE 3.12): all that hold a borrow of it, of either kind, are among them.
-pub fn may_bar_writing(env: &[u64], variables: usize, root: usize) -> Roots
+pub fn may_bar_writing(env: &[Row], variables: usize, root: usize) -> Roots
     requires { TableFor env.now variables × (root < variables) }
     ensures { MayHold env.now borrows.Any root result }
 {
-    common(holders_at(env, root), in_scope(env, variables))
+    common(env[root].holders, in_scope(env, variables))
 }

@@ -7,6 +7,7 @@ use mathlib.Core.Path.{◌≡◌, refl, sym, ap, ap₂, fun_ext, ◌∙◌, subs
 use mathlib.Core.List.{List}
 use lib.ListN.{length, set}
 use borrow.Author.Tests.{eq-eqb, ne_eqb}
+use Rattle.variables.specs.declared.table.Row.{Row}
 use Rattle.statics.specs.Links.{Link}
 use Rattle.statics.specs.Places.{unite}
 use Rattle.statics.specs.Environment.{Borrow, places, borrow_end, Variable, Slot, free, used, live, Environment, update, borrow_of}
@@ -24,7 +25,7 @@ use Rattle.choices.proofs.KeptLaws.{put_here, put_there, keeps_all}
 -- ---- the rounds of the loops
 
 -- Only the state of x has changed.
-module _ (n : ℕ) (env : List ℕ) (x : ℕ) (f : Slot → Slot) (env' : List ℕ) (G : Given n env x f env') where
+module _ (n : ℕ) (env : List Row) (x : ℕ) (f : Slot → Slot) (env' : List Row) (G : Given n env x f env') where
   given_here : environment_of env' x ≡ f (environment_of env x)
   unfolding update
   given_here = ap (λ (Γ : Environment). Γ x) G.state ∙ rw (eq-eqb x x refl) refl
@@ -34,16 +35,16 @@ module _ (n : ℕ) (env : List ℕ) (x : ℕ) (f : Slot → Slot) (env' : List �
   given_there y q = ap (λ (Γ : Environment). Γ y) G.state ∙ rw (ne_eqb x y q) refl
 
 -- Numbers before x have what f says of the state at first; from x on all is as at first.
-pub record Giving (env₀ : List ℕ) (f : ℕ → Slot → Slot) (x : ℕ) (env : List ℕ) : Type 0 where
+pub record Giving (env₀ : List Row) (f : ℕ → Slot → Slot) (x : ℕ) (env : List Row) : Type 0 where
   pub links : SameLinks env₀ env
   pub done : (y : ℕ) → y < x → environment_of env y ≡ f y (environment_of env₀ y)
   pub rest : (y : ℕ) → x ≤ y → environment_of env y ≡ environment_of env₀ y
 
-giving_first : (env : List ℕ) (f : ℕ → Slot → Slot) → Giving env f 0 env
+giving_first : (env : List Row) (f : ℕ → Slot → Slot) → Giving env f 0 env
 giving_first env f = record { links = λ y. refl; done = λ y l. absurd (omega arith); rest = λ y l. refl }
 
 -- In a round x is given what g says of the table then, which is what f says.
-giving_next : (n : ℕ) (env₀ : List ℕ) (f : ℕ → Slot → Slot) (x : ℕ) (env : List ℕ) (g : Slot → Slot) (env' : List ℕ) → ((z : Slot) → g z ≡ f x z)
+giving_next : (n : ℕ) (env₀ : List Row) (f : ℕ → Slot → Slot) (x : ℕ) (env : List Row) (g : Slot → Slot) (env' : List Row) → ((z : Slot) → g z ≡ f x z)
     → Given n env x g env' → Giving env₀ f x env → Giving env₀ f (x + 1) env'
 giving_next n env₀ f x env g env' same G E = record {
   links = λ y. G.links y ∙ E.links y;
@@ -63,15 +64,15 @@ abbrev pub each : (KeptState → Slot → Slot) → List KeptState → ℕ → S
 each f kept y = f (kept_at kept y)
 
 -- The state kept is given back, and what the table had is kept.
-pub record Exchanging (env₀ : List ℕ) (kept₀ : List KeptState) (x : ℕ) (env : List ℕ) (kept : List KeptState) : Type 0 where
+pub record Exchanging (env₀ : List Row) (kept₀ : List KeptState) (x : ℕ) (env : List Row) (kept : List KeptState) : Type 0 where
   pub giving : Giving env₀ (each (restored env₀) kept₀) x env
   pub done : (y : ℕ) → y < x → KeptAs (kept_at kept y) env₀ y
   pub rest : (y : ℕ) → x ≤ y → kept_at kept y ≡ kept_at kept₀ y
 
-pub exchanging_first : (env : List ℕ) (kept : List KeptState) → Exchanging env kept 0 env kept
+pub exchanging_first : (env : List Row) (kept : List KeptState) → Exchanging env kept 0 env kept
 exchanging_first env kept = record { giving = giving_first env (each (restored env) kept); done = λ y l. absurd (omega arith); rest = λ y l. refl }
 
-pub exchanging_next : (n : ℕ) (env₀ : List ℕ) (kept₀ : List KeptState) (x : ℕ) (env : List ℕ) (kept : List KeptState) (env' : List ℕ) (k' : KeptState)
+pub exchanging_next : (n : ℕ) (env₀ : List Row) (kept₀ : List KeptState) (x : ℕ) (env : List Row) (kept : List KeptState) (env' : List Row) (k' : KeptState)
     → x < length kept → Exchanged n env (kept_at kept x) x env' k' → Exchanging env₀ kept₀ x env kept → Exchanging env₀ kept₀ (x + 1) env' (set kept x k')
 exchanging_next n env₀ kept₀ x env kept env' k' inside S E = record {
   giving = giving_next n env₀ (each (restored env₀) kept₀) x env (restored env (kept_at kept x)) env' same S.given E.giving;
@@ -99,13 +100,13 @@ exchanging_next n env₀ kept₀ x env kept env' k' inside S E = record {
         subst (λ (z : ℕ). KeptAs (kept_at (set kept x k') z) env₀ z) q (subst (λ (k : KeptState). KeptAs k env₀ x) (sym (put_here kept x k' inside)) here)
 
 -- What is kept is joined with what the table has.
-abbrev pub Joining : List ℕ → List KeptState → ℕ → List ℕ → Type 0
+abbrev pub Joining : List Row → List KeptState → ℕ → List Row → Type 0
 Joining env₀ kept x env = Giving env₀ (each (joined_with env₀) kept) x env
 
-pub joining_first : (env : List ℕ) (kept : List KeptState) → Joining env kept 0 env
+pub joining_first : (env : List Row) (kept : List KeptState) → Joining env kept 0 env
 joining_first env kept = giving_first env (each (joined_with env) kept)
 
-pub joining_next : (n : ℕ) (env₀ : List ℕ) (kept : List KeptState) (x : ℕ) (env env' : List ℕ) → Given n env x (joined_with env (kept_at kept x)) env' → Joining env₀ kept x env
+pub joining_next : (n : ℕ) (env₀ : List Row) (kept : List KeptState) (x : ℕ) (env env' : List Row) → Given n env x (joined_with env (kept_at kept x)) env' → Joining env₀ kept x env
     → Joining env₀ kept (x + 1) env'
 unfolding borrow_of
 joining_next n env₀ kept x env env' G E = giving_next n env₀ (each (joined_with env₀) kept) x env (joined_with env (kept_at kept x)) env' same G E
@@ -118,7 +119,7 @@ joining_next n env₀ kept x env env' G E = giving_next n env₀ (each (joined_w
         (kept_end env₀ env E.links v.chain (kept_at kept x).roots)
 
 -- A number that was not in scope is as it was.
-dead_same : (env₀ : List ℕ) (f : ℕ → Slot → Slot) (count : ℕ) (env : List ℕ) → Giving env₀ f count env → ((y : ℕ) → (f y free ≡ free) × (f y used ≡ used))
+dead_same : (env₀ : List Row) (f : ℕ → Slot → Slot) (count : ℕ) (env : List Row) → Giving env₀ f count env → ((y : ℕ) → (f y free ≡ free) × (f y used ≡ used))
     → (x : ℕ) → ((v : Variable) → environment_of env₀ x ≡ live v → ⊥) → environment_of env x ≡ environment_of env₀ x
 dead_same env₀ f count env E stays x dead = go (dec_lt x count)
   where
@@ -134,7 +135,7 @@ dead_same env₀ f count env E stays x dead = go (dec_lt x count)
 -- ---- what the table says at the end
 
 -- The borrow end kept of a variable, in a table with the same lengths.
-kept_borrow : (n level : ℕ) (Γ : Environment) → Neat n Γ level → (kept : List KeptState) (count : ℕ) → KeepsAll kept count Γ → (env : List ℕ)
+kept_borrow : (n level : ℕ) (Γ : Environment) → Neat n Γ level → (kept : List KeptState) (count : ℕ) → KeepsAll kept count Γ → (env : List Row)
     → ((y : ℕ) (u : Variable) → Γ y ≡ live u → long_at env y ≡ length u.chain) → (x : ℕ) (w : Variable) → Γ x ≡ live w
     → end_in env w.chain (kept_at kept x).roots ≡ w.borrow
 unfolding links_of
@@ -153,7 +154,7 @@ carried_dead free (live v) f g h = absurd (g v refl)
 carried_dead used b f g h = sym (h refl)
 carried_dead (live v) b f g h = absurd (f v refl)
 
-module _ (n level count : ℕ) (env₀ : List ℕ) (kept₀ : List KeptState) (env : List ℕ) (kept : List KeptState) (E : Exchanging env₀ kept₀ count env kept) (level₁ : ℕ) (N₁ : Neat n (environment_of env₀) level₁)
+module _ (n level count : ℕ) (env₀ : List Row) (kept₀ : List KeptState) (env : List Row) (kept : List KeptState) (E : Exchanging env₀ kept₀ count env kept) (level₁ : ℕ) (N₁ : Neat n (environment_of env₀) level₁)
     (Γ : Environment) (N : Neat n Γ level) (K : KeepsAll kept₀ count Γ) (S : Stays Γ (environment_of env₀)) where
   long_before : (y : ℕ) (u : Variable) → Γ y ≡ live u → long_at env₀ y ≡ length u.chain
   long_before y u e = let w = S.lives y u e in (live_length env₀ y w.0 w.1).0 ∙ ap (λ (ks : List Link). length ks) w.2
@@ -182,7 +183,7 @@ module _ (n level count : ℕ) (env₀ : List ℕ) (kept₀ : List KeptState) (e
     keeps_all n level₁ env₀ kept count N₁ (λ x v e. let w = S.lived x v e in (K x w.0 w.1).low) E.done,
   )
 
-module _ (n level count : ℕ) (env₀ : List ℕ) (kept : List KeptState) (env : List ℕ) (J : Joining env₀ kept count env) (Γ Γ₁ : Environment) (N₁ : Neat n Γ₁ level) (K : KeepsAll kept count Γ₁)
+module _ (n level count : ℕ) (env₀ : List Row) (kept : List KeptState) (env : List Row) (J : Joining env₀ kept count env) (Γ Γ₁ : Environment) (N₁ : Neat n Γ₁ level) (K : KeepsAll kept count Γ₁)
     (S₁ : Stays Γ Γ₁) (S₂ : Stays (carried Γ Γ₁) (environment_of env₀)) where
   -- A variable in scope before the choice, after its second block.
   after_second : (y : ℕ) (v : Variable) → Γ y ≡ live v → (w : Variable) × (environment_of env₀ y ≡ live w) × (w.chain ≡ v.chain) × (w.level ≡ v.level)

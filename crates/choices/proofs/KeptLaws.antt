@@ -9,6 +9,7 @@ use lib.Seq.{get_or-set_same, get_or-set_other}
 use lib.ListN.{length, set}
 use borrow.Author.Tests.{eq-eqb}
 use Rattle.syntax.specs.Result.{need, ◌>>=◌, pick}
+use Rattle.variables.specs.declared.table.Row.{Row}
 use Rattle.variables.specs.declared.roots.Roots.{Roots}
 use Rattle.std.specs.Prelude as prelude
 use Rattle.variables.specs.declared.verdicts.ValueType.{ValueType}
@@ -42,7 +43,7 @@ joins first second t u s r e f l h A env i =
 -- ---- the table's state kept
 
 -- What the table has of x is its state.
-pub kept_here : (env : List ℕ) (x : ℕ) (k : KeptState) → k ≡ kept_now env x → KeptAs k env x
+pub kept_here : (env : List Row) (x : ℕ) (k : KeptState) → k ≡ kept_now env x → KeptAs k env x
 kept_here env x k e v q =
     let z = (live_status env x v q).1 in
     (ap (λ (j : KeptState). j.moved_from) e ∙ ap (λ (u : Variable). u.moved_from) (sym z), ap (λ (j : KeptState). end_in env v.chain j.roots) e ∙ ap (λ (u : Variable). end_in env u.chain (roots_at env x)) z ∙ ap (λ (u : Variable). u.borrow) (sym z))
@@ -54,7 +55,7 @@ put_here kept x k l = get_or-set_same kept x k _ l
 pub put_there : (kept : List KeptState) (x : ℕ) (k : KeptState) (y : ℕ) → (y ≡ x → ⊥) → kept_at (set kept x k) y ≡ kept_at kept y
 put_there kept x k y n = get_or-set_other kept x y k _ n
 
-pub keep_next : (kept : List KeptState) (env : List ℕ) (x : ℕ) (k : KeptState) → x < length kept → k ≡ kept_now env x
+pub keep_next : (kept : List KeptState) (env : List Row) (x : ℕ) (k : KeptState) → x < length kept → k ≡ kept_now env x
     → ((y : ℕ) → y < x → KeptAs (kept_at kept y) env y)
     → (y : ℕ) → y < x + 1 → KeptAs (kept_at (set kept x k) y) env y
 keep_next kept env x k inside e done y l = go (dec_lt y x)
@@ -64,7 +65,7 @@ keep_next kept env x k inside e done y l = go (dec_lt y x)
     go (no b) = let q : x ≡ y = omega arith in subst (λ (z : ℕ). KeptAs (kept_at (set kept x k) z) env z) q (kept_here env x _ (put_here kept x k inside ∙ e))
 
 -- A state whose numbers in scope are kept, all below the count.
-pub keeps_all : (n level : ℕ) (env : List ℕ) (kept : List KeptState) (count : ℕ) → Neat n (environment_of env) level
+pub keeps_all : (n level : ℕ) (env : List Row) (kept : List KeptState) (count : ℕ) → Neat n (environment_of env) level
     → ((x : ℕ) (v : Variable) → environment_of env x ≡ live v → x < count)
     → ((y : ℕ) → y < count → KeptAs (kept_at kept y) env y) → KeepsAll kept count (environment_of env)
 keeps_all n level env kept count N low done x v e =
@@ -78,7 +79,7 @@ keeps_all n level env kept count N low done x v e =
           (λ y i. let R = H.recorded (place_at (long_at env) (left v.chain) y) (subst (λ (k : Borrow). Among (place_at (long_at env) (left v.chain) y) (places k)) K.1 i) in sym (live_length env y R.variable R.is).1);
     }
 
-pub taken_below : (n count : ℕ) (env : List ℕ) → TableFor env n → count ≡ note_at env (suc n) → (x : ℕ) (v : Variable) → environment_of env x ≡ live v → x < count
+pub taken_below : (n count : ℕ) (env : List Row) → TableFor env n → count ≡ note_at env (suc n) → (x : ℕ) (v : Variable) → environment_of env x ≡ live v → x < count
 taken_below n count env T e x v h = go (dec_lt x count)
   where
     go : Dec (x < count) → x < count

@@ -8,6 +8,7 @@ use lib.Dec.{leb, eqb}
 use lib.ListN.{length}
 use borrow.Author.Tests.{leb-true, leb-false, eqb-true}
 use Rattle.syntax.specs.Result.{pick}
+use Rattle.variables.specs.declared.table.Row.{Row}
 use Rattle.variables.specs.declared.roots.Roots.{Roots}
 use Rattle.variables.specs.declared.table.VariableState.{VariableState}
 use Rattle.variables.specs.declared.table.Entry.{Entry}
@@ -71,7 +72,7 @@ same_kept a b e = go (eqb a.moved_from b.moved_from) refl (eqb a.roots.low b.roo
 
 -- ---- one number
 
-module _ (n : ℕ) (env : List ℕ) (x : ℕ) (T : TableFor env n) (k now : KeptState) (read : now ≡ kept_now env x) where
+module _ (n : ℕ) (env : List Row) (x : ℕ) (T : TableFor env n) (k now : KeptState) (read : now ≡ kept_now env x) where
   -- Nothing is written where both are the same.
   pub exchanged_same : k ≡ now → Exchanged n env k x env k
   exchanged_same e =
@@ -106,7 +107,7 @@ module _ (n : ℕ) (env : List ℕ) (x : ℕ) (T : TableFor env n) (k now : Kept
     pub joined_dead : NotLive o → Given n env x (joined_with env k) env
     joined_dead dead = let R = not_changed env n x T o loaded dead (joined_with env k) refl refl in record { state = R.0; table = R.1; links = R.2 }
 
-    module _ (inside : x < n) (v r : VariableState) (found : o ≡ entry.Live v) (env' : List ℕ) (same : length env' ≡ length env) (S : Stored n env x r env') where
+    module _ (inside : x < n) (v r : VariableState) (found : o ≡ entry.Live v) (env' : List Row) (same : length env' ≡ length env) (S : Stored n env x r env') where
       state_is_law : v ≡ state_at env x
       state_is_law = (slot_live env x o loaded v found).1
 

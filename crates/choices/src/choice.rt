@@ -12,9 +12,7 @@ use notes::notes::store;
 use std::mem;
 use syntax::refusals::Reason;
 use variables::roots::{Roots, is_empty, less, unite};
-use variables::table::{
-    Entry, MOVED_FROM, NOTE, changed_state, end_roots, load, roots_at, word_at,
-};
+use variables::table::{Entry, Row, changed_state, end_roots, load};
 use variables::verdicts::{ValueType, Verdict, value_of};
 
 // What is kept of a number.
@@ -25,26 +23,26 @@ pub struct KeptState {
 }
 
 // One above the highest number taken (LANGUAGE 3.6).
-pub fn numbers_taken(env: &[u64], variables: usize) -> usize
+pub fn numbers_taken(env: &[Row], variables: usize) -> usize
     requires { TableFor env.now variables }
     ensures { result ≡ note_at env.now (suc variables) }
 {
-    word_at(env, variables + 1, NOTE) as usize
+    env[variables + 1].note as usize
 }
 
 // What is kept of the state of x.
-fn kept_now(env: &[u64], x: usize) -> KeptState
-    requires { x * 8 + 8 ≤ length env.now }
+fn kept_now(env: &[Row], x: usize) -> KeptState
+    requires { x < length env.now }
     ensures { result ≡ kept_now env.now x }
 {
     KeptState {
-        moved_from: word_at(env, x, MOVED_FROM),
-        roots: roots_at(env, x),
+        moved_from: env[x].moved_from,
+        roots: env[x].roots,
     }
 }
 
 // The state of the first count numbers is kept, all that are taken.
-pub fn keep(env: &[u64], variables: usize, kept: &mut [KeptState], count: usize)
+pub fn keep(env: &[Row], variables: usize, kept: &mut [KeptState], count: usize)
     requires { NeatTable env.now variables × (count ≡ note_at env.now (suc variables)) × (count ≤ length kept.old) }
     ensures { KeepsAll kept.new count (environment_of env.now) }
 {
@@ -55,7 +53,7 @@ pub fn keep(env: &[u64], variables: usize, kept: &mut [KeptState], count: usize)
 
 // What is kept of x becomes its state, and the state that it had is kept. Most variables are as they were: nothing is
 // written then.
-fn exchange_one(env: &mut [u64], variables: usize, x: usize, kept: &mut KeptState)
+fn exchange_one(env: &mut [Row], variables: usize, x: usize, kept: &mut KeptState)
     requires { TableFor env.old variables × (x < variables) }
     ensures { Exchanged variables env.old kept.old x env.new kept.new }
 {
@@ -73,7 +71,7 @@ fn exchange_one(env: &mut [u64], variables: usize, x: usize, kept: &mut KeptStat
 
 // After the first block: the state that was kept is the table's again, but for numbers taken since (LANGUAGE 3.31); the
 // state after the block is kept instead.
-pub fn exchange(env: &mut [u64], variables: usize, kept: &mut [KeptState], count: usize)
+pub fn exchange(env: &mut [Row], variables: usize, kept: &mut [KeptState], count: usize)
     requires { NeatTable env.old variables × (count ≤ variables) × (count ≤ length kept.old) }
     ensures { ((Γ : Environment) (level : ℕ) → Neat variables Γ level → KeepsAll kept.old count Γ → Stays Γ (environment_of env.old) → (environment_of env.new ≡ carried Γ (environment_of env.old)) × KeepsAll kept.new count (environment_of env.old)) × TableFor env.new variables × SameLinks env.old env.new }
 {
@@ -92,7 +90,7 @@ fn earlier_link(a: u64, b: u64) -> u64
 
 // The variable x is moved away from the earlier of the two links, the one kept and its own, and records the roots of
 // both (LANGUAGE 3.31). Most often that is its state already: nothing is written then.
-fn join_one(env: &mut [u64], variables: usize, x: usize, kept: &KeptState)
+fn join_one(env: &mut [Row], variables: usize, x: usize, kept: &KeptState)
     requires { TableFor env.old variables × (x < variables) }
     ensures { Given variables env.old x (joined_with env.old kept.now) env.new }
 {
@@ -110,7 +108,7 @@ fn join_one(env: &mut [u64], variables: usize, x: usize, kept: &KeptState)
 
 // After the second block: each variable is moved away from the earlier of the two links, and records the roots of both
 // (LANGUAGE 3.31).
-pub fn join(env: &mut [u64], variables: usize, kept: &[KeptState], count: usize)
+pub fn join(env: &mut [Row], variables: usize, kept: &[KeptState], count: usize)
     requires { NeatTable env.old variables × (count ≤ variables) × (count ≤ length kept.now) }
     ensures { ((Γ Γ₁ : Environment) (level : ℕ) → Neat variables Γ₁ level → KeepsAll kept.now count Γ₁ → Stays Γ Γ₁ → Stays (carried Γ Γ₁) (environment_of env.old) → environment_of env.new ≡ joined Γ Γ₁ (environment_of env.old)) × TableFor env.new variables × SameLinks env.old env.new }
 {

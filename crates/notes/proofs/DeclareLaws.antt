@@ -8,6 +8,7 @@ use mathlib.Core.List.{List, [], ◌∷◌}
 use lib.Dec.{leb, eqb}
 use lib.ListN.{length}
 use borrow.Author.Tests.{eq-eqb, ne_eqb}
+use Rattle.variables.specs.declared.table.Row.{Row}
 use Rattle.variables.specs.declared.roots.Roots.{Roots}
 use Rattle.variables.specs.declared.table.BorrowEnd.TheVariants as end
 use Rattle.variables.specs.declared.table.VariableState.{VariableState}
@@ -19,7 +20,8 @@ use Rattle.variables.specs.Masks.{has}
 use Rattle.variables.specs.Table.{entry_word, links_at, roots_at, holders_at, end_in, variable_at, environment_of, note_at, borrow_end_of, state_at, as_variable, Fits, TableFor, Stored, ExclusiveNoted, MemberAdded, Unrecorded}
 use Rattle.statics.proofs.RootLaws.{or, or_right}
 use Rattle.variables.proofs.EntryLaws.{status_live}
-use Rattle.variables.proofs.WordLaws.{Put, put_at_law, put_off, roots_same, holders_same, links_same, end_same_but, slot_same, updated}
+use Rattle.variables.proofs.WordLaws.{put_at_law, put_off, roots_same, holders_same, links_same, end_same_but, slot_same, updated}
+use Rattle.variables.proofs.TableLaws.{Put}
 use Rattle.variables.proofs.TableLaws.{SameEntry, slot_free, free_test, past_status, pick_true}
 use Rattle.notes.proofs.NoteLaws.{still_noted}
 use Rattle.notes.proofs.StateLaws.{state_variable}
@@ -31,19 +33,19 @@ end_exclusive (boxed ∷ ks) s h = end_exclusive ks s h
 end_exclusive (shared ∷ ks) s h = absurd (true≢false (sym h))
 end_exclusive (exclusive ∷ ks) s h = refl
 
-module _ (env : List ℕ) (n x : ℕ) (T : TableFor env n) (inside : x < n) (taken : environment_of env x ≡ used) (v : VariableState) (fits : Fits v)
-    (U : Unrecorded env x (as_variable env v).borrow) (env₁ env₂ env₃ env₄ : List ℕ) (same : length env₄ ≡ length env)
+module _ (env : List Row) (n x : ℕ) (T : TableFor env n) (inside : x < n) (taken : environment_of env x ≡ used) (v : VariableState) (fits : Fits v)
+    (U : Unrecorded env x (as_variable env v).borrow) (env₁ env₂ env₃ env₄ : List Row) (same : length env₄ ≡ length env)
     (P : Put env x 0 2 env₁) (S : Stored n env₁ x v env₂) (X : ExclusiveNoted n env₂ x v.borrow_end env₃) (M : MemberAdded env₃ (suc n) x env₄) where
   -- After the state of x is stored only the sets past the n variables change.
-  store_off : (y k : ℕ) → k < 8 → (n ≤ y → (k ≡ 2 → ⊥) × (k ≡ 6 → ⊥)) → entry_word env₄ y k ≡ entry_word env₂ y k
+  store_off : (y k : ℕ) → k < 9 → (n ≤ y → (k ≡ 2 → ⊥) × (k ≡ 6 → ⊥)) → entry_word env₄ y k ≡ entry_word env₂ y k
   store_off y k l h = M.others y k l (λ q. h (omega arith)) ∙ X.others y k l (λ q. h (omega arith))
 
   -- Until then the words of the others stay, but for notes.
-  apart : (y k : ℕ) → k < 8 → (k ≡ 3 → ⊥) → (k ≡ 7 → ⊥) → (x ≡ y → ⊥) → entry_word env₂ y k ≡ entry_word env y k
+  apart : (y k : ℕ) → k < 9 → (k ≡ 3 → ⊥) → (k ≡ 7 → ⊥) → (x ≡ y → ⊥) → entry_word env₂ y k ≡ entry_word env y k
   apart y k l a b q = S.entries y k l a b (λ p. absurd (q p)) ∙ put_off env env₁ x 0 2 P y k l (λ p e. q p)
 
   store_others : (y : ℕ) → y < n → (x ≡ y → ⊥) → SameEntry env env₄ y
-  store_others y i q k l a b = store_off y k l (λ h. absurd (omega arith)) ∙ apart y k l a b q
+  store_others y i q k l a b = store_off y k (omega arith) (λ h. absurd (omega arith)) ∙ apart y k (omega arith) a b q
 
   -- Status and links of all others stay.
   store_apart : (y k : ℕ) → k < 2 → (x ≡ y → ⊥) → entry_word env₄ y k ≡ entry_word env y k
@@ -64,7 +66,7 @@ module _ (env : List ℕ) (n x : ℕ) (T : TableFor env n) (inside : x < n) (tak
       end_same_but env env₄ x (omega (arith, T.1)) (λ y q. links_same env env₄ y (store_apart y 1 (omega arith) q)) ks t h
 
   -- The words of x, which is one of the n variables, are those stored.
-  store_own_word : (k : ℕ) → k < 8 → entry_word env₄ x k ≡ entry_word env₂ x k
+  store_own_word : (k : ℕ) → k < 9 → entry_word env₄ x k ≡ entry_word env₂ x k
   store_own_word k l = store_off x k l (λ h. absurd (omega arith))
 
   store_roots : roots_at env₄ x ≡ roots_at env₂ x
@@ -127,9 +129,9 @@ module _ (env : List ℕ) (n x : ℕ) (T : TableFor env n) (inside : x < n) (tak
 
   store_note : note_at env₄ (suc n) ≡ note_at env (suc n)
   store_note =
-      store_off (suc n) 7 (omega arith) (λ h. (λ e. omega arith, λ e. omega arith))
+      store_off (suc n) 8 (omega arith) (λ h. (λ e. omega arith, λ e. omega arith))
       ∙ S.notes (suc n) (omega arith)
-      ∙ put_off env env₁ x 0 2 P (suc n) 7 (omega arith) (λ p e. omega arith)
+      ∙ put_off env env₁ x 0 2 P (suc n) 8 (omega arith) (λ p e. omega arith)
 
   -- Where the links of x borrow exclusively, its end does.
   store_exclusive : is_exclusive (chain_of (links_at env₄ x)) ≡ true → v.borrow_end ≡ end.Exclusive (roots_at env₄ x)

@@ -9,6 +9,7 @@ use lib.Dec.{leb, eqb}
 use lib.ListN.{length}
 use borrow.Author.Tests.{eqb-true, eq-eqb, ne_eqb, le-leb, leb-true}
 use Rattle.syntax.specs.Result.{pick}
+use Rattle.variables.specs.declared.table.Row.{Row}
 use Rattle.variables.specs.declared.roots.Roots.{Roots}
 use Rattle.variables.specs.declared.table.BorrowEnd.{BorrowEnd}
 use Rattle.variables.specs.declared.table.BorrowEnd.TheVariants as end
@@ -17,27 +18,28 @@ use Rattle.variables.specs.Chains.{chain_of, is_exclusive}
 use Rattle.variables.specs.Masks.{has}
 use Rattle.variables.specs.Table.{entry_word, links_at, roots_at, holders_at, variable_at, slot_as, environment_of, note_at, Noted, TableFor, HolderNoted, MemberAdded, ExclusiveNoted, SameLinks}
 use Rattle.statics.proofs.RootLaws.{or, or_left, or_right}
-use Rattle.variables.proofs.WordLaws.{Put, put_at_law, put_off, PutSet, set_off, holders_put, Raised, raised_off, raised_there, holders_same, links_same, entry_links, entry_roots, end_same, slot_same, updated}
+use Rattle.variables.proofs.WordLaws.{put_at_law, put_off, set_off, holders_put, Raised, raised_off, raised_there, holders_same, links_same, entry_links, entry_roots, end_same, slot_same, updated}
+use Rattle.variables.proofs.TableLaws.{Put, PutSet}
 use Rattle.variables.proofs.EntryLaws.{status_inside}
 use Rattle.variables.proofs.TableLaws.{SameEntry, free_test}
 
 -- ---- while holders are noted
 
 -- Of the roots s those of `todo` are still to be noted.
-pub record Noting (n : ℕ) (env : List ℕ) (x : ℕ) (s todo : Roots) (env' : List ℕ) : Type 0 where
-  pub entries : (y k : ℕ) → k < 8 → (k ≡ 3 → ⊥) → (k ≡ 7 → ⊥) → entry_word env' y k ≡ entry_word env y k
+pub record Noting (n : ℕ) (env : List Row) (x : ℕ) (s todo : Roots) (env' : List Row) : Type 0 where
+  pub entries : (y k : ℕ) → k < 9 → (k ≡ 3 → ⊥) → (k ≡ 7 → ⊥) → entry_word env' y k ≡ entry_word env y k
   pub notes : (y : ℕ) → n ≤ y → note_at env' y ≡ note_at env y
   pub kept : (r y : ℕ) → r < n → has (holders_at env r) y ≡ true → has (holders_at env' r) y ≡ true
   pub new : (r : ℕ) → r < n → has s r ≡ true → has todo r ≡ false → has (holders_at env' r) x ≡ true
 
-module _ (n : ℕ) (env : List ℕ) (x : ℕ) (s : Roots) where
+module _ (n : ℕ) (env : List Row) (x : ℕ) (s : Roots) where
   pub noting_starts : Noting n env x s s env
   noting_starts = record { entries = λ y k a b c. refl; notes = λ y l. refl; kept = λ r y l h. h; new = λ r l h k. absurd (true≢false (sym h ∙ k)) }
 
-  pub noting_ends : (todo : Roots) (env' : List ℕ) → Noting n env x s todo env' → ((y : ℕ) → has todo y ≡ false) → HolderNoted n env x s env'
+  pub noting_ends : (todo : Roots) (env' : List Row) → Noting n env x s todo env' → ((y : ℕ) → has todo y ≡ false) → HolderNoted n env x s env'
   noting_ends todo env' N none = record { entries = N.entries; notes = N.notes; kept = N.kept; new = λ r l h. N.new r l h (none r) }
 
-  module _ (todo todo' : Roots) (root : ℕ) (env₁ : List ℕ) (N : Noting n env x s todo env₁) (less : (y : ℕ) → has todo' y ≡ pick (eqb root y) false (has todo y)) where
+  module _ (todo todo' : Roots) (root : ℕ) (env₁ : List Row) (N : Noting n env x s todo env₁) (less : (y : ℕ) → has todo' y ≡ pick (eqb root y) false (has todo y)) where
     -- What is not to be noted any more is the root, or was not to be noted before.
     done : (r : ℕ) → has todo' r ≡ false → (root ≡ r → ⊥) → has todo r ≡ false
     done r h q = sym (less r ∙ ap (λ (b : Bool). pick b false (has todo r)) (ne_eqb root r q)) ∙ h
@@ -47,7 +49,7 @@ module _ (n : ℕ) (env : List ℕ) (x : ℕ) (s : Roots) where
     noting_skips l = record { entries = N.entries; notes = N.notes; kept = N.kept; new = λ r b h k. N.new r b h (done r k (λ q. omega arith)) }
 
     -- x is added to the holders of the root.
-    module _ (env₂ : List ℕ) (old one holders : Roots) (inside : root < n) (read : old ≡ holders_at env₁ root) (own : (y : ℕ) → has one y ≡ eqb x y)
+    module _ (env₂ : List Row) (old one holders : Roots) (inside : root < n) (read : old ≡ holders_at env₁ root) (own : (y : ℕ) → has one y ≡ eqb x y)
         (more : (y : ℕ) → has holders y ≡ pick (has old y) true (has one y)) (put : PutSet env₁ root 3 holders env₂) where
       others : (r : ℕ) → (root ≡ r → ⊥) → holders_at env₂ r ≡ holders_at env₁ r
       others r q = holders_same env₁ env₂ r (set_off env₁ env₂ root 3 holders put r 3 (omega arith) (λ p k. q p) (λ p k. q p)) (set_off env₁ env₂ root 3 holders put r 7 (omega arith) (λ p k. q p) (λ p k. q p))
@@ -75,7 +77,7 @@ module _ (n : ℕ) (env : List ℕ) (x : ℕ) (s : Roots) where
       noting_adds =
           record {
             entries = λ y k a b c. set_off env₁ env₂ root 3 holders put y k a (λ p q. b (sym q)) (λ p q. c (sym q)) ∙ N.entries y k a b c;
-            notes = λ y l. set_off env₁ env₂ root 3 holders put y 7 (omega arith) (λ p q. omega arith) (λ p q. omega arith) ∙ N.notes y l;
+            notes = λ y l. set_off env₁ env₂ root 3 holders put y 8 (omega arith) (λ p q. omega arith) (λ p q. omega arith) ∙ N.notes y l;
             kept = λ r y l h. still r y (N.kept r y l h);
             new = λ r l h k. new_at r l h k (ℕ_discrete root r);
           }
@@ -86,8 +88,8 @@ module _ (n : ℕ) (env : List ℕ) (x : ℕ) (s : Roots) where
 
 -- ---- that a borrow link is exclusive
 
-module _ (n : ℕ) (env : List ℕ) (x : ℕ) (e : BorrowEnd) where
-  pub exclusive_noted : (env' : List ℕ) → MemberAdded env n x env' → ExclusiveNoted n env x e env'
+module _ (n : ℕ) (env : List Row) (x : ℕ) (e : BorrowEnd) where
+  pub exclusive_noted : (env' : List Row) → MemberAdded env n x env' → ExclusiveNoted n env x e env'
   exclusive_noted env' M =
       record {
         others = M.others;
@@ -101,9 +103,9 @@ module _ (n : ℕ) (env : List ℕ) (x : ℕ) (e : BorrowEnd) where
 
 -- ---- one entry changed
 
-module _ (env : List ℕ) (n x : ℕ) (N : Noted env n) (inside : x < n) where
+module _ (env : List Row) (n x : ℕ) (N : Noted env n) (inside : x < n) where
   -- The words of x change, and it is noted where it must be. Rows past the n variables keep their status; their sets may change at x.
-  module _ (env' : List ℕ)
+  module _ (env' : List Row)
       (others : (y : ℕ) → y < n → (x ≡ y → ⊥) → SameEntry env env' y)
       (status : (y : ℕ) → (x ≡ y → ⊥) → entry_word env' y 0 ≡ entry_word env y 0)
       (kept : (r y : ℕ) → r < n → has (holders_at env r) y ≡ true → has (holders_at env' r) y ≡ true)
@@ -150,7 +152,7 @@ module _ (env : List ℕ) (n x : ℕ) (N : Noted env n) (inside : x < n) where
     still_noted = record { held = new_held; exclusives = new_exclusives; scope = new_scope; most = high; untaken = new_untaken }
 
   -- The sets past the n variables stay: x has the links that it had, and is in scope if it was.
-  module _ (env' : List ℕ) (others : (y : ℕ) → (x ≡ y → ⊥) → SameEntry env env' y)
+  module _ (env' : List Row) (others : (y : ℕ) → (x ≡ y → ⊥) → SameEntry env env' y)
       (links : links_at env' x ≡ links_at env x) (live-as : leb 2 (entry_word env' x 0) ≡ leb 2 (entry_word env x 0)) where
     pub noted_as_before : ((r y : ℕ) → r < n → has (holders_at env r) y ≡ true → has (holders_at env' r) y ≡ true)
         → ((r : ℕ) → r < n → 2 ≤ entry_word env' x 0 → has (roots_at env' x) r ≡ true → has (holders_at env' r) x ≡ true)
@@ -168,18 +170,18 @@ module _ (env : List ℕ) (n x : ℕ) (N : Noted env n) (inside : x < n) where
         (ap (λ (k : Roots). has k x) scope ∙ N.scope x ∙ sym live-as)
         higher high none
 
-module _ (env : List ℕ) (n x : ℕ) (T : TableFor env n) (inside : x < n) where
+module _ (env : List Row) (n x : ℕ) (T : TableFor env n) (inside : x < n) where
   -- ---- the number is taken
 
-  module _ (was_free : is_free (environment_of env x) ≡ true) (env₁ env₂ : List ℕ) (same : length env₂ ≡ length env) (put : Put env x 0 1 env₁) (up : Raised env₁ (suc n) (suc x) env₂) where
-    take_off : (y j : ℕ) → j < 8 → (x ≡ y → 0 ≡ j → ⊥) → (suc n ≡ y → 7 ≡ j → ⊥) → entry_word env₂ y j ≡ entry_word env y j
+  module _ (was_free : is_free (environment_of env x) ≡ true) (env₁ env₂ : List Row) (same : length env₂ ≡ length env) (put : Put env x 0 1 env₁) (up : Raised env₁ (suc n) (suc x) env₂) where
+    take_off : (y j : ℕ) → j < 9 → (x ≡ y → 0 ≡ j → ⊥) → (suc n ≡ y → 8 ≡ j → ⊥) → entry_word env₂ y j ≡ entry_word env y j
     take_off y j l p q = raised_off env₁ env₂ (suc n) (suc x) up y j l q ∙ put_off env env₁ x 0 1 put y j l p
 
     take_status : entry_word env₂ x 0 ≡ 1
     take_status = raised_off env₁ env₂ (suc n) (suc x) up x 0 (omega arith) (λ p q. omega arith) ∙ put_at_law env env₁ x 0 1 put (omega arith)
 
     take_others : (y : ℕ) → (x ≡ y → ⊥) → SameEntry env env₂ y
-    take_others y q k l a b = take_off y k l (λ p e. q p) (λ p e. b (sym e))
+    take_others y q k l a b = take_off y k (omega arith) (λ p e. q p) (λ p e. omega arith)
 
     take_links : SameLinks env env₂
     take_links y = links_same env env₂ y (take_off y 1 (omega arith) (λ p q. omega arith) (λ p q. omega arith))
@@ -200,7 +202,7 @@ module _ (env : List ℕ) (n x : ℕ) (T : TableFor env n) (inside : x < n) wher
     taken_table : TableFor env₂ n
     taken_table =
         let up-there = raised_there env₁ env₂ (suc n) (suc x) up in
-        let before : entry_word env₁ (suc n) 7 ≡ note_at env (suc n) = put_off env env₁ x 0 1 put (suc n) 7 (omega arith) (λ p q. omega arith) in
+        let before : entry_word env₁ (suc n) 8 ≡ note_at env (suc n) = put_off env env₁ x 0 1 put (suc n) 8 (omega arith) (λ p q. omega arith) in
         let most : note_at env (suc n) ≤ n = T.2.most in
         let was : entry_word env x 0 ≡ 0 = eqb-true (entry_word env x 0) 0 (free_test env x ∙ was_free) in (
           same ∙ T.0,

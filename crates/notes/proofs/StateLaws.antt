@@ -8,6 +8,7 @@ use mathlib.Core.Bool.{true}
 use mathlib.Core.List.{List}
 use lib.Dec.{leb}
 use lib.ListN.{length}
+use Rattle.variables.specs.declared.table.Row.{Row}
 use Rattle.variables.specs.declared.roots.Roots.{Roots}
 use Rattle.variables.specs.declared.table.VariableState.{VariableState}
 use Rattle.variables.specs.declared.table.Entry.{Entry}
@@ -23,30 +24,31 @@ use Rattle.variables.proofs.EndLaws.{told_variable, end_fits, end_own}
 use Rattle.variables.proofs.EndRoots.{end_united}
 use Rattle.variables.proofs.EntryLaws.{NotLive, not_live}
 use Rattle.variables.proofs.TableLaws.{SameEntry, kept_end}
-use Rattle.variables.proofs.WordLaws.{Put, put_at_law, put_off, roots_same, holders_same, links_same, slot_same, updated, slot_changed}
+use Rattle.variables.proofs.WordLaws.{put_at_law, put_off, roots_same, holders_same, links_same, slot_same, updated, slot_changed}
+use Rattle.variables.proofs.TableLaws.{Put}
 use Rattle.notes.proofs.NoteLaws.{noted_as_before}
 
 -- What the words of x say, with the links of the others as another table has them.
-pub state_variable : (env env' : List ℕ) (x : ℕ)
+pub state_variable : (env env' : List Row) (x : ℕ)
     → as_variable env (state_at env' x) ≡ variable_of env (links_at env' x) (entry_word env' x 4) (roots_at env' x) (entry_word env' x 5)
 unfolding state_at
 state_variable env env' x = told_variable env (links_at env' x) (entry_word env' x 4) (roots_at env' x) (entry_word env' x 5)
 
 -- The same of a state that was changed.
-changed_variable : (env : List ℕ) (x d : ℕ) (s : Roots)
+changed_variable : (env : List Row) (x d : ℕ) (s : Roots)
     → as_variable env (changed_state (state_at env x) d s) ≡ variable_of env (links_at env x) d s (entry_word env x 5)
 unfolding state_at changed_state
 changed_variable env x d s = told_variable env (links_at env x) d s (entry_word env x 5)
 
-module _ (env : List ℕ) (n x : ℕ) (T : TableFor env n) (inside : x < n) where
+module _ (env : List Row) (n x : ℕ) (T : TableFor env n) (inside : x < n) where
   -- The words of x may change but for its status, and who may hold a borrow of a root that it records is noted.
-  module _ (env' : List ℕ) (same : length env' ≡ length env)
-      (off : (y k : ℕ) → k < 8 → (k ≡ 3 → ⊥) → (k ≡ 7 → ⊥) → (x ≡ y → k ≡ 0) → entry_word env' y k ≡ entry_word env y k)
+  module _ (env' : List Row) (same : length env' ≡ length env)
+      (off : (y k : ℕ) → k < 9 → (k ≡ 3 → ⊥) → (k ≡ 7 → ⊥) → (x ≡ y → k ≡ 0) → entry_word env' y k ≡ entry_word env y k)
       (links : links_at env' x ≡ links_at env x) (notes : (y : ℕ) → n ≤ y → note_at env' y ≡ note_at env y)
       (kept : (r y : ℕ) → r < n → has (holders_at env r) y ≡ true → has (holders_at env' r) y ≡ true)
       (own : (r : ℕ) → r < n → 2 ≤ entry_word env x 0 → has (roots_at env' x) r ≡ true → has (holders_at env' r) x ≡ true) where
     others : (y : ℕ) → (x ≡ y → ⊥) → SameEntry env env' y
-    others y q k l a b = off y k l a b (λ p. absurd (q p))
+    others y q k l a b = off y k (omega arith) a b (λ p. absurd (q p))
 
     status : entry_word env' x 0 ≡ entry_word env x 0
     status = off x 0 (omega arith) (λ q. omega arith) (λ q. omega arith) (λ p. refl)
@@ -84,19 +86,19 @@ module _ (env : List ℕ) (n x : ℕ) (T : TableFor env n) (inside : x < n) wher
             same_links_law,
           )
 
-  pub moved_away_law : (k : ℕ) (env₁ : List ℕ) → length env₁ ≡ length env → Put env x 4 k env₁
+  pub moved_away_law : (k : ℕ) (env₁ : List Row) → length env₁ ≡ length env → Put env x 4 k env₁
       → (environment_of env₁ ≡ update (environment_of env) x (moved_away_at (environment_of env x) k)) × TableFor env₁ n × SameLinks env env₁
   moved_away_law k env₁ same put =
       changed env₁ same (λ y j l a b c. off y j l (λ p. omega (arith, c p))) (links x)
-      (λ y l. word y 7 (omega arith) (λ q. omega arith))
+      (λ y l. word y 8 (omega arith) (λ q. omega arith))
       (λ r y l h. ap (λ (s : Roots). has s y) (holders r) ∙ h)
       (λ r l a h. ap (λ (s : Roots). has s x) (holders r) ∙ T.2.held x r inside l a (ap (λ (s : Roots). has s r) (sym roots) ∙ h))
       (λ (z : Slot). moved_away_at z k) refl refl (ap live (sym variable))
     where
-      off : (y j : ℕ) → j < 8 → (x ≡ y → 4 ≡ j → ⊥) → entry_word env₁ y j ≡ entry_word env y j
+      off : (y j : ℕ) → j < 9 → (x ≡ y → 4 ≡ j → ⊥) → entry_word env₁ y j ≡ entry_word env y j
       off y j l q = put_off env env₁ x 4 k put y j l q
 
-      word : (y j : ℕ) → j < 8 → (4 ≡ j → ⊥) → entry_word env₁ y j ≡ entry_word env y j
+      word : (y j : ℕ) → j < 9 → (4 ≡ j → ⊥) → entry_word env₁ y j ≡ entry_word env y j
       word y j l q = off y j l (λ p. q)
 
       holders : (r : ℕ) → holders_at env₁ r ≡ holders_at env r
@@ -112,7 +114,7 @@ module _ (env : List ℕ) (n x : ℕ) (T : TableFor env n) (inside : x < n) wher
       variable = rw (links x, put_at_law env env₁ x 4 k put (omega arith), word x 5 (omega arith) (λ q. omega arith), roots, kept_end env env₁ links (chain_of (links_at env x)) (roots_at env x))
 
   -- It is given another state, with the links and the level that it has.
-  module _ (d : ℕ) (s : Roots) (env' : List ℕ) (same : length env' ≡ length env) (S : Stored n env x (changed_state (state_at env x) d s) env') where
+  module _ (d : ℕ) (s : Roots) (env' : List Row) (same : length env' ≡ length env) (S : Stored n env x (changed_state (state_at env x) d s) env') where
     given_links : links_at env' x ≡ links_at env x
     unfolding state_at changed_state
     given_links = ap (λ (v : VariableState). v.links) S.state
@@ -139,7 +141,7 @@ module _ (env : List ℕ) (n x : ℕ) (T : TableFor env n) (inside : x < n) wher
       ap (end_in env ks) (read ∙ ap (λ (w : VariableState). end_roots w.borrow_end) loaded) ∙ end_own (places_in env ks) ks (roots_at env x)
 
   module _ (v r : VariableState) (loaded : v ≡ state_at env x) (d : ℕ) (s : Roots) (made : r ≡ changed_state v d s)
-      (env' : List ℕ) (same : length env' ≡ length env) (S : Stored n env x r env') where
+      (env' : List Row) (same : length env' ≡ length env) (S : Stored n env x r env') where
     -- The state that is stored, from the words of the table.
     pub stored_as : (k : ℕ) → d ≡ k → Stored n env x (changed_state (state_at env x) k s) env'
     stored_as k e = subst (λ (w : VariableState). Stored n env x w env') (made ∙ ap₂ (λ (w : VariableState) (j : ℕ). changed_state w j s) loaded e) S
@@ -168,7 +170,7 @@ unfolding changed_state
 changed_fits r v d s made = subst Fits (sym made) (end_fits (chain_of v.links) s)
 
 -- Nothing is stored where x has the state already.
-pub unchanged : (env : List ℕ) (n x : ℕ) → TableFor env n → (f : Slot → Slot) → f free ≡ free → f used ≡ used
+pub unchanged : (env : List Row) (n x : ℕ) → TableFor env n → (f : Slot → Slot) → f free ≡ free → f used ≡ used
     → f (live (variable_at env x)) ≡ live (variable_at env x)
     → (environment_of env ≡ update (environment_of env) x (f (environment_of env x))) × TableFor env n × SameLinks env env
 unfolding environment_of
@@ -176,7 +178,7 @@ unchanged env n x T f none taken there =
     (updated env env x (f (environment_of env x)) (λ y q. refl) (slot_changed f (variable_at env x) (variable_at env x) none taken there (entry_word env x 0)), T, λ y. refl)
 
 -- What an `else` knows: the number is not in scope, and stays as it is.
-pub not_changed : (env : List ℕ) (n x : ℕ) → TableFor env n → (e : Entry) → e ≡ entry_at env x → NotLive e → (f : Slot → Slot) → f free ≡ free → f used ≡ used
+pub not_changed : (env : List Row) (n x : ℕ) → TableFor env n → (e : Entry) → e ≡ entry_at env x → NotLive e → (f : Slot → Slot) → f free ≡ free → f used ≡ used
     → (environment_of env ≡ update (environment_of env) x (f (environment_of env x))) × TableFor env n × SameLinks env env
 not_changed env n x T e loaded other f none taken = (updated env env x (f (environment_of env x)) (λ y q. refl) (go (environment_of env x) refl), T, λ y. refl)
   where

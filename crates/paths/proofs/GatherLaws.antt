@@ -6,18 +6,19 @@ use mathlib.Core.List.{List}
 use lib.Dec.{eqb}
 use borrow.Author.Tests.{eqb-true}
 use Rattle.syntax.specs.Result.{pick}
+use Rattle.variables.specs.declared.table.Row.{Row}
 use Rattle.variables.specs.declared.roots.Roots.{Roots}
 use Rattle.variables.specs.Masks.{has}
 use Rattle.variables.specs.Table.{roots_at}
 use Rattle.paths.specs.Steps.{BorrowedAt}
 
 -- All those of the variables that are not left are in, and nothing else.
-pub record Gathering (env : List ℕ) (to roots left : Roots) : Type 0 where
+pub record Gathering (env : List Row) (to roots left : Roots) : Type 0 where
   pub inside : (y : ℕ) → has left y ≡ true → has to y ≡ true
   pub within : (y x : ℕ) → has to y ≡ true → has left y ≡ false → has (roots_at env y) x ≡ true → has roots x ≡ true
   pub from : (x : ℕ) → has roots x ≡ true → (y : ℕ) × (has to y ≡ true) × (has (roots_at env y) x ≡ true)
 
-module _ (env : List ℕ) (to : Roots) where
+module _ (env : List Row) (to : Roots) where
   pub gather_begins : (roots : Roots) → ((x : ℕ) → has roots x ≡ false) → Gathering env to roots to
   gather_begins roots z = record {
     inside = λ y h. h;

@@ -9,6 +9,7 @@ use lib.Dec.{leb, eqb}
 use lib.ListN.{length}
 use borrow.Author.Tests.{le-leb, lt-leb, leb-true, leb-false, lt-ltb, le-ltb, ne_eqb}
 use Rattle.syntax.specs.Result.{pick}
+use Rattle.variables.specs.declared.table.Row.{Row}
 use Rattle.variables.specs.declared.roots.Roots.{Roots}
 use Rattle.statics.specs.Environment.{leave_slot, leave}
 use Rattle.variables.specs.Chains.{chain_of, is_exclusive}
@@ -16,10 +17,11 @@ use Rattle.variables.specs.Masks.{has}
 use Rattle.variables.specs.Table.{entry_word, roots_at, variable_at, slot_as, environment_of, TableFor, SameLinks, InScope, Around}
 use Rattle.variables.proofs.EntryLaws.{status_live, live_inside}
 use Rattle.variables.proofs.TableLaws.{slot_used, same_slot}
-use Rattle.variables.proofs.WordLaws.{Put, put_at_law, put_off, PutSet, set_off, roots_put, roots_same, holders_same, links_same}
+use Rattle.variables.proofs.WordLaws.{put_at_law, put_off, set_off, roots_put, roots_same, holders_same, links_same}
+use Rattle.variables.proofs.TableLaws.{Put, PutSet}
 
 -- What lives at a level or around it is in scope.
-pub around_in : (env : List ℕ) (s : Roots) (level : ℕ) → Around env s level → InScope env s
+pub around_in : (env : List Row) (s : Roots) (level : ℕ) → Around env s level → InScope env s
 around_in env s level around y h = go (leb 2 (entry_word env y 0)) refl (sym (around y) ∙ h)
   where
     go : (b : Bool) → leb 2 (entry_word env y 0) ≡ b → pick b (leb (entry_word env y 5) level) false ≡ true → 2 ≤ entry_word env y 0
@@ -27,16 +29,16 @@ around_in env s level around y h = go (leb 2 (entry_word env y 0)) refl (sym (ar
     go false e k = absurd (false≢true k)
 
 -- Of all that leave those of `left` have still to. No other word changes than their status.
-pub record Leaving (env : List ℕ) (all left : Roots) (env' : List ℕ) : Type 0 where
+pub record Leaving (env : List Row) (all left : Roots) (env' : List Row) : Type 0 where
   pub within : (y : ℕ) → has left y ≡ true → has all y ≡ true
-  pub others : (y j : ℕ) → j < 8 → (0 ≡ j → ⊥) → entry_word env' y j ≡ entry_word env y j
+  pub others : (y j : ℕ) → j < 9 → (0 ≡ j → ⊥) → entry_word env' y j ≡ entry_word env y j
   pub gone : (y : ℕ) → has all y ≡ true → has left y ≡ false → entry_word env' y 0 ≡ 1
   pub stays : (y : ℕ) → has all y ≡ false → entry_word env' y 0 ≡ entry_word env y 0
 
-pub leaving_first : (env : List ℕ) (all : Roots) → Leaving env all all env
+pub leaving_first : (env : List Row) (all : Roots) → Leaving env all all env
 leaving_first env all = record { within = λ y h. h; others = λ y j l n. refl; gone = λ y h k. absurd (true≢false (sym h ∙ k)); stays = λ y h. refl }
 
-pub leaving_next : (env env₁ env₂ : List ℕ) (all left left' : Roots) (x : ℕ) → Leaving env all left env₁ → has left x ≡ true
+pub leaving_next : (env env₁ env₂ : List Row) (all left left' : Roots) (x : ℕ) → Leaving env all left env₁ → has left x ≡ true
     → ((y : ℕ) → has left' y ≡ pick (eqb x y) false (has left y)) → Put env₁ x 0 1 env₂ → Leaving env all left' env₂
 leaving_next env env₁ env₂ all left left' x L member out put =
     record {
@@ -57,7 +59,7 @@ leaving_next env env₁ env₂ all left left' x L member out put =
         ∙ L.gone y h (sym (out y ∙ ap (λ (b : Bool). pick b false (has left y)) (ne_eqb x y q)) ∙ k)
 
 -- What is not in scope stays what it is.
-dead_stays : (env env' : List ℕ) (y level : ℕ) → entry_word env y 0 < 2 → entry_word env' y 0 ≡ entry_word env y 0 → environment_of env' y ≡ leave_slot level (environment_of env y)
+dead_stays : (env env' : List Row) (y level : ℕ) → entry_word env y 0 < 2 → entry_word env' y 0 ≡ entry_word env y 0 → environment_of env' y ≡ leave_slot level (environment_of env y)
 unfolding environment_of slot_as leave_slot
 dead_stays env env' y level l e = ap (λ (s : ℕ). slot_as s (variable_at env' y)) e ∙ go (entry_word env y 0) l
   where
@@ -67,13 +69,13 @@ dead_stays env env' y level l e = ap (λ (s : ℕ). slot_as s (variable_at env' 
     go (suc (suc s)) h = absurd (omega arith)
 
 -- What leaves is in scope, and was not before the block.
-module _ (env : List ℕ) (n : ℕ) (T : TableFor env n) (scope before all : Roots) (read : scope ≡ roots_at env (suc n))
+module _ (env : List Row) (n : ℕ) (T : TableFor env n) (scope before all : Roots) (read : scope ≡ roots_at env (suc n))
     (less : (y : ℕ) → has all y ≡ pick (has before y) false (has scope y)) where
   in_scope : (y : ℕ) → has scope y ≡ leb 2 (entry_word env y 0)
   in_scope y = ap (λ (s : Roots). has s y) read ∙ T.2.scope y
 
   -- It is a variable of the table.
-  pub leaving_inside : (left : Roots) (env₁ : List ℕ) → Leaving env all left env₁ → (x : ℕ) → has left x ≡ true → x < n
+  pub leaving_inside : (left : Roots) (env₁ : List Row) → Leaving env all left env₁ → (x : ℕ) → has left x ≡ true → x < n
   leaving_inside left env₁ L x h = go (has before x) (sym (less x) ∙ L.within x h)
     where
       go : (b : Bool) → pick b false (has scope x) ≡ true → x < n
@@ -81,9 +83,9 @@ module _ (env : List ℕ) (n : ℕ) (T : TableFor env n) (scope before all : Roo
       go false k = live_inside env n T x (variable_at env x) (status_live env x (leb-true 2 (entry_word env x 0) (sym (in_scope x) ∙ k)))
 
   -- All have left, and the set of what is in scope is put.
-  module _ (left : Roots) (env₁ env₂ : List ℕ) (was : InScope env before) (L : Leaving env all left env₁) (none : (y : ℕ) → has left y ≡ false)
+  module _ (left : Roots) (env₁ env₂ : List Row) (was : InScope env before) (L : Leaving env all left env₁) (none : (y : ℕ) → has left y ≡ false)
       (put : PutSet env₁ (suc n) 2 before env₂) where
-    word : (y j : ℕ) → j < 8 → (0 ≡ j → ⊥) → (suc n ≡ y → 2 ≡ j → ⊥) → (suc n ≡ y → 6 ≡ j → ⊥) → entry_word env₂ y j ≡ entry_word env y j
+    word : (y j : ℕ) → j < 9 → (0 ≡ j → ⊥) → (suc n ≡ y → 2 ≡ j → ⊥) → (suc n ≡ y → 6 ≡ j → ⊥) → entry_word env₂ y j ≡ entry_word env y j
     word y j l z p q = set_off env₁ env₂ (suc n) 2 before put y j l p q ∙ L.others y j l z
 
     status : (y : ℕ) → entry_word env₂ y 0 ≡ entry_word env₁ y 0
@@ -144,8 +146,8 @@ module _ (env : List ℕ) (n : ℕ) (T : TableFor env n) (scope before all : Roo
       },
     )
       where
-        note : entry_word env₂ (suc n) 7 ≡ entry_word env (suc n) 7
-        note = word (suc n) 7 (omega arith) (λ q. omega arith) (λ p q. omega arith) (λ p q. omega arith)
+        note : entry_word env₂ (suc n) 8 ≡ entry_word env (suc n) 8
+        note = word (suc n) 8 (omega arith) (λ q. omega arith) (λ p q. omega arith) (λ p q. omega arith)
 
     -- Where the variables in scope before the block are those of the level or around it, the others are deeper.
     left_environment : (level : ℕ) → Around env before level → environment_of env₂ ≡ leave level (environment_of env)

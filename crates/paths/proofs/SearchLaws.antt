@@ -10,6 +10,7 @@ use lib.Dec.{eqb}
 use borrow.Author.Tests.{eqb-true, eq-eqb}
 use Rattle.syntax.specs.Result.{pick}
 use Rattle.syntax.specs.Script.{Place}
+use Rattle.variables.specs.declared.table.Row.{Row}
 use Rattle.variables.specs.declared.roots.Roots.{Roots}
 use Rattle.std.specs.Prelude.{Result, Ok, Err}
 use Rattle.syntax.specs.declared.refusals.Reason.{Reason}
@@ -40,16 +41,16 @@ use Rattle.paths.proofs.StepLaws.{passes_at, ends_at, passed_at, leads_nowhere, 
 -- ---- in a table
 
 -- The variable passes with m links left, and following ends in it.
-abbrev passing : List ℕ → ℕ → Bool → ℕ → Bool
+abbrev passing : List Row → ℕ → Bool → ℕ → Bool
 passing env m deep y = passes_slot deep (environment_of env y) (links_of (environment_of env y) - m)
 
-abbrev ending : List ℕ → ℕ → ℕ → Bool
+abbrev ending : List Row → ℕ → ℕ → Bool
 ending env m y = own_link (environment_of env y) (links_of (environment_of env y) - m)
 
-abbrev pub Searching : List ℕ → ℕ → ℕ → Bool → Roots → Roots → Roots → Type 0
+abbrev pub Searching : List Row → ℕ → ℕ → Bool → Roots → Roots → Roots → Type 0
 Searching env root m deep met todo es = Search (eqb root) (leads (environment_of env) m) (passing env m deep) (ending env m) (has met) (has todo) (has es)
 
-module _ (env : List ℕ) (n : ℕ) (T : NeatTable env n) (root m : ℕ) (is : environment_of env root ≡ live (variable_at env root)) (long : m ≤ long_at env root) where
+module _ (env : List Row) (n : ℕ) (T : NeatTable env n) (root m : ℕ) (is : environment_of env root ≡ live (variable_at env root)) (long : m ≤ long_at env root) where
   abbrev start : Place
   start = place root (long_at env root - m)
 
@@ -205,7 +206,7 @@ module _ (env : List ℕ) (n : ℕ) (T : NeatTable env n) (root m : ℕ) (is : e
 
 -- ---- from the root of a place, with its follows: left are the links of the root without them
 
-module _ (env : List ℕ) (n : ℕ) (T : NeatTable env n) (root f : ℕ) (is : environment_of env root ≡ live (variable_at env root)) (fits : f ≤ long_at env root) (r : Result Step Reason) (P : Passed false (variable_at env root) f r) where
+module _ (env : List Row) (n : ℕ) (T : NeatTable env n) (root f : ℕ) (is : environment_of env root ≡ live (variable_at env root)) (fits : f ≤ long_at env root) (r : Result Step Reason) (P : Passed false (variable_at env root) f r) where
   at_root : (k : ℕ) → k ≡ long_at env root → Passed false (variable_at env root) (long_at env root - (k - f)) r
   at_root k e = subst (λ (g : ℕ). Passed false (variable_at env root) g r) (omega arith) P
 

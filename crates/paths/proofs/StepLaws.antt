@@ -11,6 +11,7 @@ use borrow.Author.Tests.{le-leb, lt-leb, lt-ltb, le-ltb}
 use Rattle.std.specs.Prelude.{Ok, Err}
 use Rattle.syntax.specs.declared.refusals.Reason.TheVariants as reason
 use Rattle.paths.specs.declared.follow.Step.TheVariants as step
+use Rattle.variables.specs.declared.table.Row.{Row}
 use Rattle.statics.specs.Links.{Link, boxed, shared, exclusive, leading_boxes}
 use Rattle.statics.specs.Environment.{Variable, live, borrow_of, holding}
 use Rattle.statics.specs.Follow.{is_borrow, own_link, own_path, whole_slot}
@@ -84,7 +85,7 @@ module _ (v : Variable) (f : ℕ) where
 
 -- ---- in a table, of a variable in scope, with m links left
 
-module _ (env : List ℕ) (x m : ℕ) (is : environment_of env x ≡ live (variable_at env x)) where
+module _ (env : List Row) (x m : ℕ) (is : environment_of env x ≡ live (variable_at env x)) where
   pub passes_at : (deep : Bool) → passes_slot deep (environment_of env x) (links_of (environment_of env x) - m) ≡ passes_slot deep (live (variable_at env x)) (long_at env x - m)
   unfolding links_of
   passes_at deep = rw is refl
@@ -107,7 +108,7 @@ module _ (env : List ℕ) (x m : ℕ) (is : environment_of env x ≡ live (varia
   leads_to_roots h z = rw (is, lt-ltb (leading_boxes (chain_of (links_at env x))) (long_at env x - m) h) (end_rooted env (chain_of (links_at env x)) (roots_at env x) z (omega arith))
 
 -- A variable that is whole itself and has a borrow link leads on to the end of its value.
-pub whole_through : (env : List ℕ) (x : ℕ) → leading_boxes (chain_of (links_at env x)) < entry_word env x 4 → (long_at env x ≡ leading_boxes (chain_of (links_at env x)) → ⊥) → Passed true (variable_at env x) (long_at env x - 0) (Ok step.Through)
+pub whole_through : (env : List Row) (x : ℕ) → leading_boxes (chain_of (links_at env x)) < entry_word env x 4 → (long_at env x ≡ leading_boxes (chain_of (links_at env x)) → ⊥) → Passed true (variable_at env x) (long_at env x - 0) (Ok step.Through)
 whole_through env x h n =
     let z = boxes_inside_law (chain_of (links_at env x)) in
     let l : leading_boxes (chain_of (links_at env x)) < long_at env x - 0 = omega (arith, z, n) in

@@ -6,6 +6,7 @@ use mathlib.Core.Bool.{Bool, true, false}
 use mathlib.Core.List.{List}
 use lib.Dec.{eqb}
 use borrow.Author.Tests.{lt-ltb, eqb-true}
+use Rattle.variables.specs.declared.table.Row.{Row}
 use Rattle.variables.specs.declared.table.BorrowEnd.TheVariants as end
 use Rattle.variables.specs.declared.table.VariableState.{VariableState}
 use Rattle.variables.specs.declared.table.Entry.{Entry}
@@ -32,7 +33,7 @@ use Rattle.variables.proofs.EndLaws.{none_boxed, boxed_none}
 use Rattle.paths.proofs.StepLaws.{stops_deep, whole_through}
 use Rattle.paths.proofs.SearchLaws.{root_stops, root_alone}
 
-module _ (env : List ℕ) (n : ℕ) (T : NeatTable env n) (x : ℕ) (is : environment_of env x ≡ live (variable_at env x)) where
+module _ (env : List Row) (n : ℕ) (T : NeatTable env n) (x : ℕ) (is : environment_of env x ≡ live (variable_at env x)) where
   abbrev whole : Bool
   whole = value_whole n (environment_of env) x (variable_at env x)
 

@@ -4,6 +4,7 @@ use Rattle.std.specs.Prelude.{Result, Ok, Err}
 use Rattle.syntax.specs.declared.refusals.Reason.{Reason}
 use Rattle.syntax.specs.declared.refusals.Reason.TheVariants as reason
 use Rattle.syntax.specs.Script.{Place}
+use Rattle.variables.specs.declared.table.Row.{Row}
 use Rattle.variables.specs.declared.roots.Roots.{Roots}
 use Rattle.paths.specs.declared.follow.Ends.{Ends}
 use Rattle.paths.specs.declared.follow.Ends.TheVariants as ends
@@ -42,6 +43,6 @@ pub record Searched (nv : ℕ) (Γ : Environment) (x m : ℕ) (deep : Bool) (r :
   pub to : (s : Roots) → r ≡ Ok (ends.At s) → (y : ℕ) → has s y ≡ ends_of Γ m met y
 
 -- The roots that the variables of a set record, all of them.
-pub record BorrowedAt (env : List ℕ) (s r : Roots) : Type 0 where
+pub record BorrowedAt (env : List Row) (s r : Roots) : Type 0 where
   pub within : (y x : ℕ) → has s y ≡ true → has (roots_at env y) x ≡ true → has r x ≡ true
   pub from : (x : ℕ) → has r x ≡ true → (y : ℕ) × (has s y ≡ true) × (has (roots_at env y) x ≡ true)

@@ -13,7 +13,7 @@ ghost use Rattle.variables.specs.Verdicts.{NeatTable};
 use syntax::refusals::Reason;
 use variables::chains::{chain_length, leading_boxes};
 use variables::roots::{Roots, less, no_roots, only, unite};
-use variables::table::{BorrowEnd, Entry, MOVED_FROM, links_at, load, roots_at, word_at};
+use variables::table::{BorrowEnd, Entry, Row, load};
 
 // Where a place leads: to an own link of its root, the common case, for which no set is made; or to own links of these
 // variables.
@@ -32,13 +32,12 @@ pub enum Step {
 
 // The variable x on the way, with so many follows from it (33; LANGUAGE 3.13, 3.14); all of it must be whole if the end
 // of the value is looked for (3.15).
-fn step_at(env: &[u64], x: usize, follows: usize, deep: bool) -> Result<Step, Reason>
-    requires { (x * 8 + 8 ≤ length env.now) × (follows ≤ length (chain_of (links_at env.now x))) }
+fn step_at(env: &[Row], x: usize, follows: usize, deep: bool) -> Result<Step, Reason>
+    requires { (x < length env.now) × (follows ≤ length (chain_of (links_at env.now x))) }
     ensures { Passed deep (variable_at env.now x) follows result }
 {
-    let links = links_at(env, x);
-    let boxes = leading_boxes(links) as u64;
-    let moved_from = word_at(env, x, MOVED_FROM);
+    let boxes = leading_boxes(env[x].links) as u64;
+    let moved_from = env[x].moved_from;
     if moved_from <= boxes {
         if deep {
             return Err(Reason::MovedAway);
@@ -60,7 +59,7 @@ fn step_at(env: &[u64], x: usize, follows: usize, deep: bool) -> Result<Step, Re
 // All that is met beyond the borrow link of the root, with so many links left: each variable once, until one does not
 // pass (33).
 fn search_beyond(
-    env: &[u64],
+    env: &[Row],
     variables: usize,
     root: usize,
     remaining: usize,
@@ -70,17 +69,17 @@ fn search_beyond(
     ensures { Searched variables (environment_of env.now) root remaining deep result }
 {
     let first = only(root);
-    let mut todo = less(roots_at(env, root), first);
+    let mut todo = less(env[root].roots, first);
     let mut met = unite(first, todo);
     let mut ends = no_roots();
     while let Some(x) = todo.take_lowest() {
-        let follows = chain_length(links_at(env, x)) - remaining;
+        let follows = chain_length(env[x].links) - remaining;
         match step_at(env, x, follows, deep)? {
             Step::Here => {
                 ends = unite(ends, only(x));
             }
             Step::Through => {
-                let more = less(roots_at(env, x), met);
+                let more = less(env[x].roots, met);
                 met = unite(met, more);
                 todo = unite(todo, more);
             }
@@ -91,7 +90,7 @@ fn search_beyond(
 
 // All that is met from the variable root on, which is in scope, with so many follows from it, if nothing on the way is
 // moved away (33). Most often that is the root alone; the links left are counted only where its borrow link is passed.
-pub fn search(env: &[u64], variables: usize, root: usize, follows: usize) -> Result<Ends, Reason>
+pub fn search(env: &[Row], variables: usize, root: usize, follows: usize) -> Result<Ends, Reason>
     requires { NeatTable env.now variables × (environment_of env.now root ≡ live (variable_at env.now root)) × (follows ≤ length (chain_of (links_at env.now root))) }
     ensures { Searched variables (environment_of env.now) root (length (chain_of (links_at env.now root)) - follows) false result }
 {
@@ -101,7 +100,7 @@ pub fn search(env: &[u64], variables: usize, root: usize, follows: usize) -> Res
             env,
             variables,
             root,
-            chain_length(links_at(env, root)) - follows,
+            chain_length(env[root].links) - follows,
             false,
         ),
     }
@@ -109,7 +108,7 @@ pub fn search(env: &[u64], variables: usize, root: usize, follows: usize) -> Res
 
 // Whole (LANGUAGE 3.15): nothing of the value of x, which is in scope, is moved away, to the end of its links. Without
 // a borrow link that is asked of x alone.
-pub fn value_whole(env: &[u64], variables: usize, x: usize) -> bool
+pub fn value_whole(env: &[Row], variables: usize, x: usize) -> bool
     requires { NeatTable env.now variables × (environment_of env.now x ≡ live (variable_at env.now x)) }
     ensures { result ≡ value_whole variables (environment_of env.now) x (variable_at env.now x) }
 {
@@ -126,13 +125,13 @@ pub fn value_whole(env: &[u64], variables: usize, x: usize) -> bool
 }
 
 // The roots that any of these variables records (LANGUAGE 3.19).
-pub fn borrows_at(env: &[u64], variables: usize, to: Roots) -> Roots
-    requires { (variables * 8 ≤ length env.now) × ((y : ℕ) → has to y ≡ true → y < variables) }
+pub fn borrows_at(env: &[Row], variables: usize, to: Roots) -> Roots
+    requires { (variables ≤ length env.now) × ((y : ℕ) → has to y ≡ true → y < variables) }
     ensures { BorrowedAt env.now to result }
 {
     let mut roots = no_roots();
     for x in to {
-        roots = unite(roots, roots_at(env, x));
+        roots = unite(roots, env[x].roots);
     }
     roots
 }

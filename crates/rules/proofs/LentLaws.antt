@@ -9,6 +9,7 @@ use mathlib.Core.List.{List, [], ◌∷◌}
 use lib.ListN.{length, take, drop, length-drop}
 use Rattle.syntax.specs.Result.{ok, need, ◌>>=◌}
 use Rattle.syntax.specs.Script.{Place}
+use Rattle.variables.specs.declared.table.Row.{Row}
 use Rattle.variables.specs.declared.roots.Roots.{Roots}
 use Rattle.paths.specs.declared.follow.Ends.{Ends}
 use Rattle.paths.specs.declared.follow.Ends.TheVariants as ends
@@ -46,7 +47,7 @@ use Rattle.rules.proofs.OwnLaws.{found_own, own_borrows}
 
 -- ---- the search for it
 
-module _ (env : List ℕ) (nv : ℕ) (T : NeatTable env nv) (i x follows : ℕ) (W : WholeBorrow env nv x follows) where
+module _ (env : List Row) (nv : ℕ) (T : NeatTable env nv) (i x follows : ℕ) (W : WholeBorrow env nv x follows) where
   abbrev ks : List Link
   ks = drop follows (chain_of (links_at env x))
 
@@ -97,7 +98,7 @@ module _ (env : List ℕ) (nv : ℕ) (T : NeatTable env nv) (i x follows : ℕ) 
 
 -- ---- the rules that ask for it, of a place that is named and whose value is whole
 
-module _ (env : List ℕ) (nv : ℕ) (T : NeatTable env nv) (p : Place) {rest : ℕ} (F : Named (environment_of env) p rest) (x : ℕ) (at : x ≡ p.root) where
+module _ (env : List Row) (nv : ℕ) (T : NeatTable env nv) (p : Place) {rest : ℕ} (F : Named (environment_of env) p rest) (x : ℕ) (at : x ≡ p.root) where
   is_root : F.variable ≡ variable_at env x
   is_root = variable_is env p F ∙ ap (variable_at env) (sym at)
 
@@ -138,7 +139,7 @@ module _ (env : List ℕ) (nv : ℕ) (T : NeatTable env nv) (p : Place) {rest : 
 
 -- ---- what they answer, of a place that may be read
 
-module _ (env : List ℕ) (nv : ℕ) (T : NeatTable env nv) (i : ℕ) (p : Place) {rest : ℕ} {ns : Unfinished} (R : Read nv ns (environment_of env) i p rest) (x : ℕ) (at : x ≡ p.root) where
+module _ (env : List Row) (nv : ℕ) (T : NeatTable env nv) (i : ℕ) (p : Place) {rest : ℕ} {ns : Unfinished} (R : Read nv ns (environment_of env) i p rest) (x : ℕ) (at : x ≡ p.root) where
   located : judge_place nv (environment_of env) i p ≡ ok (paths.located R.named.variable R.to)
   located = readable_place nv ns (environment_of env) i p (paths.located R.named.variable R.to) R.is
 

@@ -8,6 +8,7 @@ use lib.ListN.{length, drop}
 use borrow.Author.Tests.{le-leb, lt-leb}
 use Rattle.syntax.specs.Result.{ok, err, need, ◌>>=◌}
 use Rattle.syntax.specs.Script.{Place}
+use Rattle.variables.specs.declared.table.Row.{Row}
 use Rattle.variables.specs.declared.roots.Roots.{Roots}
 use Rattle.statics.specs.Links.{Link, leading_boxes}
 use Rattle.statics.specs.Environment.{Variable, live, update, moved_away, moved_away_at}
@@ -22,7 +23,7 @@ use Rattle.variables.specs.Verdicts.{type_of}
 use Rattle.rules.proofs.ValueLaws.{moved_out}
 use Rattle.rules.proofs.PlaceLaws.{variable_is, named_live, on_chain}
 
-module _ (env : List ℕ) (nv : ℕ) (p : Place) {rest : ℕ} (F : Named (environment_of env) p rest) where
+module _ (env : List Row) (nv : ℕ) (p : Place) {rest : ℕ} (F : Named (environment_of env) p rest) where
   abbrev chain : List Link
   chain = F.variable.chain
 
@@ -52,7 +53,7 @@ module _ (env : List ℕ) (nv : ℕ) (p : Place) {rest : ℕ} (F : Named (enviro
       move_is ns i h = rw (F.is, le-leb p.follows (length chain) F.long, le-leb p.follows (leading_boxes chain) own, whole, h)
 
       -- The table after the move, and its value: the roots that the root, which the code has as x, recorded, with the links from the place on.
-      pub move_there : (env' : List ℕ) → SameLinks env env' → (x : ℕ) → x ≡ p.root → (s : Roots) → s ≡ roots_at env x → environment_of env' ≡ update (environment_of env) x (moved_away_at (environment_of env x) p.follows)
+      pub move_there : (env' : List Row) → SameLinks env env' → (x : ℕ) → x ≡ p.root → (s : Roots) → s ≡ roots_at env x → environment_of env' ≡ update (environment_of env) x (moved_away_at (environment_of env x) p.follows)
           → (ns : Unfinished) (i : ℕ) → write_barred nv ns (environment_of env) p.root ≡ false → ok (environment_of env', some (type_of (chain_of rest) (end_in env' (chain_of rest) s))) ≡ judge_move nv ns (environment_of env) i p
       move_there env' S x at s r e ns i h =
           let is = variable_is env p F in

@@ -12,6 +12,7 @@ use lib.Dec.{leb}
 use borrow.Author.Tests.{le-leb, eq-eqb, ne_eqb}
 use Rattle.syntax.specs.Result.{ok, err, need, ◌>>=◌}
 use Rattle.syntax.specs.Script.{Place}
+use Rattle.variables.specs.declared.table.Row.{Row}
 use Rattle.variables.specs.declared.roots.Roots.{Roots}
 use Rattle.paths.specs.declared.follow.Ends.{Ends}
 use Rattle.paths.specs.declared.follow.Ends.TheVariants as ends
@@ -63,7 +64,7 @@ boxes_unshared (suc d) (exclusive ∷ ks) h = absurd (omega arith)
 unite_none : (ps : List Place) → Ordered ps → unite ps [] ≡ ps
 unite_none ps o = same_list (unite ps []) ps (unite_ordered ps [] tt) o (λ q i. elim (unite_out q ps [] i) [ inl j ↦ j | inr j ↦ absurd j ]) (λ q i. unite_left q ps [] i)
 
-module _ (env : List ℕ) (nv : ℕ) (T : NeatTable env nv) (i : ℕ) (p : Place) {rest : ℕ} where
+module _ (env : List Row) (nv : ℕ) (T : NeatTable env nv) (i : ℕ) (p : Place) {rest : ℕ} where
   -- ---- the search that ends in the root
 
   module _ (F : Named (environment_of env) p rest) (x : ℕ) (at : x ≡ p.root) (f : ℕ) (follows : f ≡ p.follows) (r : Result Ends Reason)
@@ -147,7 +148,7 @@ module _ (env : List ℕ) (nv : ℕ) (T : NeatTable env nv) (i : ℕ) (p : Place
         unfolding judge_write valued need every ◌>>=◌
         own_too_short h = rw (F.is, passed, F.named.after, same_links_law rest t.links, eq-eqb rest t.links same, lives, h) refl
 
-        module _ (enough : long ≡ true) (env' : List ℕ) (E : environment_of env' ≡ update (environment_of env) x (refilled (environment_of env x) (end_in env (chain_of (links_at env x)) s))) where
+        module _ (enough : long ≡ true) (env' : List Row) (E : environment_of env' ≡ update (environment_of env) x (refilled (environment_of env x) (end_in env (chain_of (links_at env x)) s))) where
           -- The root has the value's borrow end.
           written_is : environment_of env' ≡ write (environment_of env) (p ∷ []) b
           written_is =

@@ -10,6 +10,7 @@ use lib.Dec.{leb, eqb}
 use borrow.Author.Tests.{lt-leb}
 use Rattle.syntax.specs.Result.{ok, err, need, ◌>>=◌, pick}
 use Rattle.syntax.specs.Script.{Place}
+use Rattle.variables.specs.declared.table.Row.{Row}
 use Rattle.variables.specs.declared.roots.Roots.{Roots}
 use Rattle.paths.specs.declared.follow.Ends.{Ends}
 use Rattle.paths.specs.declared.follow.Ends.TheVariants as ends
@@ -97,11 +98,11 @@ unfolding judge_place judge_move in_scope need ◌>>=◌
 name_short nv Γ i p v e l = (rw (e, lt-leb p.follows (length v.chain) l), λ ns. rw (e, lt-leb p.follows (length v.chain) l))
 
 -- What the status says at x is so of the place's root.
-pub named_root : (env : List ℕ) (x y : ℕ) → x ≡ y → 2 ≤ entry_word env x 0 → environment_of env y ≡ live (variable_at env y)
+pub named_root : (env : List Row) (x y : ℕ) → x ≡ y → 2 ≤ entry_word env x 0 → environment_of env y ≡ live (variable_at env y)
 named_root env x y e h = subst (λ (z : ℕ). environment_of env z ≡ live (variable_at env z)) e (status_live env x h)
 
 -- An end is in scope.
-low_end : (env : List ℕ) (nv : ℕ) → NeatTable env nv → (f : ℕ → Bool) (m y : ℕ) → ends_of (environment_of env) m f y ≡ true → y < nv
+low_end : (env : List Row) (nv : ℕ) → NeatTable env nv → (f : ℕ → Bool) (m y : ℕ) → ends_of (environment_of env) m f y ≡ true → y < nv
 unfolding own_link
 low_end env nv T f m y h = go (f y) (environment_of env y) refl h
   where
@@ -112,7 +113,7 @@ low_end env nv T f m y h = go (f y) (environment_of env y) refl h
     go false sl e h = absurd (false≢true h)
 
 -- A named place, by the words of the table.
-module _ (env : List ℕ) (p : Place) {rest : ℕ} (F : Named (environment_of env) p rest) where
+module _ (env : List Row) (p : Place) {rest : ℕ} (F : Named (environment_of env) p rest) where
   pub variable_is : F.variable ≡ variable_at env p.root
   variable_is = (live_status env p.root F.variable F.is).1
 
@@ -137,7 +138,7 @@ module _ (env : List ℕ) (p : Place) {rest : ℕ} (F : Named (environment_of en
     pub search_fits : (f : ℕ) → f ≡ p.follows → f ≤ length (chain_of (links_at env x))
     search_fits f follows = omega (arith, long_enough, follows, ap (λ (y : ℕ). length (chain_of (links_at env y))) at)
 
-module _ (env : List ℕ) (nv : ℕ) (T : NeatTable env nv) (i : ℕ) (p : Place) {rest : ℕ} where
+module _ (env : List Row) (nv : ℕ) (T : NeatTable env nv) (i : ℕ) (p : Place) {rest : ℕ} where
   module _ (F : Named (environment_of env) p rest) where
     -- The roots of a borrow of the place.
     borrowed : (x : ℕ) → x ≡ p.root → (r : Roots) → ((y : ℕ) → has r y ≡ eqb x y) → places_of 128 (has r) (long_at env) (length (chain_of rest)) ≡ p ∷ []

@@ -9,6 +9,7 @@ use lib.ListN.{length, drop, length-drop}
 use lib.Dec.{leb}
 use Rattle.syntax.specs.Result.{ok, need, ◌>>=◌}
 use Rattle.syntax.specs.Script.{Place}
+use Rattle.variables.specs.declared.table.Row.{Row}
 use Rattle.variables.specs.declared.roots.Roots.{Roots}
 use Rattle.variables.specs.declared.table.BorrowEnd.{BorrowEnd}
 use Rattle.variables.specs.declared.table.VariableState.{VariableState}
@@ -47,12 +48,12 @@ number_type [] ps h = refl
 number_type (k ∷ ks) ps h = absurd (false≢true h)
 
 -- Nor do boxes taken away.
-pub end_drop : (env : List ℕ) (d : ℕ) (ks : List Link) (s : Roots) → d ≤ leading_boxes ks → end_in env (drop d ks) s ≡ end_in env ks s
+pub end_drop : (env : List Row) (d : ℕ) (ks : List Link) (s : Roots) → d ≤ leading_boxes ks → end_in env (drop d ks) s ≡ end_in env ks s
 end_drop env d ks s h =
     ap (λ (l : List Link). borrow_end (drop d ks) (places_of 128 (has s) (long_at env) (length l))) (same_behind d ks h) ∙ same_end d ks (places_in env ks s) h
 
 -- The end of the roots that a value records is the value's.
-pub end_recorded : (env : List ℕ) (ks : List Link) (s r : Roots) → places (end_in env ks s) ≡ places_in env ks r → end_in env ks r ≡ end_in env ks s
+pub end_recorded : (env : List Row) (ks : List Link) (s r : Roots) → places (end_in env ks s) ≡ places_in env ks r → end_in env ks r ≡ end_in env ks s
 end_recorded env ks s r h = ap (borrow_end ks) (sym h) ∙ sym (end_again ks (places_in env ks s))
 
 -- ---- the roots of a value
@@ -60,18 +61,18 @@ end_recorded env ks s r h = ap (borrow_end ks) (sym h) ∙ sym (end_again ks (pl
 pub roots_none : (v : Option ValueType) (r : Roots) → v ≡ None → ((y : ℕ) → has r y ≡ false) → RootsIn v r
 roots_none v r e h = λ env nv. (0, ap (λ (w : Option ValueType). places (borrow_in nv (as_value env w))) e ∙ sym (no_places 128 (has r) (long_at env) 0 h))
 
-pub roots_of : (v : Option ValueType) (t : ValueType) (r : Roots) → v ≡ Some t → ((env : List ℕ) → places (end_in env (chain_of t.links) t.roots) ≡ places_in env (chain_of t.links) r) → RootsIn v r
+pub roots_of : (v : Option ValueType) (t : ValueType) (r : Roots) → v ≡ Some t → ((env : List Row) → places (end_in env (chain_of t.links) t.roots) ≡ places_in env (chain_of t.links) r) → RootsIn v r
 roots_of v t r e h = λ env nv. (left (chain_of t.links), ap (λ (w : Option ValueType). places (borrow_in nv (as_value env w))) e ∙ h env)
 
 -- Whether they live long enough (LANGUAGE 3.28).
-pub value_lives : (env : List ℕ) (nv level : ℕ) (v : Option ValueType) (r : Roots) (b : Bool) → RootsIn v r
+pub value_lives : (env : List Row) (nv level : ℕ) (v : Option ValueType) (r : Roots) (b : Bool) → RootsIn v r
     → ((m : ℕ) → b ≡ every (λ p. leb (level_of (environment_of env p.root)) level) (places_of 128 (has r) (long_at env) m)) → lives_at (environment_of env) (borrow_in nv (as_value env v)) level ≡ b
 unfolding lives_at
 value_lives env nv level v r b R h = let k = R env nv in ap (every (λ p. leb (level_of (environment_of env p.root)) level)) k.1 ∙ sym (h k.0)
 
 -- ---- a table in which all links are as before
 
-module _ (env env' : List ℕ) (S : SameLinks env env') where
+module _ (env env' : List Row) (S : SameLinks env env') where
   pub value_kept : (v : Option ValueType) → as_value env' v ≡ as_value env v
   value_kept None = refl
   value_kept (Some t) = ap (λ (b : Borrow). some (type_of (chain_of t.links) b)) (kept_end env env' S (chain_of t.links) t.roots)
@@ -106,7 +107,7 @@ unrecorded_in Γ ks l b x H u = go (rooted (places b) x) refl
     go false e = refl
 
 -- The state that a let gives a variable (LANGUAGE 3.24): nothing is moved away, and it has the value's borrow end.
-module _ (env : List ℕ) (t : ValueType) (d level : ℕ) (e : BorrowEnd) (whole : d ≡ suc (leading_boxes (chain_of t.links))) (told : e ≡ borrow_end_of (chain_of t.links) t.roots) where
+module _ (env : List Row) (t : ValueType) (d level : ℕ) (e : BorrowEnd) (whole : d ≡ suc (leading_boxes (chain_of t.links))) (told : e ≡ borrow_end_of (chain_of t.links) t.roots) where
   abbrev given : VariableState
   given = record { links = t.links; moved_from = d; borrow_end = e; level = level }
 
@@ -133,7 +134,7 @@ module _ (env : List ℕ) (t : ValueType) (d level : ℕ) (e : BorrowEnd) (whole
       go y (live v) q = unrecorded_in (environment_of env) v.chain v.level v.borrow x (N.holds y v q) u
 
   -- Let (LANGUAGE 3.24): the variable is in scope.
-  pub let_there : (env' : List ℕ) (nv i x : ℕ) (v : Option ValueType) → v ≡ Some t → environment_of env' ≡ update (environment_of env) x (live (as_variable env given))
+  pub let_there : (env' : List Row) (nv i x : ℕ) (v : Option ValueType) → v ≡ Some t → environment_of env' ≡ update (environment_of env) x (live (as_variable env given))
       → answered env' i (Ok None) ≡ judge_let nv level (environment_of env) i x (as_value env v)
   unfolding judge_let valued ◌>>=◌
   let_there env' nv i x v o h = rw o (ap (λ (Δ : Environment). ok (Δ, none)) (h ∙ ap (λ (w : Variable). update (environment_of env) x (live w)) let_variable))
@@ -149,7 +150,7 @@ copied_borrow (shared ∷ ks) h k = omega arith
 copied_borrow (exclusive ∷ ks) h k = absurd (false≢true h)
 
 -- The variables where a place ends have the same links from there on, so what they record has the same links left.
-module _ (env : List ℕ) (nv : ℕ) (ks : List Link) (to : List Place) (s r : Roots)
+module _ (env : List Row) (nv : ℕ) (ks : List Link) (to : List Place) (s r : Roots)
     (ends : (q : Place) → Among q to → (Lies (environment_of env) ks q) × (own_link (environment_of env q.root) q.follows ≡ true))
     (S : SameSet to (places_of nv (has s) (lengths (environment_of env)) (length ks))) (low : (y : ℕ) → has s y ≡ true → y < nv) (B : BorrowedAt env s r)
     (borrow : leading_boxes ks < length ks) where

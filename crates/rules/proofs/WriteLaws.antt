@@ -10,6 +10,7 @@ use lib.Dec.{eqb}
 use borrow.Author.Tests.{eqb-true, eq-eqb, ne_eqb}
 use Rattle.syntax.specs.Result.{pick}
 use Rattle.syntax.specs.Script.{Place}
+use Rattle.variables.specs.declared.table.Row.{Row}
 use Rattle.variables.specs.declared.roots.Roots.{Roots}
 use Rattle.statics.specs.Places.{some_of, rooted}
 use Rattle.statics.specs.Environment.{Borrow, Slot, Environment, update, refilled, widened, single, write}
@@ -47,17 +48,17 @@ module _ (left left' : Roots) (x : ℕ) (W : Without left x left') where
 -- ---- several variables that may be written
 
 -- Those of the set that are not left are widened, all others as before.
-pub record Widening (env₀ : List ℕ) (to left s : Roots) (env : List ℕ) : Type 0 where
+pub record Widening (env₀ : List Row) (to left s : Roots) (env : List Row) : Type 0 where
   pub within : (y : ℕ) → has left y ≡ true → has to y ≡ true
   pub done : (y : ℕ) → has to y ≡ true → has left y ≡ false → environment_of env y ≡ widened (environment_of env₀ y) (end_in env₀ (chain_of (links_at env₀ y)) s)
   pub rest : (y : ℕ) → has left y ≡ true → environment_of env y ≡ environment_of env₀ y
   pub out : (y : ℕ) → has to y ≡ false → environment_of env y ≡ environment_of env₀ y
   pub links : SameLinks env₀ env
 
-pub widening_first : (env : List ℕ) (to s : Roots) → Widening env to to s env
+pub widening_first : (env : List Row) (to s : Roots) → Widening env to to s env
 widening_first env to s = record { within = λ y h. h; done = λ y h k. absurd (true≢false (sym h ∙ k)); rest = λ y h. refl; out = λ y h. refl; links = λ y. refl }
 
-pub widening_next : (env₀ env env' : List ℕ) (to left left' s : Roots) (x : ℕ) → has left x ≡ true → Without left x left'
+pub widening_next : (env₀ env env' : List Row) (to left left' s : Roots) (x : ℕ) → has left x ≡ true → Without left x left'
     → environment_of env' ≡ update (environment_of env) x (widened (environment_of env x) (end_in env (chain_of (links_at env x)) s)) → SameLinks env env'
     → Widening env₀ to left s env → Widening env₀ to left' s env'
 widening_next env₀ env env' to left left' s x h W E L I = record {
@@ -81,7 +82,7 @@ widening_next env₀ env env' to left left' s x h W E L I = record {
     go y k j (yes e) = subst (λ (z : ℕ). environment_of env' z ≡ widened (environment_of env₀ z) (end_in env₀ (chain_of (links_at env₀ z)) s)) e here
     go y k j (no n) = other y n ∙ I.done y k (sym (out_other left left' x W y n) ∙ j)
 
-pub widening_over : (env₀ env : List ℕ) (to left s : Roots) → ((x : ℕ) → has left x ≡ false) → Widening env₀ to left s env → WidenedAll env₀ to s env
+pub widening_over : (env₀ env : List Row) (to left s : Roots) → ((x : ℕ) → has left x ≡ false) → Widening env₀ to left s env → WidenedAll env₀ to s env
 widening_over env₀ env to left s h I = record { in_set = λ x k. I.done x k (h x); out_of_set = I.out; links = I.links }
 
 -- ---- a write, by the set of the variables
@@ -113,7 +114,7 @@ write_one Γ x r b y = go (eqb x y) refl
     go true e = ap (λ (z : ℕ). refilled (Γ z) b) (sym (eqb-true x y e))
     go false e = refl
 
-module _ (env env' : List ℕ) (n : ℕ) (to s : Roots) (low : (y : ℕ) → has to y ≡ true → y < n) where
+module _ (env env' : List Row) (n : ℕ) (to s : Roots) (low : (y : ℕ) → has to y ≡ true → y < n) where
   pub written_none : is_empty to ≡ true → Written env n to s env
   unfolding write
   written_none h = record {

@@ -8,6 +8,7 @@ use Rattle.syntax.specs.declared.refusals.Refusal.{Refusal}
 use Rattle.syntax.specs.Refusals.{number_of, told}
 use Rattle.syntax.specs.Result.{ok, err, need, ◌>>=◌}
 use Rattle.syntax.specs.Script as script
+use Rattle.variables.specs.declared.table.Row.{Row}
 use Rattle.variables.specs.declared.roots.Roots.{Roots}
 use Rattle.rules.specs.declared.rules.Located.{Located}
 use Rattle.rules.specs.declared.rules.Located.TheVariants as located
@@ -77,14 +78,14 @@ WholeIs nv Γ p (Ok rest) = (named : Named Γ p rest) × (value_whole nv Γ p.ro
 WholeIs nv Γ p (Err r) = Unit {0}
 
 -- After so many follows from x, whose value is whole, comes a borrow link, or boxes and then one.
-pub record WholeBorrow (env : List ℕ) (nv x follows : ℕ) : Type 0 where
+pub record WholeBorrow (env : List Row) (nv x follows : ℕ) : Type 0 where
   pub is : environment_of env x ≡ live (variable_at env x)
   pub whole : value_whole nv (environment_of env) x (variable_at env x) ≡ true
   pub long : follows ≤ long_at env x
   pub borrow : leading_boxes (drop follows (chain_of (links_at env x))) < length (drop follows (chain_of (links_at env x)))
 
 -- The place with so many follows from x is judged at the term i without a refusal, and what is borrowed where it may lead has these roots.
-pub record LentAt (nv : ℕ) (env : List ℕ) (i x follows : ℕ) (s : Roots) : Type 0 where
+pub record LentAt (nv : ℕ) (env : List Row) (i x follows : ℕ) (s : Roots) : Type 0 where
   pub to : List script.Place
   pub is : rules.judge_place nv (environment_of env) i (place x follows) ≡ ok (record { root = variable_at env x; to = to })
   pub borrowed : borrows_at (environment_of env) to ≡ places_in env (drop follows (chain_of (links_at env x))) s

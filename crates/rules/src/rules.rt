@@ -8,6 +8,7 @@ ghost use Rattle.statics.specs.Uses.{Unfinished};
 ghost use Rattle.statics.specs.Bars.{read_barred, write_barred};
 ghost use Rattle.statics.specs.Rules.{judge_copy, judge_move, judge_shared, judge_exclusive, judge_let, judge_number, judge_below, judge_block_end};
 ghost use Rattle.statics.specs.Neat.{NeatValue};
+ghost use Rattle.variables.specs.declared.table.Row.{Row};
 ghost use Rattle.variables.specs.Table.{TableFor, environment_of, Around, as_place};
 ghost use Rattle.variables.specs.Verdicts.{NeatTable, RootsIn, as_value, answered, Boxes};
 ghost use Rattle.rules.specs.RuleAnswers.{WholeBorrow, LentAt, LocatedIs, NamedIs, ReadableIs, WholeIs, NumberIs, as_requirement, begun, begin_let, judge_answer};
@@ -21,9 +22,7 @@ use variables::chains::{
     Link, is_copied, is_number, last_shared, leading_boxes, links_from, no_shared,
 };
 use variables::roots::{Roots, no_roots, only};
-use variables::table::{
-    LIVE, Place, STATUS, VariableState, borrow_end_of, links_at, nothing_moved, roots_at, word_at,
-};
+use variables::table::{Place, Row, Status, VariableState, borrow_end_of, nothing_moved};
 use variables::verdicts::{ValueType, Verdict, longer_value, number_value, value_of};
 
 // Where a place leads beyond a borrow link (LANGUAGE 3.13): the links of its root, those of them after the follows, and
@@ -44,7 +43,7 @@ pub enum Located {
 
 // The root of the place is in scope (31), the chain long enough (32; LANGUAGE 3.16). Where the value must be whole, that
 // says that nothing is moved away on the path, so that the place need not be followed.
-fn judge_named(env: &[u64], variables: usize, place: Place) -> Result<u32, Reason>
+fn judge_named(env: &[Row], variables: usize, place: Place) -> Result<u32, Reason>
     requires { TableFor env.now variables }
     ensures { (i : ℕ) → NamedIs variables (environment_of env.now) i (as_place place) result }
 {
@@ -52,10 +51,10 @@ fn judge_named(env: &[u64], variables: usize, place: Place) -> Result<u32, Reaso
     if variables <= root {
         return Err(Reason::NotInScope);
     }
-    if word_at(env, root, STATUS) < LIVE {
+    if env[root].status != Status::Live {
         return Err(Reason::NotInScope);
     }
-    let Some(rest) = links_from(links_at(env, root), index_of(place.follows)) else {
+    let Some(rest) = links_from(env[root].links, index_of(place.follows)) else {
         return Err(Reason::ChainTooShort);
     };
     Ok(rest)
@@ -63,7 +62,7 @@ fn judge_named(env: &[u64], variables: usize, place: Place) -> Result<u32, Reaso
 
 // Judging a place (LANGUAGE 3.16): the root is in scope (31), the chain long enough (32), and of each place met while
 // following it the own path is not moved away (33).
-pub fn judge_place(env: &[u64], variables: usize, place: Place) -> Result<Located, Reason>
+pub fn judge_place(env: &[Row], variables: usize, place: Place) -> Result<Located, Reason>
     requires { NeatTable env.now variables }
     ensures { (i : ℕ) → LocatedIs variables (environment_of env.now) i (as_place place) result }
 {
@@ -73,7 +72,7 @@ pub fn judge_place(env: &[u64], variables: usize, place: Place) -> Result<Locate
     match ends {
         Ends::Own => Ok(Located::Own(rest)),
         Ends::At(to) => Ok(Located::At(Beyond {
-            links: links_at(env, root),
+            links: env[root].links,
             rest,
             to,
         })),
@@ -82,7 +81,7 @@ pub fn judge_place(env: &[u64], variables: usize, place: Place) -> Result<Locate
 
 // The place of a copy, a shared borrow, a below, a sum and a choice (LANGUAGE 3.19, 3.21, 3.27, 3.31): named, its value
 // whole (33), reading not barred (34).
-fn judge_readable(env: &[u64], variables: usize, place: Place, barred: bool) -> Result<u32, Reason>
+fn judge_readable(env: &[Row], variables: usize, place: Place, barred: bool) -> Result<u32, Reason>
     requires { NeatTable env.now variables }
     ensures { ((i : ℕ) (ns : Unfinished) → (barred ≡ read_barred variables ns (environment_of env.now) (as_place place).root) → ReadableIs variables ns (environment_of env.now) i (as_place place) result) × WholeIs variables (environment_of env.now) (as_place place) result }
 {
@@ -99,7 +98,7 @@ fn judge_readable(env: &[u64], variables: usize, place: Place, barred: bool) -> 
 
 // The roots that are borrowed where the place with so many follows may lead (LANGUAGE 3.19, 3.21). The value of its root
 // is whole, so that nothing on the way is moved away.
-fn lent_at(env: &[u64], variables: usize, root: usize, follows: usize) -> Roots
+fn lent_at(env: &[Row], variables: usize, root: usize, follows: usize) -> Roots
     requires { NeatTable env.now variables × WholeBorrow env.now variables root follows }
     ensures { (i : ℕ) → LentAt variables env.now i root follows result }
 {
@@ -107,14 +106,14 @@ fn lent_at(env: &[u64], variables: usize, root: usize, follows: usize) -> Roots
         unreachable!();
     };
     match ends {
-        Ends::Own => roots_at(env, root),
+        Ends::Own => env[root].roots,
         Ends::At(to) => borrows_at(env, variables, to),
     }
 }
 
 // Copy (LANGUAGE 3.19): the place is readable, then a number or a shared link (37). The copy borrows what is borrowed
 // where the place may lead; a number borrows nothing, so that only a borrow is followed.
-pub fn judge_copy(env: &[u64], variables: usize, place: Place, barred: bool) -> Verdict
+pub fn judge_copy(env: &[Row], variables: usize, place: Place, barred: bool) -> Verdict
     requires { NeatTable env.now variables }
     ensures { (i : ℕ) (ns : Unfinished) → (barred ≡ read_barred variables ns (environment_of env.now) (as_place place).root) → answered env.now i result ≡ judge_copy variables ns (environment_of env.now) i (as_place place) }
 {
@@ -132,13 +131,13 @@ pub fn judge_copy(env: &[u64], variables: usize, place: Place, barred: bool) -> 
 
 // Move (LANGUAGE 3.20): 31 and 32 of the place, no borrow link passed (38), the value whole (33), writing not barred
 // (35). Then the links from the place on are moved away.
-pub fn judge_move(env: &mut [u64], variables: usize, place: Place, barred: bool) -> Verdict
+pub fn judge_move(env: &mut [Row], variables: usize, place: Place, barred: bool) -> Verdict
     requires { NeatTable env.old variables }
     ensures { ((i : ℕ) (ns : Unfinished) → (barred ≡ write_barred variables ns (environment_of env.old) (as_place place).root) → answered env.new i result ≡ judge_move variables ns (environment_of env.old) i (as_place place)) × TableFor env.new variables }
 {
     let root = index_of(place.root);
     let rest = judge_named(env, variables, place)?;
-    if leading_boxes(links_at(env, root)) < index_of(place.follows) {
+    if leading_boxes(env[root].links) < index_of(place.follows) {
         return Err(Reason::BorrowPassed);
     }
     if !value_whole(env, variables, root) {
@@ -147,20 +146,20 @@ pub fn judge_move(env: &mut [u64], variables: usize, place: Place, barred: bool)
     if barred {
         return Err(Reason::WritingBarred);
     }
-    let roots = roots_at(env, root);
+    let roots = env[root].roots;
     move_away(env, variables, root, place.follows as u64);
     value_of(rest, roots)
 }
 
 // Shared borrow (LANGUAGE 3.21): the place is readable, then a shared link more makes at most 8 (42). With shared links
 // passed it borrows what the last of them does.
-pub fn judge_shared(env: &[u64], variables: usize, place: Place, barred: bool) -> Verdict
+pub fn judge_shared(env: &[Row], variables: usize, place: Place, barred: bool) -> Verdict
     requires { NeatTable env.now variables }
     ensures { (i : ℕ) (ns : Unfinished) → (barred ≡ read_barred variables ns (environment_of env.now) (as_place place).root) → answered env.now i result ≡ judge_shared variables ns (environment_of env.now) i (as_place place) }
 {
     let rest = judge_readable(env, variables, place, barred)?;
     let root = index_of(place.root);
-    let passed = last_shared(links_at(env, root), index_of(place.follows));
+    let passed = last_shared(env[root].links, index_of(place.follows));
     match passed {
         None => longer_value(Link::Shared, rest, only(root)),
         Some(follows) => longer_value(Link::Shared, rest, lent_at(env, variables, root, follows)),
@@ -169,7 +168,7 @@ pub fn judge_shared(env: &[u64], variables: usize, place: Place, barred: bool) -
 
 // Exclusive borrow (LANGUAGE 3.22): the place, its value whole (33), no shared link passed (36), writing not barred
 // (35), at most 8 links (42).
-pub fn judge_exclusive(env: &[u64], variables: usize, place: Place, barred: bool) -> Verdict
+pub fn judge_exclusive(env: &[Row], variables: usize, place: Place, barred: bool) -> Verdict
     requires { NeatTable env.now variables }
     ensures { (i : ℕ) (ns : Unfinished) → (barred ≡ write_barred variables ns (environment_of env.now) (as_place place).root) → answered env.now i result ≡ judge_exclusive variables ns (environment_of env.now) i (as_place place) }
 {
@@ -178,7 +177,7 @@ pub fn judge_exclusive(env: &[u64], variables: usize, place: Place, barred: bool
     if !value_whole(env, variables, root) {
         return Err(Reason::MovedAway);
     }
-    if !no_shared(links_at(env, root), index_of(place.follows)) {
+    if !no_shared(env[root].links, index_of(place.follows)) {
         return Err(Reason::SharedPassed);
     }
     if barred {
@@ -198,7 +197,7 @@ pub fn judge_box(inner: Option<ValueType>) -> Verdict
 }
 
 // The beginning of a let (LANGUAGE 3.24): its number is free (30), and taken from here on, not yet in scope.
-pub fn begin_let(env: &mut [u64], variables: usize, term: usize, x: usize) -> Result<(), Refusal>
+pub fn begin_let(env: &mut [Row], variables: usize, term: usize, x: usize) -> Result<(), Refusal>
     requires { TableFor env.old variables × (x < variables) }
     ensures { (begun (environment_of env.new) result ≡ begin_let (environment_of env.old) term x) × TableFor env.new variables }
 {
@@ -214,7 +213,7 @@ pub fn begin_let(env: &mut [u64], variables: usize, term: usize, x: usize) -> Re
 
 // Let (LANGUAGE 3.24), after the inner term: it has a value (41), and x, which `begin_let` took, is in scope.
 pub fn judge_let(
-    env: &mut [u64],
+    env: &mut [Row],
     variables: usize,
     level: u64,
     x: usize,
@@ -237,7 +236,7 @@ pub fn judge_let(
 }
 
 // A place of a below, a sum or a choice (LANGUAGE 3.27, 3.31): readable, then a number (39).
-pub fn judge_number(env: &[u64], variables: usize, place: Place, barred: bool) -> Result<(), Reason>
+pub fn judge_number(env: &[Row], variables: usize, place: Place, barred: bool) -> Result<(), Reason>
     requires { NeatTable env.now variables }
     ensures { (i : ℕ) (ns : Unfinished) → (barred ≡ read_barred variables ns (environment_of env.now) (as_place place).root) → NumberIs (judge_number variables ns (environment_of env.now) i (as_place place)) i result }
 {
@@ -250,7 +249,7 @@ pub fn judge_number(env: &[u64], variables: usize, place: Place, barred: bool) -
 
 // Below and sum (LANGUAGE 3.27): the first place, then the second.
 pub fn judge_below(
-    env: &[u64],
+    env: &[Row],
     variables: usize,
     first: Place,
     first_barred: bool,
@@ -278,7 +277,7 @@ fn roots_in(value: Option<ValueType>) -> Roots
 // The end of a block (LANGUAGE 3.28): its value borrows no root that lives in it (40), then its variables leave scope.
 // level is that of the block around, `before` what was in scope there.
 pub fn judge_block_end(
-    env: &mut [u64],
+    env: &mut [Row],
     variables: usize,
     level: u64,
     before: Roots,
@@ -296,7 +295,7 @@ pub fn judge_block_end(
 
 // The script (LANGUAGE 3.29): the answer is a number (43 at 0).
 pub fn judge_answer(answer: Option<ValueType>) -> Result<(), Refusal>
-    ensures { (nv : ℕ) (env : List ℕ) → as_requirement result ≡ judge_answer nv (as_value env answer) }
+    ensures { (nv : ℕ) (env : List Row) → as_requirement result ≡ judge_answer nv (as_value env answer) }
 {
     let no_number = Refusal {
         reason: Reason::AnswerNoNumber,

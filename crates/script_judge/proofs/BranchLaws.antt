@@ -13,6 +13,7 @@ use Rattle.syntax.specs.Script.{Term, block, choice}
 use Rattle.syntax.specs.Measures.{sizes}
 use Rattle.syntax.specs.RowParts.{field_at}
 use Rattle.syntax.specs.RowTrees.{place_at, RowTree, IsTree, block_at, tree_at}
+use Rattle.variables.specs.declared.table.Row.{Row}
 use Rattle.variables.specs.declared.table.Place.{Place}
 use Rattle.term_judge.specs.declared.terms.Judged as code
 use Rattle.statics.specs.Links.{Link}
@@ -87,7 +88,7 @@ module _ {nv l : ℕ} {rows : List ℕ} {j : ℕ} {here : BlockRows nv l rows j}
 -- ---- both
 
 -- What the first block's value borrows has as many links after the second.
-as_long : (Γ : Environment) (env₁ env₂ : List ℕ) → Stays Γ (environment_of env₁) → Stays (carried Γ (environment_of env₁)) (environment_of env₂) → AsLong env₁ env₂
+as_long : (Γ : Environment) (env₁ env₂ : List Row) → Stays Γ (environment_of env₁) → Stays (carried Γ (environment_of env₁)) (environment_of env₂) → AsLong env₁ env₂
 unfolding carried
 as_long Γ env₁ env₂ S₁ S₂ y u e =
     let k = S₁.lived y u e in
@@ -127,7 +128,7 @@ module _ (nv l : ℕ) (rows : List ℕ) (i : ℕ) (good : IsTree (tree_at nv l r
     unfolding judged_at judge_branches ◌>>=◌
     first_refused x e = rw (first_is, second_is, not_accepted nv (l - 1) rows (i + 1) both_blocks.first level later Γ after_first second_next x e)
 
-    module _ (N : Neat nv Γ level) (env₁ : List ℕ) (one : code.Judged) (e₁ : ok (told_as env₁ one) ≡ judge_at nv (inside (i + 1)) level later Γ) where
+    module _ (N : Neat nv Γ level) (env₁ : List Row) (one : code.Judged) (e₁ : ok (told_as env₁ one) ≡ judge_at nv (inside (i + 1)) level later Γ) where
       first : Accepted nv (l - 1) rows (i + 1) both_blocks.first level after_first Γ (told_as env₁ one)
       first = accepted nv (l - 1) rows (i + 1) both_blocks.first level later Γ after_first second_next (told_as env₁ one) e₁
 
@@ -155,7 +156,7 @@ module _ (nv l : ℕ) (rows : List ℕ) (i : ℕ) (good : IsTree (tree_at nv l r
             let z = not_accepted nv (l - 1) rows both_blocks.first.end both_blocks.second level later Γ₂ after_both (λ y b. refl) x (judged₂ _ e) in
             rw (first_is, second_is, first.judged, ← from, z)
 
-        module _ (env₂ : List ℕ) (two : code.Judged) (e₂ : ok (told_as env₂ two) ≡ judge_at nv (inside one.next) level later Γ₂) where
+        module _ (env₂ : List Row) (two : code.Judged) (e₂ : ok (told_as env₂ two) ≡ judge_at nv (inside one.next) level later Γ₂) where
           second : Accepted nv (l - 1) rows both_blocks.first.end both_blocks.second level after_both Γ₂ (told_as env₂ two)
           second = accepted nv (l - 1) rows both_blocks.first.end both_blocks.second level later Γ₂ after_both (λ y b. refl) (told_as env₂ two) (judged₂ _ e₂)
 
@@ -165,11 +166,11 @@ module _ (nv l : ℕ) (rows : List ℕ) (i : ℕ) (good : IsTree (tree_at nv l r
           pub second_stays : Stays (carried Γ (environment_of env₁)) (environment_of env₂)
           second_stays = subst (λ (Δ : Environment). Stays Δ (environment_of env₂)) from (accepted_stays second_start second)
 
-          module _ (env₃ : List ℕ) (same : SameLinks env₂ env₃) where
+          module _ (env₃ : List Row) (same : SameLinks env₂ env₃) where
             first_value : as_value env₃ one.value ≡ as_value env₁ one.value
             first_value = links_value env₂ env₃ same one.value ∙ same_value env₁ env₂ (as_long Γ env₁ env₂ first_stays second_stays) one.value level (accepted_value N first)
 
-            pub branches_fine : environment_of env₃ ≡ joined Γ (environment_of env₁) (environment_of env₂) → (t : Verdict) → Joins one.value two.value t → (out : prelude.Result code.Judged refusals.Refusal) → ((env : List ℕ) → ended env out ≡ at_row two.next (answered env i t)) → ended env₃ out ≡ branches_at nv l rows i level later Γ
+            pub branches_fine : environment_of env₃ ≡ joined Γ (environment_of env₁) (environment_of env₂) → (t : Verdict) → Joins one.value two.value t → (out : prelude.Result code.Judged refusals.Refusal) → ((env : List Row) → ended env out ≡ at_row two.next (answered env i t)) → ended env₃ out ≡ branches_at nv l rows i level later Γ
             unfolding judged_at judge_branches judge_choice ◌>>=◌
             branches_fine j t J out E = told_ended _ _ _ _ _ E env₃ (J env₃ i) ∙ rw (second.stands, first_is, second_is, first.judged, ← from, second.judged, first_value, links_value env₂ env₃ same two.value, j)
 

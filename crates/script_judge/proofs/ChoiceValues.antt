@@ -7,6 +7,7 @@ use mathlib.Core.List.{List, [], ◌∷◌}
 use lib.ListN.{length}
 use Rattle.syntax.specs.Script.{Place}
 use Rattle.std.specs.Prelude as value
+use Rattle.variables.specs.declared.table.Row.{Row}
 use Rattle.variables.specs.declared.roots.Roots.{Roots}
 use Rattle.variables.specs.declared.verdicts.ValueType.{ValueType}
 use Rattle.statics.specs.Links.{Link, boxed, shared, exclusive}
@@ -30,14 +31,14 @@ same_ends (shared ∷ ks) ps qs h = ap shared_of (h refl)
 same_ends (exclusive ∷ ks) ps qs h = ap exclusive_of (h refl)
 
 -- The links of a variable in scope are those that the table has.
-pub live_long : (env : List ℕ) (x : ℕ) (v : Variable) → environment_of env x ≡ live v → long_at env x ≡ length v.chain
+pub live_long : (env : List Row) (x : ℕ) (v : Variable) → environment_of env x ≡ live v → long_at env x ≡ length v.chain
 live_long env x v e = ap (λ (w : Variable). length w.chain) (sym (live_status env x v e).1)
 
 -- Each variable in scope has as many links in the other table.
-abbrev pub AsLong : List ℕ → List ℕ → Type 0
+abbrev pub AsLong : List Row → List Row → Type 0
 AsLong env env' = (y : ℕ) (v : Variable) → environment_of env y ≡ live v → long_at env' y ≡ long_at env y
 
-module _ (env env' : List ℕ) (long : AsLong env env') where
+module _ (env env' : List Row) (long : AsLong env env') where
   same_end_in : (ks : List Link) (s : Roots) (level : ℕ) → Holds (environment_of env) ks level (end_in env ks s) → end_in env' ks s ≡ end_in env ks s
   unfolding places_of
   same_end_in ks s level H = same_ends ks (places_in env ks s) (places_in env' ks s)
@@ -55,7 +56,7 @@ module _ (env env' : List ℕ) (long : AsLong env env') where
       ap (λ (b : Borrow). some (type_of ks b)) (same_end_in ks t.roots level (n (type_of ks (end_in env ks t.roots)) refl))
 
 -- The links of no variable have changed.
-pub links_value : (env env' : List ℕ) → SameLinks env env' → (v : value.Option ValueType) → as_value env' v ≡ as_value env v
+pub links_value : (env env' : List Row) → SameLinks env env' → (v : value.Option ValueType) → as_value env' v ≡ as_value env v
 links_value env env' same value.None = refl
 links_value env env' same (value.Some t) =
     let ks = chain_of t.links in

@@ -9,6 +9,7 @@ use mathlib.Core.List.{List}
 use lib.Dec.{leb}
 use borrow.Author.Tests.{le-leb, lt-leb}
 use Rattle.syntax.specs.Result.{pick}
+use Rattle.variables.specs.declared.table.Row.{Row}
 use Rattle.variables.specs.declared.roots.Roots.{Roots}
 use Rattle.statics.specs.Environment.{Variable, live, Ty}
 use Rattle.statics.specs.Neat.{Neat}
@@ -18,7 +19,7 @@ use Rattle.variables.proofs.EntryLaws.{status_live, live_status}
 use Rattle.statics.proofs.NeatSteps.{Fine}
 
 -- The block begins with the table env₀; its terms leave env.
-module _ (nv level : ℕ) (env₀ env : List ℕ) (T : TableFor env₀ nv) (N : Neat nv (environment_of env₀) level) (o : Option Ty) (F : Fine nv (environment_of env₀) (environment_of env) o (suc level)) where
+module _ (nv level : ℕ) (env₀ env : List Row) (T : TableFor env₀ nv) (N : Neat nv (environment_of env₀) level) (o : Option Ty) (F : Fine nv (environment_of env₀) (environment_of env) o (suc level)) where
   module _ (y : ℕ) where
     -- Its level is that of its entry.
     entry_level : (v : Variable) → environment_of env y ≡ live v → entry_word env y 5 ≡ v.level

@@ -25,6 +25,7 @@ use uses::row::place_at;
 use uses::script::{Around, Script};
 use uses::uses::{find_uses, read_barred};
 use variables::roots::{Roots, no_roots, only, unite};
+use variables::table::Row;
 
 // How many numbers' state a choice keeps in the smaller of two places, and in the larger, for the most variables that a
 // set may have (LANGUAGE 2.8).
@@ -39,7 +40,7 @@ fn judge_block(
     script: &Script,
     around: &Around,
     levels: usize,
-    env: &mut [u64],
+    env: &mut [Row],
     level: u64,
 ) -> Result<Judged, Refusal>
     requires { IsTree (tree_at script.now.variables levels script.now.rows.now around.now.end) × (field_at script.now.rows.now around.now.end 0 ≡ 11) × Ready script.now.variables level levels script.now.rows.now env.old script.now.uses.now × (around.now.start ≤ around.now.end) × AllAround script.now around.now }
@@ -62,7 +63,7 @@ fn judge_branches(
     script: &Script,
     i: usize,
     levels: usize,
-    env: &mut [u64],
+    env: &mut [Row],
     level: u64,
     named: Roots,
     kept: &mut [KeptState],
@@ -87,7 +88,7 @@ fn judge_few_kept(
     script: &Script,
     i: usize,
     levels: usize,
-    env: &mut [u64],
+    env: &mut [Row],
     level: u64,
     named: Roots,
     count: usize,
@@ -105,7 +106,7 @@ fn judge_many_kept(
     script: &Script,
     i: usize,
     levels: usize,
-    env: &mut [u64],
+    env: &mut [Row],
     level: u64,
     named: Roots,
     count: usize,
@@ -123,7 +124,7 @@ fn judge_choice(
     script: &Script,
     around: &Around,
     levels: usize,
-    env: &mut [u64],
+    env: &mut [Row],
     level: u64,
 ) -> Result<Judged, Refusal>
     requires { IsTree (tree_at script.now.variables levels script.now.rows.now around.now.end) × (field_at script.now.rows.now around.now.end 0 ≡ 12) × Ready script.now.variables level levels script.now.rows.now env.old script.now.uses.now × (around.now.start ≤ around.now.end) × AllAround script.now around.now }
@@ -151,7 +152,7 @@ fn judge_inmost(
     script: &Script,
     around: &Around,
     levels: usize,
-    env: &mut [u64],
+    env: &mut [Row],
     level: u64,
 ) -> Result<Judged, Refusal>
     requires { IsTree (tree_at script.now.variables levels script.now.rows.now around.now.end) × (wraps_of (field_at script.now.rows.now around.now.end 0) ≡ false) × Ready script.now.variables level levels script.now.rows.now env.old script.now.uses.now × (around.now.start ≤ around.now.end) × AllAround script.now around.now }
@@ -181,7 +182,7 @@ fn judge_term(
     script: &Script,
     i: usize,
     levels: usize,
-    env: &mut [u64],
+    env: &mut [Row],
     level: u64,
     named: Roots,
 ) -> Result<Judged, Refusal>
@@ -217,7 +218,7 @@ fn judge_terms(
     i: usize,
     count: usize,
     levels: usize,
-    env: &mut [u64],
+    env: &mut [Row],
     level: u64,
     named: Roots,
 ) -> Result<Judged, Refusal>
@@ -240,7 +241,7 @@ pub fn judge_script(
     rows: &[u32],
     terms: usize,
     levels: usize,
-    env: &mut [u64],
+    env: &mut [Row],
     variables: usize,
     uses: &mut [u32],
 ) -> Result<(), Refusal>

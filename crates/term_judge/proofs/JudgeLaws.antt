@@ -7,13 +7,14 @@ use Rattle.std.specs.Prelude.{Result}
 use Rattle.syntax.specs.declared.refusals.Refusal as code
 use Rattle.syntax.specs.Result.{ok, err, Refusal, ◌>>=◌}
 use Rattle.syntax.specs.RowTrees.{RowTree, IsTree, around}
+use Rattle.variables.specs.declared.table.Row.{Row}
 use Rattle.statics.specs.Rules.{Judged, Out}
 use Rattle.variables.specs.Verdicts.{Verdict, answered}
 use Rattle.term_judge.specs.declared.terms.Judged as terms
 use Rattle.term_judge.specs.JudgeRows.{Ended, at_row, ended, judged_at}
 
 -- What `judged_term` makes of a verdict, where that is the definition's answer.
-pub told_ended : (i j : ℕ) (t : Verdict) (r : Result terms.Judged code.Refusal) (R : Judged Out) → ((env : List ℕ) → ended env r ≡ at_row j (answered env i t)) → (env : List ℕ) → answered env i t ≡ R → ended env r ≡ at_row j R
+pub told_ended : (i j : ℕ) (t : Verdict) (r : Result terms.Judged code.Refusal) (R : Judged Out) → ((env : List Row) → ended env r ≡ at_row j (answered env i t)) → (env : List Row) → answered env i t ≡ R → ended env r ≡ at_row j R
 told_ended i j t r R J env w = J env ∙ ap (at_row j) w
 
 -- What the code's answer says of the definition's answer R, which ends at row j.

@@ -9,6 +9,7 @@ use Rattle.syntax.specs.Script.{Place, Term, Terms}
 use Rattle.syntax.specs.Kinds.{Kind, k_number, k_reading, k_copy, k_move, k_shared, k_exclusive, k_box, k_let, k_assign, k_below, k_block, k_choice, k_sum}
 use Rattle.syntax.specs.RowParts.{field_at}
 use Rattle.syntax.specs.RowTrees.{place_at, RowTree, several_at, block_at, then_block, tree_at}
+use Rattle.variables.specs.declared.table.Row.{Row}
 use Rattle.statics.specs.Environment.{used, Environment, Ty}
 use Rattle.statics.specs.Choice.{carried}
 use Rattle.statics.specs.Uses.{Unfinished, naming, finishing, finishing_all}
@@ -29,11 +30,11 @@ abbrev pub at_row : ℕ → Judged Out → Ended
 at_row j r = r >>= λ o. ok (o, j)
 
 -- What the code gives, with the table afterwards: the state and the value, and the row after the term.
-abbrev pub told_as : List ℕ → code.Judged → Out × ℕ
+abbrev pub told_as : List Row → code.Judged → Out × ℕ
 told_as env o = ((environment_of env, as_value env o.value), o.next)
 
 -- The code's answer.
-abbrev pub ended : List ℕ → prelude.Result code.Judged Refusal → Ended
+abbrev pub ended : List Row → prelude.Result code.Judged Refusal → Ended
 ended env r = told (told_as env) r
 
 -- Where no tree stands the answer does not matter: the code asks that one does.
@@ -69,7 +70,7 @@ pub record AfterReady (nv level : ℕ) (rows : List ℕ) (i : ℕ) (env : List �
   pub taken : (o : code.Judged) → inner ≡ prelude.Ok o → field_at rows i 0 ≡ 8 → environment_of env (field_at rows i 1) ≡ used
 
 -- What is asked of the tables where a term, a block or a choice is judged at this level, with so many levels left below it.
-pub record Ready (nv level levels : ℕ) (rows env uses : List ℕ) : Type 0 where
+pub record Ready (nv level levels : ℕ) (rows : List ℕ) (env : List Row) (uses : List ℕ) : Type 0 where
   pub table : TableFor env nv
   pub neat : Neat nv (environment_of env) level
   pub deep : level + levels < 4294967296

@@ -7,6 +7,7 @@ ghost use Rattle.syntax.specs.RowParts.{field_at};
 ghost use Rattle.syntax.specs.RowTrees.{place_at};
 ghost use Rattle.statics.specs.Uses.{Unfinished, names};
 ghost use Rattle.statics.specs.Rules.{judge_assign};
+ghost use Rattle.variables.specs.declared.table.Row.{Row};
 ghost use Rattle.variables.specs.Masks.{has};
 ghost use Rattle.variables.specs.Table.{TableFor, environment_of, as_place};
 ghost use Rattle.variables.specs.Verdicts.{NeatTable, as_value, answered};
@@ -27,7 +28,7 @@ use syntax::refusals::Refusal;
 use uses::row::place_at;
 use uses::script::{Around, Script};
 use uses::uses::{read_barred, write_barred};
-use variables::table::Place;
+use variables::table::{Place, Row};
 use variables::verdicts::{ValueType, Verdict, number_value};
 
 // What judging a term gives: the row after it, and the type of its value, if it has one (LANGUAGE 3.4).
@@ -40,7 +41,7 @@ pub struct Judged {
 // What judging the term at row i answers, of which the rule tells the verdict; the row after it is `next`. A refusal is at
 // the term (LANGUAGE 3.17).
 pub fn judged_term(i: usize, next: usize, verdict: Verdict) -> Result<Judged, Refusal>
-    ensures { (env : List ℕ) → ended env result ≡ at_row next (answered env i verdict) }
+    ensures { (env : List Row) → ended env result ≡ at_row next (answered env i verdict) }
 {
     match verdict {
         Ok(value) => Ok(Judged { next, value }),
@@ -52,7 +53,7 @@ pub fn judged_term(i: usize, next: usize, verdict: Verdict) -> Result<Judged, Re
 pub fn judge_leaf(
     script: &Script,
     around: &Around,
-    env: &mut [u64],
+    env: &mut [Row],
     kind: Kind,
     first: Place,
     second: Place,
@@ -92,7 +93,7 @@ pub fn judge_leaf(
 
 // What comes before the inner term of a box, let or assign, which is in the next row: a let takes its number
 // (LANGUAGE 3.24).
-pub fn judge_before(script: &Script, i: usize, env: &mut [u64]) -> Result<(), Refusal>
+pub fn judge_before(script: &Script, i: usize, env: &mut [Row]) -> Result<(), Refusal>
     requires { Wraps script.now.variables script.now.rows.now i × TableFor env.old script.now.variables }
     ensures { (begun (environment_of env.new) result ≡ begin_at script.now.rows.now i (environment_of env.old)) × TableFor env.new script.now.variables }
 {
@@ -112,7 +113,7 @@ fn judge_assign(
     script: &Script,
     around: &Around,
     next: usize,
-    env: &mut [u64],
+    env: &mut [Row],
     inner: Option<ValueType>,
 ) -> Verdict
     requires { NeatTable env.old script.now.variables × (length script.now.uses.now ≡ script.now.variables) × (around.now.start ≤ around.now.end) × AllWrap script.now.variables script.now.rows.now around.now.start (around.now.end + 1 - around.now.start) × (field_at script.now.rows.now around.now.end 1 < script.now.variables) }
@@ -135,7 +136,7 @@ fn judge_assign(
 pub fn judge_after(
     script: &Script,
     around: &Around,
-    env: &mut [u64],
+    env: &mut [Row],
     level: u64,
     inner: Result<Judged, Refusal>,
 ) -> Result<Judged, Refusal>

@@ -6,6 +6,7 @@ use mathlib.Core.Bool.{Bool, true, false}
 use mathlib.Core.List.{List, [], ◌∷◌}
 use lib.Dec.{eqb}
 use Rattle.syntax.specs.Result.{pick}
+use Rattle.variables.specs.declared.table.Row.{Row}
 use Rattle.variables.specs.declared.roots.Roots.{Roots}
 use Rattle.statics.specs.Uses.{Unfinished, names, named_later}
 use Rattle.statics.specs.Bars.{held}
@@ -23,7 +24,7 @@ use Rattle.uses.proofs.EitherLaws.{swapped, second}
 use Rattle.uses.proofs.RowUseLaws.{named_one, last_row}
 
 -- Where no variable may hold a borrow of the root, none of these does.
-pub nobody_holds : (env : List ℕ) (which : Borrows) (root : ℕ) (s : Roots) → MayHold env which root s → is_empty s ≡ true → (these : ℕ → Bool) (n : ℕ) → held (borrows_by which) these n (environment_of env) root ≡ false
+pub nobody_holds : (env : List Row) (which : Borrows) (root : ℕ) (s : Roots) → MayHold env which root s → is_empty s ≡ true → (these : ℕ → Bool) (n : ℕ) → held (borrows_by which) these n (environment_of env) root ≡ false
 nobody_holds env which root s may e these n = go (held (borrows_by which) these n (environment_of env) root) refl
   where
     go : (b : Bool) → held (borrows_by which) these n (environment_of env) root ≡ b → b ≡ false

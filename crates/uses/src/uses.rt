@@ -15,6 +15,7 @@ use bars::bars::{Borrows, Later, is_held, may_bar_reading, may_bar_writing};
 use syntax::fields::{field_at, index_at};
 use syntax::kinds::Kind;
 use variables::roots::{Roots, is_empty};
+use variables::table::Row;
 
 // For each variable one more than the last row that names it (LANGUAGE 3.33), from all 0 on.
 pub fn find_uses(rows: &[u32], terms: usize, uses: &mut [u32])
@@ -55,7 +56,7 @@ fn is_barred(
     script: &Script,
     around: &Around,
     from: usize,
-    env: &[u64],
+    env: &[Row],
     root: usize,
     which: Borrows,
     may: Roots,
@@ -75,7 +76,7 @@ fn is_barred(
 }
 
 // Reading barred (LANGUAGE 3.11), where the terms from row `from` on have not finished, nor those around.
-pub fn read_barred(script: &Script, around: &Around, from: usize, env: &[u64], root: usize) -> bool
+pub fn read_barred(script: &Script, around: &Around, from: usize, env: &[Row], root: usize) -> bool
     requires { AllAround script.now around.now × TableFor env.now script.now.variables × (length script.now.uses.now ≡ script.now.variables) × (root < script.now.variables) }
     ensures { (ns : Unfinished) → LaterIs script.now.variables script.now.uses.now from (named_around script.now around.now) ns → result ≡ read_barred script.now.variables ns (environment_of env.now) root }
 {
@@ -84,7 +85,7 @@ pub fn read_barred(script: &Script, around: &Around, from: usize, env: &[u64], r
 }
 
 // Writing barred (LANGUAGE 3.12), likewise: the two differ in which borrows count, and in who may hold one.
-pub fn write_barred(script: &Script, around: &Around, from: usize, env: &[u64], root: usize) -> bool
+pub fn write_barred(script: &Script, around: &Around, from: usize, env: &[Row], root: usize) -> bool
     requires { AllAround script.now around.now × TableFor env.now script.now.variables × (length script.now.uses.now ≡ script.now.variables) × (root < script.now.variables) }
     ensures { (ns : Unfinished) → LaterIs script.now.variables script.now.uses.now from (named_around script.now around.now) ns → result ≡ write_barred script.now.variables ns (environment_of env.now) root }
 {

@@ -8,6 +8,7 @@ use mathlib.Core.Bool.{Bool, true, false, false≢true}
 use mathlib.Core.List.{List, [], ◌∷◌}
 use lib.ListN.{length}
 use Rattle.syntax.specs.Script.{Place}
+use Rattle.variables.specs.declared.table.Row.{Row}
 use Rattle.variables.specs.declared.roots.Roots.{Roots}
 use Rattle.variables.specs.declared.table.BorrowEnd.{BorrowEnd}
 use Rattle.variables.specs.declared.table.BorrowEnd.TheVariants as end
@@ -86,7 +87,7 @@ told_as f (shared ∷ ks) s = refl
 told_as f (exclusive ∷ ks) s = refl
 
 -- A state whose end is that of its links, in the rules' terms.
-pub told_variable : (env : List ℕ) (links d : ℕ) (s : Roots) (level : ℕ)
+pub told_variable : (env : List Row) (links d : ℕ) (s : Roots) (level : ℕ)
     → as_variable env (record { links = links; moved_from = d; borrow_end = borrow_end_of (chain_of links) s; level = level }) ≡ variable_of env links d s level
 told_variable env links d s level =
     ap (λ (b : Borrow). record { chain = chain_of links; moved_from = d; borrow = b; level = level }) (told_as (places_in env (chain_of links)) (chain_of links) s)
@@ -146,7 +147,7 @@ linked_places (exclusive ∷ ks) ps h = refl
 pub rooted_in_set : (s : Roots) (long : ℕ → ℕ) (m x : ℕ) → rooted (places_of 128 (has s) long m) x ≡ has s x
 rooted_in_set s long m x = rooted_places (has s) long m 128 x (has_below s x)
 
-module _ (env : List ℕ) (ks : List Link) (s : Roots) where
+module _ (env : List Row) (ks : List Link) (s : Roots) where
   pub end_rooted : (x : ℕ) → leading_boxes ks < length ks → rooted (places (end_in env ks s)) x ≡ has s x
   end_rooted x h = ap (λ (ps : List Place). rooted ps x) (linked_places ks (places_in env ks s) h) ∙ rooted_in_set s (long_at env) (left ks) x
 
@@ -166,7 +167,7 @@ recorded f none (boxed ∷ ks) s = recorded f none ks s
 recorded f none (shared ∷ ks) s = refl
 recorded f none (exclusive ∷ ks) s = refl
 
-pub recorded_by : (ks : List Link) (s r : Roots) (e : BorrowEnd) → e ≡ borrow_end_of ks s → r ≡ end_roots e → (env : List ℕ) → places (end_in env ks s) ≡ places_in env ks r
+pub recorded_by : (ks : List Link) (s r : Roots) (e : BorrowEnd) → e ≡ borrow_end_of ks s → r ≡ end_roots e → (env : List Row) → places (end_in env ks s) ≡ places_in env ks r
 recorded_by ks s r e told read env =
     recorded (places_in env ks) (no_places 128 (has (record { low = 0; high = 0 })) (long_at env) (left ks) in_none) ks s
     ∙ ap (λ (k : BorrowEnd). places_in env ks (end_roots k)) (sym told)

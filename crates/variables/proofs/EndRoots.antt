@@ -7,6 +7,7 @@ use mathlib.Core.List.{List, [], ◌∷◌}
 use lib.ListN.{length}
 use Rattle.syntax.specs.Result.{pick}
 use Rattle.syntax.specs.Script.{Place}
+use Rattle.variables.specs.declared.table.Row.{Row}
 use Rattle.variables.specs.declared.roots.Roots.{Roots}
 use Rattle.statics.specs.Links.{Link, boxed, shared, exclusive}
 use Rattle.statics.specs.Places.{unite}
@@ -38,7 +39,7 @@ end_lengths ks s long long' m h = end_same ks (places_of 128 (has s) long m) (pl
     (λ y i. h y (subst (λ (ps : List Place). Among (place_at long m y) ps) (sym e) (from_in (has s) long m 0 128 y (omega arith) (let z = has_below s y i in omega arith) i))))
 
 -- The table's length of a variable in scope is that of its chain.
-pub live_length : (env : List ℕ) (y : ℕ) (v : Variable) → environment_of env y ≡ live v → (long_at env y ≡ length v.chain) × (lengths (environment_of env) y ≡ long_at env y)
+pub live_length : (env : List Row) (y : ℕ) (v : Variable) → environment_of env y ≡ live v → (long_at env y ≡ length v.chain) × (lengths (environment_of env) y ≡ long_at env y)
 unfolding links_of
 live_length env y v e =
     let z = (live_status env y v e).1 in

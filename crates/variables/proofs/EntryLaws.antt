@@ -8,6 +8,7 @@ use lib.Dec.{eqb}
 use denote.Enum.Declared.{tag_of}
 use borrow.Author.Tests.{ne_eqb}
 use Rattle.syntax.specs.Result.{err, Refusal, pick}
+use Rattle.variables.specs.declared.table.Row.{Row}
 use Rattle.variables.specs.declared.table.VariableState.{VariableState}
 use Rattle.variables.specs.declared.table.Entry.{Entry}
 use Rattle.variables.specs.declared.table.Entry.TheVariants as entry
@@ -32,12 +33,12 @@ by_status v w (suc zero) l = absurd (omega arith)
 by_status v w (suc (suc n)) l = (rw (ne_eqb (suc (suc n)) 0 (omega arith), ne_eqb (suc (suc n)) 1 (omega arith)), rw (ne_eqb (suc (suc n)) 0 (omega arith), ne_eqb (suc (suc n)) 1 (omega arith)))
 
 -- In scope is what has such a status, and its state is what the words say.
-pub status_live : (env : List ℕ) (x : ℕ) → 2 ≤ entry_word env x 0 → environment_of env x ≡ live (variable_at env x)
+pub status_live : (env : List Row) (x : ℕ) → 2 ≤ entry_word env x 0 → environment_of env x ≡ live (variable_at env x)
 unfolding environment_of
 status_live env x h = (by_status (variable_at env x) (state_at env x) (entry_word env x 0) h).0
 
 -- Not in scope is what has a lower one.
-pub status_dead : (env : List ℕ) (x : ℕ) (r : Refusal) → entry_word env x 0 < 2 → in_scope (environment_of env x) r ≡ err r
+pub status_dead : (env : List Row) (x : ℕ) (r : Refusal) → entry_word env x 0 < 2 → in_scope (environment_of env x) r ≡ err r
 unfolding environment_of slot_as in_scope
 status_dead env x r h = go (entry_word env x 0) h
   where
@@ -46,7 +47,7 @@ status_dead env x r h = go (entry_word env x 0) h
     go (suc zero) l = refl
     go (suc (suc n)) l = absurd (omega arith)
 
-pub live_status : (env : List ℕ) (x : ℕ) (v : Variable) → environment_of env x ≡ live v → (2 ≤ entry_word env x 0) × (v ≡ variable_at env x)
+pub live_status : (env : List Row) (x : ℕ) (v : Variable) → environment_of env x ≡ live v → (2 ≤ entry_word env x 0) × (v ≡ variable_at env x)
 unfolding environment_of slot_as
 live_status env x v h = go (entry_word env x 0) h
   where
@@ -56,7 +57,7 @@ live_status env x v h = go (entry_word env x 0) h
     go (suc (suc n)) e = let z = sym (by_status (variable_at env x) (state_at env x) (suc (suc n)) (omega arith)).0 ∙ e in (omega arith, cc)
 
 -- A variable in scope is one that the table has.
-pub status_inside : (env : List ℕ) (n : ℕ) → Noted env n → (x : ℕ) → 2 ≤ entry_word env x 0 → x < n
+pub status_inside : (env : List Row) (n : ℕ) → Noted env n → (x : ℕ) → 2 ≤ entry_word env x 0 → x < n
 status_inside env n N x h = go (dec_lt x n)
   where
     go : Dec (x < n) → x < n
@@ -66,14 +67,14 @@ status_inside env n N x h = go (dec_lt x n)
         let z = N.untaken x (omega arith) in
         absurd (omega arith)
 
-pub live_inside : (env : List ℕ) (n : ℕ) → TableFor env n → (x : ℕ) (v : Variable) → environment_of env x ≡ live v → x < n
+pub live_inside : (env : List Row) (n : ℕ) → TableFor env n → (x : ℕ) (v : Variable) → environment_of env x ≡ live v → x < n
 live_inside env n T x v h = status_inside env n T.2 x (live_status env x v h).0
 
 -- A number that the table does not have is free.
-pub outside_dead : (env : List ℕ) (n : ℕ) → TableFor env n → (x : ℕ) (r : Refusal) → n ≤ x → in_scope (environment_of env x) r ≡ err r
+pub outside_dead : (env : List Row) (n : ℕ) → TableFor env n → (x : ℕ) (r : Refusal) → n ≤ x → in_scope (environment_of env x) r ≡ err r
 outside_dead env n T x r l = let m = T.2.most in let z = T.2.untaken x (omega arith) in status_dead env x r (omega arith)
 
-module _ (env : List ℕ) (x : ℕ) (e : Entry) (loaded : e ≡ entry_at env x) where
+module _ (env : List Row) (x : ℕ) (e : Entry) (loaded : e ≡ entry_at env x) where
   pub slot_live : (v : VariableState) → e ≡ entry.Live v → (environment_of env x ≡ live (variable_at env x)) × (v ≡ state_at env x)
   unfolding entry_at environment_of slot_as
   slot_live v q = go (entry_word env x 0) (sym q ∙ loaded)

@@ -12,6 +12,7 @@ use lib.ListN.{length}
 use borrow.Author.Tests.{eqb-true, eq-eqb, ne_eqb, ltb-true, ltb-false}
 use Rattle.syntax.specs.Result.{pick}
 use Rattle.syntax.specs.Script.{Place}
+use Rattle.variables.specs.declared.table.Row.{Row}
 use Rattle.variables.specs.declared.roots.Roots.{Roots}
 use Rattle.statics.specs.Links.{Link, boxed, shared, exclusive}
 use Rattle.statics.specs.Places.{rooted}
@@ -21,7 +22,7 @@ use Rattle.variables.specs.Chains.{chain_of}
 use Rattle.variables.specs.Masks.{has}
 use Rattle.variables.specs.Table.{entry_word, links_at, long_at, roots_at, holders_at, places_in, end_in, variable_at, slot_as, environment_of, MemberAdded, put_at, put_set, raised}
 use Rattle.statics.proofs.RootLaws.{same_roots, rooted_places}
-use Rattle.variables.proofs.TableLaws.{put_there, SameEntry}
+use Rattle.variables.proofs.TableLaws.{put_there, Put, PutSet, SameEntry}
 
 -- ---- words put
 
@@ -38,22 +39,14 @@ module _ (words : ℕ → ℕ → ℕ) (x k word : ℕ) where
       go true false e f = refl
       go false b e f = refl
 
--- What a function that puts a word leaves.
-abbrev pub Put : List ℕ → ℕ → ℕ → ℕ → List ℕ → Type 0
-Put env x k word env' = (y j : ℕ) → j < 8 → entry_word env' y j ≡ put_at (entry_word env) x k word y j
-
-module _ (env env' : List ℕ) (x k word : ℕ) (P : Put env x k word env') where
-  pub put_at_law : k < 8 → entry_word env' x k ≡ word
+module _ (env env' : List Row) (x k word : ℕ) (P : Put env x k word env') where
+  pub put_at_law : k < 9 → entry_word env' x k ≡ word
   put_at_law h = P x k h ∙ put_there (entry_word env) x k word
 
-  pub put_off : (y j : ℕ) → j < 8 → (x ≡ y → k ≡ j → ⊥) → entry_word env' y j ≡ entry_word env y j
+  pub put_off : (y j : ℕ) → j < 9 → (x ≡ y → k ≡ j → ⊥) → entry_word env' y j ≡ entry_word env y j
   put_off y j h n = P y j h ∙ put_elsewhere (entry_word env) x k word y j n
 
--- The same of a set.
-abbrev pub PutSet : List ℕ → ℕ → ℕ → Roots → List ℕ → Type 0
-PutSet env x k s env' = (y j : ℕ) → j < 8 → entry_word env' y j ≡ put_set (entry_word env) x k s y j
-
-module _ (env env' : List ℕ) (x k : ℕ) (s : Roots) (P : PutSet env x k s env') where
+module _ (env env' : List Row) (x k : ℕ) (s : Roots) (P : PutSet env x k s env') where
   set_low : k < 4 → entry_word env' x k ≡ s.low
   set_low h =
       P x k (omega arith)
@@ -63,20 +56,20 @@ module _ (env env' : List ℕ) (x k : ℕ) (s : Roots) (P : PutSet env x k s env
   set_high : k < 4 → entry_word env' x (k + 4) ≡ s.high
   set_high h = P x (k + 4) (omega arith) ∙ put_there (put_at (entry_word env) x k s.low) x (k + 4) s.high
 
-  pub set_off : (y j : ℕ) → j < 8 → (x ≡ y → k ≡ j → ⊥) → (x ≡ y → k + 4 ≡ j → ⊥) → entry_word env' y j ≡ entry_word env y j
+  pub set_off : (y j : ℕ) → j < 9 → (x ≡ y → k ≡ j → ⊥) → (x ≡ y → k + 4 ≡ j → ⊥) → entry_word env' y j ≡ entry_word env y j
   set_off y j h n m =
       P y j h
       ∙ put_elsewhere (put_at (entry_word env) x k s.low) x (k + 4) s.high y j m
       ∙ put_elsewhere (entry_word env) x k s.low y j n
 
-pub roots_put : (env env' : List ℕ) (x : ℕ) (s : Roots) → PutSet env x 2 s env' → roots_at env' x ≡ s
+pub roots_put : (env env' : List Row) (x : ℕ) (s : Roots) → PutSet env x 2 s env' → roots_at env' x ≡ s
 roots_put env env' x s P = ap₂ set_of (set_low env env' x 2 s P (omega arith)) (set_high env env' x 2 s P (omega arith))
 
-pub holders_put : (env env' : List ℕ) (x : ℕ) (s : Roots) → PutSet env x 3 s env' → holders_at env' x ≡ s
+pub holders_put : (env env' : List Row) (x : ℕ) (s : Roots) → PutSet env x 3 s env' → holders_at env' x ≡ s
 holders_put env env' x s P = ap₂ set_of (set_low env env' x 3 s P (omega arith)) (set_high env env' x 3 s P (omega arith))
 
 -- x is added to the set of a row: what the row had is put again with x.
-pub member_added : (env env' : List ℕ) (row x : ℕ) (old one all : Roots) → old ≡ roots_at env row → ((y : ℕ) → has one y ≡ eqb x y)
+pub member_added : (env env' : List Row) (row x : ℕ) (old one all : Roots) → old ≡ roots_at env row → ((y : ℕ) → has one y ≡ eqb x y)
     → ((y : ℕ) → has all y ≡ pick (has old y) true (has one y)) → PutSet env row 2 all env' → MemberAdded env row x env'
 member_added env env' row x old one all read own more put =
     record {
@@ -85,71 +78,71 @@ member_added env env' row x old one all read own more put =
     }
 
 -- A note is raised to the greater of the two.
-pub raised_greater : (words : ℕ → ℕ → ℕ) (row least higher y j : ℕ) → higher ≡ max (words row 7) least → put_at words row 7 higher y j ≡ raised words row least y j
+pub raised_greater : (words : ℕ → ℕ → ℕ) (row least higher y j : ℕ) → higher ≡ max (words row 8) least → put_at words row 8 higher y j ≡ raised words row least y j
 unfolding raised put_at
-raised_greater words row least higher y j e = go (ltb (words row 7) least) refl (eqb row y) (eqb 7 j) refl refl
+raised_greater words row least higher y j e = go (ltb (words row 8) least) refl (eqb row y) (eqb 8 j) refl refl
   where
-    go : (b : Bool) → ltb (words row 7) least ≡ b → (p q : Bool) → eqb row y ≡ p → eqb 7 j ≡ q
-        → pick (p && q) higher (words y j) ≡ pick b (λ (z i : ℕ). pick (eqb row z && eqb 7 i) least (words z i)) words y j
+    go : (b : Bool) → ltb (words row 8) least ≡ b → (p q : Bool) → eqb row y ≡ p → eqb 8 j ≡ q
+        → pick (p && q) higher (words y j) ≡ pick b (λ (z i : ℕ). pick (eqb row z && eqb 8 i) least (words z i)) words y j
     go true k p q f g =
-        let l = ltb-true (words row 7) least k in
+        let l = ltb-true (words row 8) least k in
         rw (f, g) (ap (λ (w : ℕ). pick (p && q) w (words y j)) (e ∙ max-eq_right (omega arith)))
-    go false k true true f g = e ∙ max-eq_left (ltb-false (words row 7) least k) ∙ ap₂ words (eqb-true row y f) (eqb-true 7 j g)
+    go false k true true f g = e ∙ max-eq_left (ltb-false (words row 8) least k) ∙ ap₂ words (eqb-true row y f) (eqb-true 8 j g)
     go false k true false f g = refl
     go false k false q f g = refl
 
 -- What a function that raises a note leaves.
-abbrev pub Raised : List ℕ → ℕ → ℕ → List ℕ → Type 0
-Raised env row least env' = (y j : ℕ) → j < 8 → entry_word env' y j ≡ raised (entry_word env) row least y j
+abbrev pub Raised : List Row → ℕ → ℕ → List Row → Type 0
+Raised env row least env' = (y j : ℕ) → j < 9 → entry_word env' y j ≡ raised (entry_word env) row least y j
 
-module _ (env env' : List ℕ) (row least : ℕ) (R : Raised env row least env') where
-  pub raised_off : (y j : ℕ) → j < 8 → (row ≡ y → 7 ≡ j → ⊥) → entry_word env' y j ≡ entry_word env y j
+module _ (env env' : List Row) (row least : ℕ) (R : Raised env row least env') where
+  pub raised_off : (y j : ℕ) → j < 9 → (row ≡ y → 8 ≡ j → ⊥) → entry_word env' y j ≡ entry_word env y j
   unfolding raised
-  raised_off y j h n = R y j h ∙ go (ltb (entry_word env row 7) least)
+  raised_off y j h n = R y j h ∙ go (ltb (entry_word env row 8) least)
     where
-      go : (b : Bool) → pick b (put_at (entry_word env) row 7 least) (entry_word env) y j ≡ entry_word env y j
-      go true = put_elsewhere (entry_word env) row 7 least y j n
+      go : (b : Bool) → pick b (put_at (entry_word env) row 8 least) (entry_word env) y j ≡ entry_word env y j
+      go true = put_elsewhere (entry_word env) row 8 least y j n
       go false = refl
 
   -- No less than before, no less than asked, and no more than either.
-  pub raised_there : (entry_word env row 7 ≤ entry_word env' row 7) × (least ≤ entry_word env' row 7)
-      × ((b : ℕ) → entry_word env row 7 ≤ b → least ≤ b → entry_word env' row 7 ≤ b)
+  pub raised_there : (entry_word env row 8 ≤ entry_word env' row 8) × (least ≤ entry_word env' row 8)
+      × ((b : ℕ) → entry_word env row 8 ≤ b → least ≤ b → entry_word env' row 8 ≤ b)
   unfolding raised
-  raised_there = go (ltb (entry_word env row 7) least) refl (R row 7 (omega arith))
+  raised_there = go (ltb (entry_word env row 8) least) refl (R row 8 (omega arith))
     where
-      go : (b : Bool) → ltb (entry_word env row 7) least ≡ b → entry_word env' row 7 ≡ pick b (put_at (entry_word env) row 7 least) (entry_word env) row 7
-          → (entry_word env row 7 ≤ entry_word env' row 7) × (least ≤ entry_word env' row 7) × ((b : ℕ) → entry_word env row 7 ≤ b → least ≤ b → entry_word env' row 7 ≤ b)
+      go : (b : Bool) → ltb (entry_word env row 8) least ≡ b → entry_word env' row 8 ≡ pick b (put_at (entry_word env) row 8 least) (entry_word env) row 8
+          → (entry_word env row 8 ≤ entry_word env' row 8) × (least ≤ entry_word env' row 8) × ((b : ℕ) → entry_word env row 8 ≤ b → least ≤ b → entry_word env' row 8 ≤ b)
       go true e q =
-          let z : entry_word env' row 7 ≡ least = q ∙ put_there (entry_word env) row 7 least in
-          let l = ltb-true (entry_word env row 7) least e in
+          let z : entry_word env' row 8 ≡ least = q ∙ put_there (entry_word env) row 8 least in
+          let l = ltb-true (entry_word env row 8) least e in
           (omega arith, omega arith, λ b h k. omega arith)
       go false e q =
-          let l = ltb-false (entry_word env row 7) least e in
+          let l = ltb-false (entry_word env row 8) least e in
           (omega arith, omega arith, λ b h k. omega arith)
 
 -- The code counts the rows up.
-pub raised_next : (env env' : List ℕ) (n x : ℕ) → Raised env (n + 1) (x + 1) env' → Raised env (suc n) (suc x) env'
+pub raised_next : (env env' : List Row) (n x : ℕ) → Raised env (n + 1) (x + 1) env' → Raised env (suc n) (suc x) env'
 raised_next env env' n x R = subst (λ (k : ℕ). Raised env k (suc x) env') (add-one n) (subst (λ (k : ℕ). Raised env (n + 1) k env') (add-one x) R)
 
 -- ---- words that agree
 
-pub roots_same : (env env' : List ℕ) (y : ℕ) → entry_word env' y 2 ≡ entry_word env y 2 → entry_word env' y 6 ≡ entry_word env y 6 → roots_at env' y ≡ roots_at env y
+pub roots_same : (env env' : List Row) (y : ℕ) → entry_word env' y 2 ≡ entry_word env y 2 → entry_word env' y 6 ≡ entry_word env y 6 → roots_at env' y ≡ roots_at env y
 roots_same env env' y l h = ap₂ set_of l h
 
-pub holders_same : (env env' : List ℕ) (y : ℕ) → entry_word env' y 3 ≡ entry_word env y 3 → entry_word env' y 7 ≡ entry_word env y 7 → holders_at env' y ≡ holders_at env y
+pub holders_same : (env env' : List Row) (y : ℕ) → entry_word env' y 3 ≡ entry_word env y 3 → entry_word env' y 7 ≡ entry_word env y 7 → holders_at env' y ≡ holders_at env y
 holders_same env env' y l h = ap₂ set_of l h
 
-pub links_same : (env env' : List ℕ) (y : ℕ) → entry_word env' y 1 ≡ entry_word env y 1 → links_at env' y ≡ links_at env y
-links_same env env' y e = ap (λ (w : ℕ). w % 4294967296) e
+pub links_same : (env env' : List Row) (y : ℕ) → entry_word env' y 1 ≡ entry_word env y 1 → links_at env' y ≡ links_at env y
+links_same env env' y e = e
 
-pub entry_links : (env env' : List ℕ) (y : ℕ) → SameEntry env env' y → links_at env' y ≡ links_at env y
+pub entry_links : (env env' : List Row) (y : ℕ) → SameEntry env env' y → links_at env' y ≡ links_at env y
 entry_links env env' y h = links_same env env' y (h 1 (omega arith) (λ e. omega arith) (λ e. omega arith))
 
-pub entry_roots : (env env' : List ℕ) (y : ℕ) → SameEntry env env' y → roots_at env' y ≡ roots_at env y
+pub entry_roots : (env env' : List Row) (y : ℕ) → SameEntry env env' y → roots_at env' y ≡ roots_at env y
 entry_roots env env' y h = roots_same env env' y (h 2 (omega arith) (λ e. omega arith) (λ e. omega arith)) (h 6 (omega arith) (λ e. omega arith) (λ e. omega arith))
 
 -- A borrow end does not change where the links of its roots do not.
-pub end_same : (env env' : List ℕ) (ks : List Link) (s s' : Roots) → ((y : ℕ) → has s' y ≡ has s y) → ((y : ℕ) → has s y ≡ true → links_at env' y ≡ links_at env y)
+pub end_same : (env env' : List Row) (ks : List Link) (s s' : Roots) → ((y : ℕ) → has s' y ≡ has s y) → ((y : ℕ) → has s y ≡ true → links_at env' y ≡ links_at env y)
     → end_in env' ks s' ≡ end_in env ks s
 end_same env env' ks s s' h k =
     ap (borrow_end ks) (same_roots 128 (has s') (has s) (long_at env') (long_at env) (left ks) h (λ y e. ap (λ (l : ℕ). length (chain_of l)) (k y e)))
@@ -162,7 +155,7 @@ same_but x (boxed ∷ ks) ps qs h k = same_but x ks ps qs h k
 same_but x (shared ∷ ks) ps qs h k = ap shared_of (k h)
 same_but x (exclusive ∷ ks) ps qs h k = ap exclusive_of (k h)
 
-pub end_same_but : (env env' : List ℕ) (x : ℕ) → x < 128 → ((y : ℕ) → (x ≡ y → ⊥) → links_at env' y ≡ links_at env y)
+pub end_same_but : (env env' : List Row) (x : ℕ) → x < 128 → ((y : ℕ) → (x ≡ y → ⊥) → links_at env' y ≡ links_at env y)
     → (ks : List Link) (s : Roots) → rooted (places (end_in env ks s)) x ≡ false → end_in env' ks s ≡ end_in env ks s
 end_same_but env env' x l links ks s h =
     same_but x ks (places_in env ks s) (places_in env' ks s) h
@@ -177,7 +170,7 @@ slot_by zero v w h = refl
 slot_by (suc zero) v w h = refl
 slot_by (suc (suc n)) v w h = ap (slot_as (suc (suc n))) (h (omega arith))
 
-pub slot_same : (env env' : List ℕ) (y : ℕ) → SameEntry env env' y
+pub slot_same : (env env' : List Row) (y : ℕ) → SameEntry env env' y
     → (2 ≤ entry_word env y 0 → end_in env' (chain_of (links_at env y)) (roots_at env y) ≡ end_in env (chain_of (links_at env y)) (roots_at env y))
     → environment_of env' y ≡ environment_of env y
 unfolding environment_of
@@ -193,7 +186,7 @@ slot_same env env' y S e =
     ))
 
 -- All but one say the same.
-pub updated : (env env' : List ℕ) (x : ℕ) (s : Slot) → ((y : ℕ) → (x ≡ y → ⊥) → environment_of env' y ≡ environment_of env y) → environment_of env' x ≡ s
+pub updated : (env env' : List Row) (x : ℕ) (s : Slot) → ((y : ℕ) → (x ≡ y → ⊥) → environment_of env' y ≡ environment_of env y) → environment_of env' x ≡ s
     → environment_of env' ≡ update (environment_of env) x s
 unfolding update
 updated env env' x s h k = fun_ext λ y. go y (ℕ_discrete x y)

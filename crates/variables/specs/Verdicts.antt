@@ -6,6 +6,7 @@ use Rattle.syntax.specs.declared.refusals.Reason.{Reason}
 use Rattle.syntax.specs.Refusals.{number_of}
 use Rattle.syntax.specs.Result.{ok, err, need, ◌>>=◌}
 use Rattle.variables.specs.declared.roots.Roots.{Roots}
+use Rattle.variables.specs.declared.table.Row.{Row}
 use Rattle.variables.specs.declared.verdicts.ValueType.{ValueType}
 use Rattle.statics.specs.Links.{Link, max_links}
 use Rattle.statics.specs.Environment.{Borrow, places, Ty}
@@ -22,7 +23,7 @@ abbrev pub type_of : List Link → Borrow → Ty
 type_of ks b = record { links = ks; borrow = b }
 
 -- The value, by the table in which its roots are.
-abbrev pub as_value : List ℕ → prelude.Option ValueType → Option Ty
+abbrev pub as_value : List Row → prelude.Option ValueType → Option Ty
 as_value env prelude.None = none
 as_value env (prelude.Some t) = some (type_of (chain_of t.links) (end_in env (chain_of t.links) t.roots))
 
@@ -31,29 +32,29 @@ abbrev pub Verdict : Type 0
 Verdict = prelude.Result (prelude.Option ValueType) Reason
 
 -- The verdict of the term i, with the table afterwards: its own refusals are at i.
-abbrev pub answered : List ℕ → ℕ → Verdict → Judged Out
+abbrev pub answered : List Row → ℕ → Verdict → Judged Out
 answered env i (prelude.Ok v) = ok (environment_of env, as_value env v)
 answered env i (prelude.Err r) = err (number_of r, i)
 
 -- The roots of the places that the value borrows, if there are any (LANGUAGE 3.3).
 abbrev pub RootsIn : prelude.Option ValueType → Roots → Type 0
-RootsIn v r = (env : List ℕ) (nv : ℕ) → (m : ℕ) × (places (rules.borrow_in nv (as_value env v)) ≡ places_of 128 (has r) (long_at env) m)
+RootsIn v r = (env : List Row) (nv : ℕ) → (m : ℕ) × (places (rules.borrow_in nv (as_value env v)) ≡ places_of 128 (has r) (long_at env) m)
 
 -- The table of a neat state, at some level.
-abbrev pub NeatTable : List ℕ → ℕ → Type 0
+abbrev pub NeatTable : List Row → ℕ → Type 0
 NeatTable env n = TableFor env n × ((level : ℕ) × Neat n (environment_of env) level)
 
 -- ---- values
 
 -- The verdict of a term that leaves every table as it is.
-abbrev pub Answers : Verdict → (List ℕ → ℕ → Judged Out) → Type 0
-Answers r judged = (env : List ℕ) (i : ℕ) → answered env i r ≡ judged env i
+abbrev pub Answers : Verdict → (List Row → ℕ → Judged Out) → Type 0
+Answers r judged = (env : List Row) (i : ℕ) → answered env i r ≡ judged env i
 
-abbrev pub value_of : (List ℕ → Ty) → List ℕ → ℕ → Judged Out
+abbrev pub value_of : (List Row → Ty) → List Row → ℕ → Judged Out
 value_of t env i = ok (environment_of env, some (t env))
 
 -- A value of at most 8 links (42; LANGUAGE 3.21 to 3.23).
-abbrev pub at_most8 : (List ℕ → Ty) → List ℕ → ℕ → Judged Out
+abbrev pub at_most8 : (List Row → Ty) → List Row → ℕ → Judged Out
 at_most8 t env i = need (leb (length (t env).links) max_links) (42, i) >>= λ _. value_of t env i
 
 -- The verdict of a box (LANGUAGE 3.23).

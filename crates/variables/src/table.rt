@@ -1,9 +1,8 @@
-// The table of the variables, 8 words to each: six hold the state (LANGUAGE 3.8), two are a note (crate `notes`). The two words
-// of a set stand apart, so that loading one does not wait for a store to the other.
-ghost use Rattle.std.specs.Prelude.{◌≡◌, ℕ, suc, ◌<◌, ◌≤◌, ◌+◌, ◌*◌, length};
+// The table of the variables, a row to each: the state (LANGUAGE 3.8), and a note (crate `notes`).
+ghost use Rattle.std.specs.Prelude.{◌≡◌, suc};
 ghost use Rattle.statics.specs.Links.{leading_boxes};
 ghost use Rattle.variables.specs.Chains.{chain_of};
-ghost use Rattle.variables.specs.Table.{TableFor, entry_word, links_at, roots_at, holders_at, borrow_end_of, end_roots, changed_state, entry_at, put_at, put_set};
+ghost use Rattle.variables.specs.Table.{TableFor, borrow_end_of, end_roots, changed_state, entry_at};
 
 use crate::chains::{Link, leading_boxes, split_first};
 use crate::roots::Roots;
@@ -42,96 +41,27 @@ pub enum Entry {
     Live(VariableState),
 }
 
-// The words of a variable.
-pub const STATUS: usize = 0;
-
-pub const LINKS: usize = 1;
-
-pub const ROOTS: usize = 2;
-
-pub const HOLDERS: usize = 3;
-
-pub const MOVED_FROM: usize = 4;
-
-pub const LEVEL: usize = 5;
-
-// The second word of a set stands so many words after the first.
-const APART: usize = 4;
-
-// The note of a row after those of the variables.
-pub const NOTE: usize = 7;
-
-// Links are a number of 32 bits.
-const LINKS_BELOW: u64 = 4294967296;
-
-// What STATUS holds; from LIVE on the variable is in scope.
-pub const FREE: u64 = 0;
-
-pub const USED: u64 = 1;
-
-pub const LIVE: u64 = 2;
-
-// Word k of x: the state of a variable (LANGUAGE 3.8) is kept in such words.
-pub fn word_at(env: &[u64], x: usize, k: usize) -> u64
-    requires { (x * 8 + 8 ≤ length env.now) × (k < 8) }
-    ensures { result ≡ entry_word env.now x k }
-{
-    let at = x * 8 + k;
-    env[at]
+// What is known of a number (LANGUAGE 3.6): it is free; taken, and not in scope; or in scope.
+#[derive(Clone, Copy, PartialEq, Eq, Default)]
+pub enum Status {
+    #[default]
+    Free,
+    Used,
+    Live,
 }
 
-pub fn put_word(env: &mut [u64], x: usize, k: usize, word: u64)
-    requires { (x * 8 + 8 ≤ length env.old) × (k < 8) }
-    ensures { (y j : ℕ) → j < 8 → entry_word env.new y j ≡ put_at (entry_word env.old) x k word y j }
-{
-    let at = x * 8 + k;
-    env[at] = word;
-}
-
-// The links of x (LANGUAGE 3.8).
-pub fn links_at(env: &[u64], x: usize) -> u32
-    requires { x * 8 + 8 ≤ length env.now }
-    ensures { result ≡ links_at env.now x }
-{
-    (word_at(env, x, LINKS) % LINKS_BELOW) as u32
-}
-
-// The roots that x records (LANGUAGE 3.8).
-pub fn roots_at(env: &[u64], x: usize) -> Roots
-    requires { x * 8 + 8 ≤ length env.now }
-    ensures { result ≡ roots_at env.now x }
-{
-    Roots {
-        low: word_at(env, x, ROOTS),
-        high: word_at(env, x, ROOTS + APART),
-    }
-}
-
-// The variables that may hold a borrow of a place with root x.
-pub fn holders_at(env: &[u64], x: usize) -> Roots
-    requires { x * 8 + 8 ≤ length env.now }
-    ensures { result ≡ holders_at env.now x }
-{
-    Roots {
-        low: word_at(env, x, HOLDERS),
-        high: word_at(env, x, HOLDERS + APART),
-    }
-}
-
-pub fn put_roots(env: &mut [u64], x: usize, roots: Roots)
-    requires { x * 8 + 8 ≤ length env.old }
-    ensures { (y j : ℕ) → j < 8 → entry_word env.new y j ≡ put_set (entry_word env.old) x 2 roots y j }
-{
-    put_word(env, x, ROOTS, roots.low);
-    put_word(env, x, ROOTS + APART, roots.high);
-}
-
-pub fn put_holders(env: &mut [u64], x: usize, holders: Roots)
-    requires { x * 8 + 8 ≤ length env.old }
-    ensures { (y j : ℕ) → j < 8 → entry_word env.new y j ≡ put_set (entry_word env.old) x 3 holders y j }
-{
-    put_word(env, x, HOLDERS, holders.low);
-    put_word(env, x, HOLDERS + APART, holders.high);
+// The row of a number: its state (LANGUAGE 3.8), if it is in scope, with the roots that it records; and the notes (crate
+// `notes`): the variables that may hold a borrow of a place with this root, and how far the numbers are taken. In the two
+// rows after those of the variables, which are notes alone, the roots are a set of variables.
+#[derive(Clone, Copy, Default)]
+pub struct Row {
+    pub status: Status,
+    pub links: u32,
+    pub roots: Roots,
+    pub holders: Roots,
+    pub moved_from: u64,
+    pub level: u64,
+    pub note: u64,
 }
 
 // The borrow end (LANGUAGE 3.3) of something with these links that records these roots.
@@ -181,27 +111,22 @@ pub fn changed_state(state: VariableState, moved_from: u64, roots: Roots) -> Var
 }
 
 // What is known of number x (LANGUAGE 3.6, 3.8). A number that the table does not have is free.
-pub fn load(env: &[u64], variables: usize, x: usize) -> Entry
+pub fn load(env: &[Row], variables: usize, x: usize) -> Entry
     requires { TableFor env.now variables }
     ensures { result ≡ entry_at env.now x }
 {
-    if x < variables {
-        let status = word_at(env, x, STATUS);
-        if status == FREE {
-            return Entry::Free;
-        }
-        if status == USED {
-            return Entry::Used;
-        }
-        let links = links_at(env, x);
-        let state = VariableState {
-            links: links,
-            moved_from: word_at(env, x, MOVED_FROM),
-            borrow_end: borrow_end_of(links, roots_at(env, x)),
-            level: word_at(env, x, LEVEL),
-        };
-        Entry::Live(state)
-    } else {
-        Entry::Free
+    if variables <= x {
+        return Entry::Free;
+    }
+    let row = env[x];
+    match row.status {
+        Status::Free => Entry::Free,
+        Status::Used => Entry::Used,
+        Status::Live => Entry::Live(VariableState {
+            links: row.links,
+            moved_from: row.moved_from,
+            borrow_end: borrow_end_of(row.links, row.roots),
+            level: row.level,
+        }),
     }
 }

@@ -3,6 +3,7 @@ use Prim.Native.Nat.{ℕ}
 use mathlib.Core.Path.{◌≡◌, sym, ap, ◌∙◌}
 use mathlib.Core.Bool.{Bool, true, false}
 use mathlib.Core.List.{List}
+use Rattle.variables.specs.declared.table.Row.{Row}
 use Rattle.variables.specs.declared.roots.Roots.{Roots}
 use Rattle.statics.specs.Environment.{level_of}
 use Rattle.statics.specs.Roots.{lengths}
@@ -15,7 +16,7 @@ use Rattle.assigns.proofs.assign.live_long_enough.Invariants.{lives, outlives}
 use Rattle.assigns.proofs.assign.live_long_enough.Goals as goal
 
 -- What is asked with the level of x is asked of x.
-of_x : (env : List ℕ) (roots : Roots) (x level : ℕ) → level ≡ level_of (environment_of env x) → (r b : Bool) → ((m : ℕ) → r ≡ lives env roots m level) → r ≡ b → (m : ℕ) → lives env roots m (level_of (environment_of env x)) ≡ b
+of_x : (env : List Row) (roots : Roots) (x level : ℕ) → level ≡ level_of (environment_of env x) → (r b : Bool) → ((m : ℕ) → r ≡ lives env roots m level) → r ≡ b → (m : ℕ) → lives env roots m (level_of (environment_of env x)) ≡ b
 of_x env roots x level is r b asked e m = ap (lives env roots m) (sym is) ∙ sym (asked m) ∙ e
 
 pub returns-then-is_empty : goal.returns-then-is_empty

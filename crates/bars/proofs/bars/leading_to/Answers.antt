@@ -20,8 +20,12 @@ up u = taken _ _ _ u.in-Some.ensures
 low : (u : In-Some) → u.in-Some.x < u.args.variables
 low u = left_low _ _ u.requires.0 _ _ _ _ u.in_scope-scope.ensures _ _ _ _ u.loop-x.invariant _ (up u).member
 
-pub roots_at-requires : goal.roots_at-requires
-roots_at-requires c = omega (arith, low (goal.at.roots_at-requires c).In-Some, c.requires.0.0)
+pub bounds-env-x : goal.bounds-env-x
+bounds-env-x c =
+    omega (arith, left_low _ _ c.requires.0 _ _ _ _ c.in_scope-scope.ensures _ _ _ _ c.loop-x.invariant _ (taken _ _ _ c.in-Some.ensures).member, c.requires.0.0)
+
+pub offset_bounds-env-x : goal.offset_bounds-env-x
+offset_bounds-env-x c = omega (arith, (taken _ _ _ c.in-Some.ensures).low)
 
 pub only-one-requires : goal.only-one-requires
 only-one-requires c = (up (goal.at.only-one-requires c).In-Some).low
@@ -29,8 +33,12 @@ only-one-requires c = (up (goal.at.only-one-requires c).In-Some).low
 pub names-requires : goal.names-requires
 names-requires c = omega (arith, low (goal.at.names-requires c).In-Some, c.requires.1)
 
-pub holders_at-requires : goal.holders_at-requires
-holders_at-requires c = omega (arith, low (goal.at.holders_at-requires c).In-Some, c.requires.0.0)
+pub bounds-env-x-then-not-is_empty : goal.bounds-env-x-then-not-is_empty
+bounds-env-x-then-not-is_empty c =
+    omega (arith, left_low _ _ c.requires.0 _ _ _ _ c.in_scope-scope.ensures _ _ _ _ c.loop-x.invariant _ (taken _ _ _ c.in-Some.ensures).member, c.requires.0.0)
+
+pub offset_bounds-env-x-then-not-is_empty : goal.offset_bounds-env-x-then-not-is_empty
+offset_bounds-env-x-then-not-is_empty c = omega (arith, (taken _ _ _ c.in-Some.ensures).low)
 
 -- The variable is found: what the loop keeps holds again, and there is less to do.
 found : (c : After-unite-left) → Gathering c.args.env.now c.args.root c.common-left.result (named_from c.args.later.now.uses.now c.args.later.now.from (has c.args.later.now.named)) c.unite-all.result c.unite-towards.result c.unite-left.result c.if-names.named
@@ -42,7 +50,7 @@ found c =
       | then-names w ↦ inl (w.if-names.true, λ y. ap (λ (s : Roots). has s y) w.named-is ∙ w.unite-named.ensures y)
       | else-names w ↦ inr (w.if-names.false, w.named-is)
     ])
-    c.unite-all.ensures c.unite-towards.ensures c.holders_at.ensures c.less.ensures c.common-then-not-is_empty.ensures c.unite-left.ensures
+    c.unite-all.ensures c.unite-towards.ensures refl c.less.ensures c.common-then-not-is_empty.ensures c.unite-left.ensures
 
 pub loop-x-smaller-then-not-is_empty : goal.loop-x-smaller-then-not-is_empty
 loop-x-smaller-then-not-is_empty c = (found (goal.at.loop-x-smaller-then-not-is_empty c).After-unite-left).1
@@ -55,7 +63,7 @@ skipped : (c : Else-not-is_empty) → Gathering c.args.env.now c.args.root c.com
     × (steps c.loop-x.all c.take_lowest.new.self < steps c.loop-x.all c.loop-x.left)
 skipped c =
     let one = taken _ _ _ c.in-Some.ensures in
-    gather_skips _ _ c.requires.0 _ _ _ _ c.in_scope-scope.ensures _ _ _ _ c.loop-x.invariant _ one.member _ one.others _ _ c.roots_at.ensures c.common.ensures
+    gather_skips _ _ c.requires.0 _ _ _ _ c.in_scope-scope.ensures _ _ _ _ c.loop-x.invariant _ one.member _ one.others _ _ refl c.common.ensures
     (none_in _ (sym c.is_empty.ensures ∙ c.if-not-is_empty.false))
 
 pub loop-x-smaller : goal.loop-x-smaller

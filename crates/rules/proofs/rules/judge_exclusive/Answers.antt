@@ -1,10 +1,11 @@
 -- `rules::rules::judge_exclusive` meets its contract. Assumes nothing.
 use Prim.Native.Nat.{ℕ, ◌<◌}
 use native.Mathlib.Omega.{arith}
-use mathlib.Core.Path.{◌≡◌, sym, ap, ◌∙◌}
+use mathlib.Core.Path.{◌≡◌, refl, sym, ap, ◌∙◌}
 use mathlib.Core.List.{List}
 use Rattle.syntax.specs.Result.{◌>>=◌}
 use Rattle.syntax.specs.Script.{Place}
+use Rattle.variables.specs.declared.table.Row.{Row}
 use Rattle.statics.specs.Rules.{judge_exclusive}
 use Rattle.variables.specs.Table.{environment_of, as_place}
 use Rattle.rules.specs.RuleAnswers.{Named}
@@ -16,7 +17,7 @@ use Rattle.rules.proofs.rules.judge_exclusive.Goals.{In_ok-rest}
 
 -- Where the place is named; the code has its root as `root`.
 module _ (k : In_ok-rest) where
-  abbrev env : List ℕ
+  abbrev env : List Row
   env = k.args.env.now
 
   abbrev nv : ℕ
@@ -47,17 +48,17 @@ pub returns-then-not-value_whole : goal.returns-then-not-value_whole
 returns-then-not-value_whole c =
     λ i ns barred. sym (exclusive_moved c.args.env.now c.args.variables c.requires i (p (goal.at.returns-then-not-value_whole c).In_ok-rest) (named (goal.at.returns-then-not-value_whole c).In_ok-rest) _ (is_root (goal.at.returns-then-not-value_whole c).In_ok-rest) _ c.value_whole.ensures ns (c.if-not-value_whole.true))
 
-pub links_at-requires : goal.links_at-requires
-links_at-requires c =
-    omega (arith, inside (goal.at.links_at-requires c).In_ok-rest, c.requires.0.0)
+pub bounds-env-root : goal.bounds-env-root
+bounds-env-root c =
+    omega (arith, c.requires.0.0, named_inside _ _ (named_at _ _ 0 (as_place c.args.place) (c.judge_named.ensures 0) c.in_ok-rest.was) _ c.index_of-root.ensures _ c.requires)
 
 pub returns-then-not-no_shared : goal.returns-then-not-no_shared
 returns-then-not-no_shared c =
-    λ i ns barred. sym (exclusive_shared c.args.env.now c.args.variables c.requires i (p (goal.at.returns-then-not-no_shared c).In_ok-rest) (named (goal.at.returns-then-not-no_shared c).In_ok-rest) _ (is_root (goal.at.returns-then-not-no_shared c).In_ok-rest) _ c.value_whole.ensures ns c.if-not-value_whole.false _ _ c.index_of.ensures c.links_at.ensures _ c.no_shared.ensures (c.if-not-no_shared.true))
+    λ i ns barred. sym (exclusive_shared c.args.env.now c.args.variables c.requires i (p (goal.at.returns-then-not-no_shared c).In_ok-rest) (named (goal.at.returns-then-not-no_shared c).In_ok-rest) _ (is_root (goal.at.returns-then-not-no_shared c).In_ok-rest) _ c.value_whole.ensures ns c.if-not-value_whole.false _ _ c.index_of.ensures refl _ c.no_shared.ensures (c.if-not-no_shared.true))
 
 pub returns-then-barred : goal.returns-then-barred
 returns-then-barred c =
-    λ i ns barred. sym (exclusive_barred c.args.env.now c.args.variables c.requires i (p (goal.at.returns-then-barred c).In_ok-rest) (named (goal.at.returns-then-barred c).In_ok-rest) _ (is_root (goal.at.returns-then-barred c).In_ok-rest) _ c.value_whole.ensures ns c.if-not-value_whole.false _ _ c.index_of.ensures c.links_at.ensures _ c.no_shared.ensures c.if-not-no_shared.false _ barred c.if-barred.true)
+    λ i ns barred. sym (exclusive_barred c.args.env.now c.args.variables c.requires i (p (goal.at.returns-then-barred c).In_ok-rest) (named (goal.at.returns-then-barred c).In_ok-rest) _ (is_root (goal.at.returns-then-barred c).In_ok-rest) _ c.value_whole.ensures ns c.if-not-value_whole.false _ _ c.index_of.ensures refl _ c.no_shared.ensures c.if-not-no_shared.false _ barred c.if-barred.true)
 
 pub only-requires : goal.only-requires
 only-requires c =
@@ -72,4 +73,4 @@ returns-in_err-rest c =
 
 pub returns : goal.returns
 returns c =
-    λ i ns barred. exclusive_there c.args.env.now c.args.variables c.requires i (p (goal.at.returns c).In_ok-rest) (named (goal.at.returns c).In_ok-rest) _ (is_root (goal.at.returns c).In_ok-rest) _ c.value_whole.ensures ns c.if-not-value_whole.false _ _ c.index_of.ensures c.links_at.ensures _ c.no_shared.ensures c.if-not-no_shared.false _ barred c.if-barred.false _ c.only.ensures _ c.longer_value.ensures
+    λ i ns barred. exclusive_there c.args.env.now c.args.variables c.requires i (p (goal.at.returns c).In_ok-rest) (named (goal.at.returns c).In_ok-rest) _ (is_root (goal.at.returns c).In_ok-rest) _ c.value_whole.ensures ns c.if-not-value_whole.false _ _ c.index_of.ensures refl _ c.no_shared.ensures c.if-not-no_shared.false _ barred c.if-barred.false _ c.only.ensures _ c.longer_value.ensures

@@ -1,10 +1,11 @@
 -- `rules::rules::judge_move` meets its contract. Assumes nothing.
 use Prim.Native.Nat.{ℕ, ◌≤◌, ◌<◌}
 use native.Mathlib.Omega.{arith}
-use mathlib.Core.Path.{◌≡◌, sym, ap, ◌∙◌}
+use mathlib.Core.Path.{◌≡◌, refl, sym, ap, ◌∙◌}
 use mathlib.Core.Bool.{Bool, true, false}
 use mathlib.Core.List.{List}
 use Rattle.syntax.specs.Script.{Place}
+use Rattle.variables.specs.declared.table.Row.{Row}
 use Rattle.statics.specs.Links.{leading_boxes}
 use Rattle.variables.specs.Chains.{chain_of}
 use Rattle.statics.specs.Follow.{value_whole}
@@ -19,7 +20,7 @@ use Rattle.rules.proofs.rules.judge_move.Goals.{In_ok-rest}
 
 -- Where the place is named; the code has its root as `root`.
 module _ (k : In_ok-rest) where
-  abbrev env : List ℕ
+  abbrev env : List Row
   env = k.args.env.now
 
   abbrev nv : ℕ
@@ -57,13 +58,14 @@ module _ (k : In_ok-rest) where
 pub judge_named-requires : goal.judge_named-requires
 judge_named-requires c = c.requires.0
 
-pub links_at-requires : goal.links_at-requires
-links_at-requires c = omega (arith, inside (goal.at.links_at-requires c).In_ok-rest, c.requires.0.0)
+pub bounds-env-root : goal.bounds-env-root
+bounds-env-root c =
+    omega (arith, c.requires.0.0, named_inside _ _ (named_at _ _ 0 (as_place c.args.place) (c.judge_named.ensures 0) c.in_ok-rest.was) _ c.index_of-root.ensures _ c.requires)
 
 pub returns-then-leading_boxes-index_of : goal.returns-then-leading_boxes-index_of
 returns-then-leading_boxes-index_of c =
     let k = (goal.at.returns-then-leading_boxes-index_of c).In_ok-rest in (
-      λ i ns barred. sym (move_passed c.args.env.now c.args.variables (p k) (named k) ns i (omega (arith, counted k c.links_at.ensures c.leading_boxes.ensures.0, c.index_of.ensures, c.if-leading_boxes-index_of.true))),
+      λ i ns barred. sym (move_passed c.args.env.now c.args.variables (p k) (named k) ns i (omega (arith, counted k refl c.leading_boxes.ensures.0, c.index_of.ensures, c.if-leading_boxes-index_of.true))),
       c.requires.0,
     )
 
@@ -74,21 +76,20 @@ value_whole-requires c =
 pub returns-then-not-value_whole : goal.returns-then-not-value_whole
 returns-then-not-value_whole c =
     let k = (goal.at.returns-then-not-value_whole c).In_ok-rest in (
-      λ i ns barred. sym (move_moved c.args.env.now c.args.variables (p k) (named k) (own k c.links_at.ensures c.leading_boxes.ensures.0 c.index_of.ensures c.if-leading_boxes-index_of.false) ns i (whole_is c.args.env.now (p k) (named k) _ (is_root k) c.args.variables _ false c.value_whole.ensures c.if-not-value_whole.true)),
+      λ i ns barred. sym (move_moved c.args.env.now c.args.variables (p k) (named k) (own k refl c.leading_boxes.ensures.0 c.index_of.ensures c.if-leading_boxes-index_of.false) ns i (whole_is c.args.env.now (p k) (named k) _ (is_root k) c.args.variables _ false c.value_whole.ensures c.if-not-value_whole.true)),
       c.requires.0,
     )
 
 pub returns-then-barred : goal.returns-then-barred
 returns-then-barred c =
     let k = (goal.at.returns-then-barred c).In_ok-rest in (
-      λ i ns barred. sym (move_barred (env k) (nv k) (p k) (named k) (own k c.links_at.ensures c.leading_boxes.ensures.0 c.index_of.ensures c.if-leading_boxes-index_of.false) (whole k c.value_whole.ensures c.if-not-value_whole.false) ns i (sym barred ∙ c.if-barred.true)),
+      λ i ns barred. sym (move_barred (env k) (nv k) (p k) (named k) (own k refl c.leading_boxes.ensures.0 c.index_of.ensures c.if-leading_boxes-index_of.false) (whole k c.value_whole.ensures c.if-not-value_whole.false) ns i (sym barred ∙ c.if-barred.true)),
       c.requires.0,
     )
 
-pub roots_at-roots-requires : goal.roots_at-roots-requires
-roots_at-roots-requires c =
-    let k = (goal.at.roots_at-roots-requires c).In_ok-rest in
-    omega (arith, inside k, c.requires.0.0)
+pub bounds-env-root-2 : goal.bounds-env-root-2
+bounds-env-root-2 c =
+    omega (arith, c.requires.0.0, named_inside _ _ (named_at _ _ 0 (as_place c.args.place) (c.judge_named.ensures 0) c.in_ok-rest.was) _ c.index_of-root.ensures _ c.requires)
 
 pub move_away-requires : goal.move_away-requires
 move_away-requires c =
@@ -105,6 +106,6 @@ pub returns : goal.returns
 returns c =
     let k = (goal.at.returns c).In_ok-rest in (
       λ i ns barred. c.value_of.ensures _ i
-          ∙ move_there (env k) (nv k) (p k) (named k) (own k c.links_at.ensures c.leading_boxes.ensures.0 c.index_of.ensures c.if-leading_boxes-index_of.false) (whole k c.value_whole.ensures c.if-not-value_whole.false) _ c.move_away.ensures.2 _ (is_root k) _ c.roots_at-roots.ensures c.move_away.ensures.0 ns i (sym barred ∙ c.if-barred.false),
+          ∙ move_there (env k) (nv k) (p k) (named k) (own k refl c.leading_boxes.ensures.0 c.index_of.ensures c.if-leading_boxes-index_of.false) (whole k c.value_whole.ensures c.if-not-value_whole.false) _ c.move_away.ensures.2 _ (is_root k) _ refl c.move_away.ensures.0 ns i (sym barred ∙ c.if-barred.false),
       c.move_away.ensures.1,
     )

@@ -1,6 +1,6 @@
 -- `rules::rules::judge_place` meets its contract. Assumes nothing.
 use native.Mathlib.Omega.{arith}
-use mathlib.Core.Path.{◌≡◌, ap, ◌∙◌}
+use mathlib.Core.Path.{◌≡◌, refl, ap, ◌∙◌}
 use Rattle.std.specs.Prelude.{Ok}
 use Rattle.variables.specs.Table.{environment_of, as_place}
 use Rattle.rules.specs.RuleAnswers.{Named}
@@ -28,9 +28,9 @@ search-requires c = (
   search_fits _ _ (named (goal.at.search-requires c).After-index_of) _ (is_root (goal.at.search-requires c).After-index_of) _ c.index_of.ensures,
 )
 
-pub links_at-requires : goal.links_at-requires
-links_at-requires c =
-    omega (arith, c.requires.0.0, named_inside _ _ (named (goal.at.links_at-requires c).After-index_of) _ (is_root (goal.at.links_at-requires c).After-index_of) _ c.requires)
+pub bounds-env-root : goal.bounds-env-root
+bounds-env-root c =
+    omega (arith, c.requires.0.0, named_inside _ _ (named_at _ _ 0 (as_place c.args.place) (c.judge_named.ensures 0) c.in_ok-rest.was) _ c.index_of-root.ensures _ c.requires)
 
 pub returns-in_err-rest : goal.returns-in_err-rest
 returns-in_err-rest c =
@@ -43,7 +43,7 @@ returns-in-Own c =
 
 pub returns-in-At : goal.returns-in-At
 returns-in-At c =
-    λ i. place_there _ _ c.requires i _ (named (goal.at.returns-in-At c).After-index_of) _ (is_root (goal.at.returns-in-At c).After-index_of) _ c.index_of.ensures _ c.search.ensures _ (c.in_ok-ends.was ∙ ap Ok c.in-At.is) _ c.links_at.ensures
+    λ i. place_there _ _ c.requires i _ (named (goal.at.returns-in-At c).After-index_of) _ (is_root (goal.at.returns-in-At c).After-index_of) _ c.index_of.ensures _ c.search.ensures _ (c.in_ok-ends.was ∙ ap Ok c.in-At.is) _ refl
 
 pub returns-in_err-ends : goal.returns-in_err-ends
 returns-in_err-ends c =

@@ -8,6 +8,7 @@ use mathlib.Core.Option.{none}
 use lib.ListN.{take}
 use Rattle.syntax.specs.Result.{◌>>=◌}
 use Rattle.syntax.specs.Script.{Place}
+use Rattle.variables.specs.declared.table.Row.{Row}
 use Rattle.statics.specs.Links.{last_shared}
 use Rattle.statics.specs.Follow.{value_whole}
 use Rattle.statics.specs.Uses.{Unfinished}
@@ -25,7 +26,7 @@ use Rattle.rules.proofs.rules.judge_shared.Goals.{After-index_of-root, After-las
 
 -- Where the place is readable; the code has its root as `root`.
 module _ (k : After-index_of-root) where
-  abbrev env : List ℕ
+  abbrev env : List Row
   env = k.args.env.now
 
   abbrev p : Place
@@ -53,10 +54,11 @@ module _ (c : After-last_shared-passed) where
   follows = c.index_of.result
 
   last : last_shared (take follows (chain_of (links_at c.args.env.now c.index_of-root.result))) ≡ as_passed c.last_shared-passed.result
-  last = ap (λ (n : ℕ). last_shared (take follows (chain_of n))) (sym c.links_at.ensures) ∙ sym c.last_shared-passed.ensures
+  last = sym c.last_shared-passed.ensures
 
-pub links_at-requires : goal.links_at-requires
-links_at-requires c = omega (arith, inside (goal.at.links_at-requires c).After-index_of-root, c.requires.0.0)
+pub bounds-env-root : goal.bounds-env-root
+bounds-env-root c =
+    omega (arith, c.requires.0.0, named_inside _ _ (whole_at _ _ _ c.judge_readable.ensures.1 c.in_ok-rest.was).0 _ c.index_of-root.ensures _ c.requires)
 
 pub only-requires : goal.only-requires
 only-requires c =

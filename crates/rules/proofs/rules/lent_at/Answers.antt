@@ -1,6 +1,6 @@
 -- `rules::rules::lent_at` meets its contract. Assumes nothing.
 use native.Mathlib.Omega.{arith}
-use mathlib.Core.Path.{ap, ◌∙◌}
+use mathlib.Core.Path.{refl, ap, ◌∙◌}
 use Rattle.std.specs.Prelude.{Ok}
 use Rattle.variables.specs.Table.{variable_at}
 use Rattle.variables.proofs.EntryLaws.{live_inside}
@@ -10,8 +10,8 @@ use Rattle.rules.proofs.rules.lent_at.Goals as goal
 pub search-requires : goal.search-requires
 search-requires c = let pre = c.requires in (pre.0, pre.1.is, pre.1.long)
 
-pub roots_at-requires : goal.roots_at-requires
-roots_at-requires c =
+pub bounds-env-root : goal.bounds-env-root
+bounds-env-root c =
     let env = c.args.env.now in
     let root = c.args.root in
     omega (arith, live_inside env c.args.variables c.requires.0.0 root (variable_at env root) c.requires.1.is, c.requires.0.0.0)
@@ -24,7 +24,7 @@ borrows_at-requires c = (
 
 pub returns-in-Own : goal.returns-in-Own
 returns-in-Own c =
-    λ i. lent_own _ _ c.requires.0 i _ _ c.requires.1 _ c.search.ensures (c.in-Ok.is ∙ ap Ok c.in-Own.is) _ c.roots_at.ensures
+    λ i. lent_own _ _ c.requires.0 i _ _ c.requires.1 _ c.search.ensures (c.in-Ok.is ∙ ap Ok c.in-Own.is) _ refl
 
 pub returns-in-At : goal.returns-in-At
 returns-in-At c =

@@ -17,6 +17,7 @@ use Rattle.syntax.specs.RowParts.{field_at}
 use Rattle.syntax.specs.RowTrees.{RowTree, tree_at, IsTree}
 use Rattle.syntax.proofs.RowTreeLaws.{has_level, has_room, block_rest, rest_one, rest_first}
 use Rattle.syntax.proofs.ChoiceRows.{choice_rows}
+use Rattle.variables.specs.declared.table.Row.{Row}
 use Rattle.statics.specs.Environment.{Environment}
 use Rattle.statics.specs.Uses.{Unfinished, finishing}
 use Rattle.statics.specs.Bars.{read_barred}
@@ -118,7 +119,7 @@ module _ (t : ℕ) (k : judge_branches-In_ok-first t) where
   abbrev one : Judged
   one = k.in_ok-first.first
 
-  abbrev env₁ : List ℕ
+  abbrev env₁ : List Row
   env₁ = k.judge_terms.new.env
 
   judged₁ : ok (told_as env₁ one) ≡ judge_at k.args.script.now.variables (inside (k.args.i + 1)) k.args.level later Γ
