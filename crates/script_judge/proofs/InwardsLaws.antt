@@ -21,6 +21,7 @@ use Rattle.statics.specs.Neat.{Neat}
 use Rattle.std.specs.Prelude as prelude
 use Rattle.syntax.specs.declared.refusals.Refusal as answer
 use Rattle.term_judge.specs.declared.terms.Judged as code
+use Rattle.variables.specs.declared.table.Row.{Row}
 use Rattle.variables.specs.Table.{environment_of}
 use Rattle.variables.specs.Verdicts.{as_value}
 use Rattle.uses.specs.RowUses.{later_in}
@@ -177,7 +178,7 @@ module _ (nv levels : ℕ) (rows : List ℕ) (i : ℕ) (later : ℕ → Unfinish
           rw w (I.0, I.1, rw w at f ∙ ap (after_at nv level rows (i + n) (inside n)) O.2 ∙ sym (step n O.0 I.0 I.1 I.2))
 
       -- What is known of the table after the inner term.
-      pub outwards_ready : (n m : ℕ) → n ≡ suc m → Neat nv Γ₀ level → (env : List ℕ) (inner : prelude.Result code.Judged answer.Refusal) → Outwards level Γ₀ n (ended env inner) → AfterReady nv level rows (i + m) env inner
+      pub outwards_ready : (n m : ℕ) → n ≡ suc m → Neat nv Γ₀ level → (env : List Row) (inner : prelude.Result code.Judged answer.Refusal) → Outwards level Γ₀ n (ended env inner) → AfterReady nv level rows (i + m) env inner
       unfolding Inwards
       outwards_ready zero m q N env inner O = absurd (omega arith)
       outwards_ready (suc n) m q N env inner O =
