@@ -34,8 +34,8 @@ store_rows l = l.variables + l.boxes
 unfoldable pub store_numbers : Limits → ℕ
 store_numbers l = 3 * store_rows l
 
--- The set that one number stands for: variables, boxes, levels and terms, the variables lowest; and the version above them. The code hands
--- both down in this form.
+-- The set that one number stands for: variables, boxes, levels and terms, the variables lowest; and the version above them, as
+-- `syntax::limits::packed` and `with_version` make it.
 abbrev pub unpacked : ℕ → Limits
 unpacked sizes = record { terms = sizes / 4194304 % 8192; variables = sizes % 256; boxes = sizes / 256 % 256; levels = sizes / 65536 % 64 }
 
