@@ -19,7 +19,7 @@ use term_runner::skip::{chosen, past_choice};
 // What a run is lent and only reads: the limits (LANGUAGE 2.8), the term rows and the readings.
 #[derive(Clone, Copy)]
 pub struct Script<'a> {
-    pub limits: &'a Limits,
+    pub limits: Limits,
     pub rows: &'a [u32],
     pub readings: &'a [i32],
 }
@@ -32,10 +32,10 @@ fn run_plain(
     count: usize,
     taken: usize,
 ) -> Result<Standing, Refusal>
-    requires { LeafReady script.now.limits.now script.now.rows.now i script.now.readings.now store.old × (i < script.now.limits.now.terms) }
-    ensures { PlainRan script.now.limits.now script.now.rows.now i script.now.readings.now store.old count taken store.new result }
+    requires { LeafReady script.now.limits script.now.rows.now i script.now.readings.now store.old × (i < script.now.limits.terms) }
+    ensures { PlainRan script.now.limits script.now.rows.now i script.now.readings.now store.old count taken store.new result }
 {
-    match run_leaf(script.limits, script.rows, i, script.readings, store) {
+    match run_leaf(&script.limits, script.rows, i, script.readings, store) {
         Ok(value) => Ok(Standing {
             value,
             taken,
@@ -54,23 +54,23 @@ fn run_after(
     opened: &mut [u8],
     inner: Standing,
 ) -> Result<Standing, Refusal>
-    requires { AfterReady script.now.limits.now script.now.rows.now i store.old opened.old inner }
-    ensures { AfterRan script.now.limits.now script.now.rows.now i store.old opened.old inner store.new opened.new result }
+    requires { AfterReady script.now.limits script.now.rows.now i store.old opened.old inner }
+    ensures { AfterRan script.now.limits script.now.rows.now i store.old opened.old inner store.new opened.new result }
 {
     let Ok(kind) = Kind::try_from(field_at(script.rows, i, 0)) else {
         unreachable!();
     };
     match kind {
-        Kind::Box => Ok(run_box(script.limits, store, inner)),
+        Kind::Box => Ok(run_box(&script.limits, store, inner)),
         Kind::Let => run_let(
-            script.limits,
+            &script.limits,
             store,
             opened,
             i,
             field_at(script.rows, i, 1),
             inner,
         ),
-        Kind::Assign => run_assign(script.limits, store, i, place_at(script.rows, i, 1), inner),
+        Kind::Assign => run_assign(&script.limits, store, i, place_at(script.rows, i, 1), inner),
         _ => unreachable!(),
     }
 }
@@ -87,16 +87,16 @@ fn run_choice(
     count: usize,
     taken: usize,
 ) -> Result<Standing, Refusal>
-    requires { TermReady script.now.limits.now script.now.rows.now i levels script.now.readings.now store.old opened.old count taken × (field_at script.now.rows.now i 0 ≡ 12) }
-    ensures { TermRan script.now.limits.now script.now.rows.now i levels script.now.readings.now store.old opened.old count taken store.new opened.new result }
+    requires { TermReady script.now.limits script.now.rows.now i levels script.now.readings.now store.old opened.old count taken × (field_at script.now.rows.now i 0 ≡ 12) }
+    ensures { TermRan script.now.limits script.now.rows.now i levels script.now.readings.now store.old opened.old count taken store.new opened.new result }
 {
-    let number = match run_number(script.limits, store, place_at(script.rows, i, 1)) {
+    let number = match run_number(&script.limits, store, place_at(script.rows, i, 1)) {
         Ok(number) => number,
         Err(reason) => return Err(Refusal { reason, place: i }),
     };
     let block = chosen(script.rows, i, number);
     let inner = run_block(script, block, levels - 1 - 1, store, opened, count, taken)?;
-    let ran = close_block(script.limits, store, opened, block, count, inner)?;
+    let ran = close_block(&script.limits, store, opened, block, count, inner)?;
     Ok(past_choice(script.rows, number, ran))
 }
 
@@ -111,8 +111,8 @@ fn run_inmost(
     count: usize,
     taken: usize,
 ) -> Result<Standing, Refusal>
-    requires { TermReady script.now.limits.now script.now.rows.now i levels script.now.readings.now store.old opened.old count taken × (wraps_of (field_at script.now.rows.now i 0) ≡ false) }
-    ensures { TermRan script.now.limits.now script.now.rows.now i levels script.now.readings.now store.old opened.old count taken store.new opened.new result }
+    requires { TermReady script.now.limits script.now.rows.now i levels script.now.readings.now store.old opened.old count taken × (wraps_of (field_at script.now.rows.now i 0) ≡ false) }
+    ensures { TermRan script.now.limits script.now.rows.now i levels script.now.readings.now store.old opened.old count taken store.new opened.new result }
 {
     let Ok(kind) = Kind::try_from(field_at(script.rows, i, 0)) else {
         unreachable!();
@@ -120,7 +120,7 @@ fn run_inmost(
     match kind {
         Kind::Block => {
             let inner = run_block(script, i, levels - 1, store, opened, count, taken)?;
-            close_block(script.limits, store, opened, i, count, inner)
+            close_block(&script.limits, store, opened, i, count, inner)
         }
         Kind::Choice => run_choice(script, i, levels, store, opened, count, taken),
         _ => run_plain(script, i, store, count, taken),
@@ -140,8 +140,8 @@ fn run_term(
     count: usize,
     taken: usize,
 ) -> Result<Standing, Refusal>
-    requires { TermReady script.now.limits.now script.now.rows.now i levels script.now.readings.now store.old opened.old count taken }
-    ensures { TermRan script.now.limits.now script.now.rows.now i levels script.now.readings.now store.old opened.old count taken store.new opened.new result }
+    requires { TermReady script.now.limits script.now.rows.now i levels script.now.readings.now store.old opened.old count taken }
+    ensures { TermRan script.now.limits script.now.rows.now i levels script.now.readings.now store.old opened.old count taken store.new opened.new result }
 {
     let mut around = 0;
     while wraps(field_at(script.rows, i + around, 0)) {
@@ -168,8 +168,8 @@ pub fn run_block(
     count: usize,
     taken: usize,
 ) -> Result<Standing, Refusal>
-    requires { BlockReady script.now.limits.now script.now.rows.now block levels script.now.readings.now store.old opened.old count taken }
-    ensures { BlockRan script.now.limits.now script.now.rows.now block levels script.now.readings.now store.old opened.old count taken store.new opened.new result }
+    requires { BlockReady script.now.limits script.now.rows.now block levels script.now.readings.now store.old opened.old count taken }
+    ensures { BlockRan script.now.limits script.now.rows.now block levels script.now.readings.now store.old opened.old count taken store.new opened.new result }
 {
     let terms = index_at(script.rows, block, 1);
     let mut at = Standing {
@@ -179,7 +179,7 @@ pub fn run_block(
         next: block + 1,
     };
     for _ in 0..terms {
-        if let Err(reason) = drop_value(script.limits, store, at.value) {
+        if let Err(reason) = drop_value(&script.limits, store, at.value) {
             return Err(Refusal {
                 reason,
                 place: block,

@@ -7,7 +7,7 @@ ghost use Rattle.machine.specs.Outcomes.{told_ran, told_unchecked};
 ghost use Rattle.dynamics.specs.Answers.{unchecked_of};
 ghost use Rattle.machine.specs.ScriptParts.{fit_of, RunReady};
 
-use block_runner::terms::run_block;
+use block_runner::terms::{Script, run_block};
 use signed::signed::number_of;
 use store::store::{Value, clear};
 use syntax::limits;
@@ -49,7 +49,12 @@ fn run_script(
 {
     clear(store);
     let deeper = limits.levels as usize - 1;
-    let inner = run_block(limits, rows, 0, deeper, readings, store, opened, 0, 0)?;
+    let script = Script {
+        limits: *limits,
+        rows,
+        readings,
+    };
+    let inner = run_block(&script, 0, deeper, store, opened, 0, 0)?;
     let ran = close_block(limits, store, opened, 0, 0, inner)?;
     match ran.value {
         Value::Number(bits) => Ok(Ran {

@@ -1,21 +1,21 @@
 -- A line as the code puts it together: text after text in the buffer, and numbers in decimal digits, which always fit it.
-use Prim.Native.Nat.{ℕ, zero, suc, ◌+◌, ◌-◌, ◌*◌, ◌/◌, ◌%◌, ◌≤◌, ◌<◌}
+use Prim.Native.Nat.{ℕ, zero, suc, ◌+◌, ◌*◌, ◌/◌, ◌%◌, ◌≤◌, ◌<◌}
 use native.Mathlib.Omega.{arith}
-use native.Mathlib.Numerals.{add-one}
 use mathlib.Core.Bool.{Bool, true, false}
-use mathlib.Core.Path.{◌≡◌, refl, sym, ap, ◌∙◌}
-use mathlib.Core.List.{List, [], ◌∷◌, ◌++◌}
+use mathlib.Core.Path.{◌≡◌, refl, ap, ◌∙◌}
+use mathlib.Core.List.{List, [], ◌∷◌, ◌++◌, append_assoc}
 use lib.Dec.{ltb}
-use lib.IntN.{ℤ, pos, negsuc}
-use lib.ListN.{length, get_or, take, set, length-append}
-use lib.Seq.{sets, take-suc, take_all}
+use lib.IntN.{ℤ, pos, negsuc, nat_abs}
+use lib.Signed.{lt_z}
+use lib.ListN.{length, length-append}
 use mir.Syntax.{w32, w64}
-use mir.Val.{Fits, SFits, of_z}
+use mir.Facts.{to_z-of_z}
+use mir.Val.{Fits, SFits}
 use borrow.Author.Tests.{lt-ltb, le-ltb, ltb-true, ltb-false}
 use Rattle.syntax.specs.Result.{pick}
-use Rattle.syntax.proofs.Lists.{sets_append}
 use Rattle.program.specs.Line.{digits_by, decimal, signed}
-use Rattle.room.specs.Parts.{Put}
+use Rattle.program.specs.declared.line.Text.{Text}
+use Rattle.program.specs.Texts.{text_in, Appended}
 
 -- Any bounds that are no less than the number give the same digits.
 digits_enough : (k m n : ℕ) → n ≤ k → n ≤ m → digits_by k n ≡ digits_by m n
@@ -69,43 +69,35 @@ pub decimal_half : (n : ℕ) → n ≤ 2147483648 → length (decimal n) ≤ 10
 unfolding digits_hold
 decimal_half n h = decimal_short 9 n (omega arith)
 
--- A text of which i bytes are put, and one byte more.
-pub text_put : (line₀ line text : List ℕ) (at i : ℕ) → i < length text → line ≡ sets line₀ at (take i text) → length (take i text) ≡ i → set line (at + i) (get_or text i 0) ≡ sets line₀ at (take (i + 1) text)
-text_put line₀ line text at i h e l =
-    ap (λ (x : List ℕ). set x (at + i) (get_or text i 0)) e
-    ∙ sets_append line₀ at (take i text) (get_or text i 0 ∷ []) (at + i) (omega (arith, l))
-    ∙ ap (sets line₀ at) (sym (take-suc text i 0 h) ∙ ap (λ (k : ℕ). take k text) (sym (add-one i)))
-
--- The whole text is put.
-pub text_all : (line₀ line text : List ℕ) (at i : ℕ) → i ≤ length text → length text ≤ i → line ≡ sets line₀ at (take i text) → Put line₀ at text (at + i) line
-text_all line₀ line text at i h g e = record { ends = omega arith; stored = e ∙ ap (sets line₀ at) (take_all i text g) }
-
 -- One text after another.
-module _ (line₀ line₁ line₂ : List ℕ) (at mid end : ℕ) (a b : List ℕ) where
-  pub put_next : Put line₀ at a mid line₁ → Put line₁ mid b end line₂ → Put line₀ at (a ++ b) end line₂
-  put_next p q =
-      record { ends = omega (arith, length-append a b); stored = q.stored ∙ ap (λ (x : List ℕ). sets x mid b) p.stored ∙ sets_append line₀ at a b mid p.ends }
+pub append_next : {a b c : Text} {x y : List ℕ} → Appended a x b → Appended b y c → Appended a (x ++ y) c
+append_next {a} {b} {c} {x} {y} p q = record {
+  ends = omega (arith, p.ends, q.ends, length-append x y);
+  holds = q.holds ∙ ap (λ (k : List ℕ). k ++ y) p.holds ∙ append_assoc (text_in a) x y;
+}
 
 -- The digits of a number below 10, and those of a tenth with the last one behind.
-module _ (line₀ line₁ : List ℕ) (at end n digit : ℕ) where
-  pub digit_put : n < 10 → digit ≡ 48 + n → Put line₀ at (digit ∷ []) end line₁ → Put line₀ at (decimal n) end line₁
-  digit_put h e p = rw (decimal_one n h, ← e) p
+pub digit_put : {a b : Text} (n digit : ℕ) → n < 10 → digit ≡ 48 + n → Appended a (digit ∷ []) b → Appended a (decimal n) b
+digit_put n digit h e p = rw (decimal_one n h, ← e) p
 
-  pub digits_put : 10 ≤ n → (line : List ℕ) (mid : ℕ) → Put line₀ at (decimal (n / 10)) mid line → digit ≡ 48 + n % 10 → Put line mid (digit ∷ []) end line₁ → Put line₀ at (decimal n) end line₁
-  digits_put h line mid p e q = rw (decimal_more n h, ← e) (put_next line₀ line line₁ at mid end (decimal (n / 10)) (digit ∷ []) p q)
+pub digits_put : {a b c : Text} (n digit : ℕ) → 10 ≤ n → digit ≡ 48 + n % 10 → Appended a (decimal (n / 10)) b → Appended b (digit ∷ []) c → Appended a (decimal n) c
+digits_put n digit h e p q = rw (decimal_more n h, ← e) (append_next p q)
 
--- A signed number, from its 32 bits.
-pub signed_low : (z : ℤ) (b : ℕ) → SFits w32 z → b ≡ of_z w32 z → b < 2147483648 → signed z ≡ decimal b
+-- A signed number, by its sign.
+pub signed_plain : (z : ℤ) → lt_z z (pos 0) ≡ false → signed z ≡ decimal (nat_abs z)
 unfolding signed
-signed_low (pos n) b h e l = ap decimal (sym e)
-signed_low (negsuc n) b h e l = absurd (omega (arith, h.sfits))
+signed_plain (pos n) h = refl
+signed_plain (negsuc n) h = let z : ◌≡◌ {A = ℕ} 0 1 = cc in absurd (omega arith)
 
-pub signed_high : (z : ℤ) (b : ℕ) → SFits w32 z → b ≡ of_z w32 z → 2147483648 ≤ b → signed z ≡ (45 ∷ []) ++ decimal (4294967296 - b)
+pub signed_minus : (z : ℤ) → lt_z z (pos 0) ≡ true → signed z ≡ (45 ∷ []) ++ decimal (nat_abs z)
 unfolding signed
-signed_high (pos n) b h e l = absurd (omega (arith, h.sfits))
-signed_high (negsuc n) b h e l = ap (λ (k : ℕ). 45 ∷ decimal k) (omega (arith, h.sfits))
+signed_minus (pos n) h = absurd (omega (arith, ltb-true n 0 h))
+signed_minus (negsuc n) h = refl
 
 pub signed_short : (z : ℤ) → SFits w32 z → length (signed z) ≤ 11
 unfolding signed
 signed_short (pos n) h = omega (arith, decimal_half n (omega (arith, h.sfits)))
 signed_short (negsuc n) h = omega (arith, decimal_half (suc n) (omega (arith, h.sfits)))
+
+-- How long numbers are at most, for what puts several.
+pub ruleset lengths = (decimal_word, signed_short, to_z-of_z)

@@ -1,105 +1,110 @@
-// The line of an answer (LANGUAGE 6.11), put into a buffer. 80 bytes hold every line that the numbers' types allow. A
-// function that puts bytes puts them from offset `at` on, and answers the offset after them.
-ghost use Rattle.std.specs.Prelude.{◌≡◌, ◌∷◌, [], ◌++◌, ◌+◌, ◌≤◌, ◌<◌, length};
+// The line of an answer (LANGUAGE 6.11), put together from its front on. `write!` is not used: the library says what it
+// wrote where it went well, and not that it goes well where there is room, and every input has a line here.
+ghost use Rattle.std.specs.Prelude.{◌≡◌, ◌+◌, ◌≤◌, length};
 ghost use Rattle.room.specs.Calling.{called, refused, told_call};
-ghost use Rattle.program.specs.Line.{decimal, signed, line_of};
-ghost use Rattle.room.specs.Parts.{Put};
+ghost use Rattle.program.specs.Line.{decimal, signed, line_of, in_front};
+ghost use Rattle.program.specs.Texts.{text_in, Appended};
 
+use crate::report::LINE;
 use room::Called;
-use signed::signed::bits_of;
+use syntax::refusals::Refusal;
 
-fn put_byte(line: &mut [u8], at: usize, byte: u8) -> usize
-    requires { at < length line.old }
-    ensures { Put line.old at (byte ∷ []) result line.new }
-{
-    line[at] = byte;
-    at + 1
+// The bytes so far: there is no heap, so an array and the length that is in use. There is room for every line that the
+// numbers' types allow.
+#[derive(Drop)]
+pub struct Text {
+    bytes: [u8; LINE],
+    length: usize,
 }
 
-pub fn put_text(line: &mut [u8], at: usize, text: &[u8]) -> usize
-    requires { at + length text.now ≤ length line.old }
-    ensures { Put line.old at text.now result line.new }
-{
-    let mut i = 0;
-    while i < text.len() {
-        line[at + i] = text[i];
-        i += 1;
+impl Text {
+    pub fn new() -> Text
+        ensures { result.length ≡ 0 }
+    {
+        Text {
+            bytes: [0; LINE],
+            length: 0,
+        }
     }
-    at + i
-}
 
-fn put_decimal(line: &mut [u8], at: usize, n: usize) -> usize
-    requires { at + length (decimal n) ≤ length line.old }
-    ensures { Put line.old at (decimal n) result line.new }
-{
-    if n < 10 {
-        return put_byte(line, at, digit(n));
+    pub fn push(&mut self, text: &[u8])
+        requires { self.old.length + length text.now ≤ 80 }
+        ensures { Appended self.old text.now self.new }
+    {
+        let end = self.length + text.len();
+        self.bytes[self.length..end].copy_from_slice(text);
+        self.length = end;
     }
-    let last = put_decimal(line, at, n / 10);
-    put_byte(line, last, digit(n % 10))
-}
 
-// The ASCII code of a number below 10.
-fn digit(n: usize) -> u8
-    requires { n < 10 }
-    ensures { result ≡ 48 + n }
-{
-    48 + n as u8
-}
-
-fn put_signed(line: &mut [u8], at: usize, n: i32) -> usize
-    requires { at + length (signed n) ≤ length line.old }
-    ensures { Put line.old at (signed n) result line.new }
-{
-    let bits = bits_of(n) as usize;
-    if bits < 2147483648 {
-        return put_decimal(line, at, bits);
+    fn push_decimal(&mut self, n: usize)
+        requires { self.old.length + length (decimal n) ≤ 80 }
+        ensures { Appended self.old (decimal n) self.new }
+    {
+        if n < 10 {
+            self.push(&[b'0' + n as u8]);
+            return;
+        }
+        self.push_decimal(n / 10);
+        self.push(&[b'0' + (n % 10) as u8]);
     }
-    let first = put_byte(line, at, b'-');
-    put_decimal(line, first, 4294967296 - bits)
-}
 
-// A text, and a number after it.
-fn put_labelled(line: &mut [u8], at: usize, label: &[u8], n: usize) -> usize
-    requires { at + length label.now + 20 ≤ length line.old }
-    ensures put { Put line.old at (label.now ++ decimal n) result line.new }
-    ensures within { result ≤ at + length label.now + 20 }
-{
-    let number = put_text(line, at, label);
-    put_decimal(line, number, n)
-}
+    fn push_signed(&mut self, n: i32)
+        requires { self.old.length + length (signed n) ≤ 80 }
+        ensures { Appended self.old (signed n) self.new }
+    {
+        if n < 0 {
+            self.push(b"-");
+        }
+        self.push_decimal(n.unsigned_abs() as usize);
+    }
 
-// The next three put a whole line at the front of the buffer.
+    #[tactic(auto, using(crate::proofs::LineLaws::lengths))]
+    fn push_accepted(&mut self, call: Called)
+        requires { self.old.length ≡ 0 }
+        ensures put { Appended self.old (line_of (called call.terms call.answer call.cells)) self.new }
+        ensures within { self.new.length ≤ 80 }
+    {
+        self.push(b"accepted ");
+        self.push_decimal(call.terms);
+        self.push(b" call ");
+        self.push_signed(call.answer);
+        self.push(b" cells ");
+        self.push_decimal(call.cells);
+        self.push(b"\n");
+    }
 
-fn put_answered(line: &mut [u8], terms: usize, answer: i32, cells: usize) -> usize
-    requires { 80 ≤ length line.old }
-    ensures put { Put line.old 0 (line_of (called terms answer cells)) result line.new }
-    ensures within { result ≤ 80 }
-{
-    let a = put_labelled(line, 0, b"accepted ", terms);
-    let b = put_text(line, a, b" call ");
-    let c = put_signed(line, b, answer);
-    let d = put_labelled(line, c, b" cells ", cells);
-    put_text(line, d, b"\n")
-}
+    #[tactic(auto, using(crate::proofs::LineLaws::lengths))]
+    fn push_refused(&mut self, number: u32, place: usize)
+        requires { self.old.length ≡ 0 }
+        ensures put { Appended self.old (line_of (refused number place)) self.new }
+        ensures within { self.new.length ≤ 80 }
+    {
+        self.push(b"refused ");
+        self.push_decimal(number as usize);
+        self.push(b" at ");
+        self.push_decimal(place);
+        self.push(b"\n");
+    }
 
-fn put_refused(line: &mut [u8], number: usize, place: usize) -> usize
-    requires { 80 ≤ length line.old }
-    ensures put { Put line.old 0 (line_of (refused number place)) result line.new }
-    ensures within { result ≤ 80 }
-{
-    let a = put_labelled(line, 0, b"refused ", number);
-    let b = put_labelled(line, a, b" at ", place);
-    put_text(line, b, b"\n")
-}
+    // The whole line of a call's answer.
+    pub fn push_answer(&mut self, answer: Result<Called, Refusal>)
+        requires { self.old.length ≡ 0 }
+        ensures put { Appended self.old (line_of (told_call answer)) self.new }
+        ensures within { self.new.length ≤ 80 }
+    {
+        match answer {
+            Ok(call) => self.push_accepted(call),
+            Err(refusal) => self.push_refused(refusal.reason.number(), refusal.place),
+        }
+    }
 
-pub fn put_called(line: &mut [u8], called: Called) -> usize
-    requires { 80 ≤ length line.old }
-    ensures put { Put line.old 0 (line_of (told_call called)) result line.new }
-    ensures within { result ≤ 80 }
-{
-    match called {
-        Called::Answered(terms, answer, cells) => put_answered(line, terms, answer, cells),
-        Called::Refused(number, place) => put_refused(line, number as usize, place),
+    // At the front of a buffer, whose bytes behind it stay; the answer is the length.
+    pub fn put(&self, line: &mut [u8; LINE]) -> usize
+        requires { self.now.length ≤ 80 }
+        ensures length { result ≡ self.now.length }
+        ensures put { line.new ≡ in_front (text_in self.now) line.old }
+    {
+        line[..self.length].copy_from_slice(&self.bytes[..self.length]);
+        self.length
     }
 }

@@ -3,10 +3,8 @@ ghost use Rattle.std.specs.Prelude.{◌≡◌, ◌≤◌, length};
 ghost use Rattle.room.specs.Calling.{reading_at};
 ghost use Rattle.program.specs.Line.{readings_of, report_of, base_report_of};
 
-use crate::line;
+use crate::line::Text;
 use room::call;
-use signed::signed::number_of;
-use syntax::fields::word_at;
 use syntax::limits;
 use syntax::limits::Limits;
 
@@ -25,33 +23,25 @@ pub const STORE: usize = 3 * (limits::BASE.variables as usize + limits::BASE.box
 fn reading_at(input: &[u8], at: usize) -> i32
     ensures { result ≡ reading_at input.now at }
 {
-    if input.len() < 4 {
+    if input.len().saturating_sub(3) <= at {
         return 0;
     }
-    if input.len() - 4 < at {
-        return 0;
-    }
-    number_of(word_at(input, at))
+    i32::from_be_bytes([input[at], input[at + 1], input[at + 2], input[at + 3]])
 }
 
 // The eight readings at the front of the input (LANGUAGE 6.10).
 fn readings_of(input: &[u8]) -> [i32; 8]
     ensures { result ≡ readings_of input.now }
 {
-    [
-        reading_at(input, 0),
-        reading_at(input, 4),
-        reading_at(input, 8),
-        reading_at(input, 12),
-        reading_at(input, 16),
-        reading_at(input, 20),
-        reading_at(input, 24),
-        reading_at(input, 28),
-    ]
+    let mut readings = [0; 8];
+    for i in 0..8 {
+        readings[i] = reading_at(input, 4 * i);
+    }
+    readings
 }
 
 // The program's work (LANGUAGE 6.9): the line for an input of eight readings and a script goes to the front of `line`,
-// and the answer is its length.
+// and the answer is its length. (No heap: who calls lends the bytes.)
 pub fn report(
     set: Limits,
     input: &[u8],
@@ -62,12 +52,15 @@ pub fn report(
     ensures answered { (result, (rows.new, (store.new, line.new))) ≡ report_of set input.now rows.old store.old line.old }
     ensures within { result ≤ length line.new }
 {
+    let mut text = Text::new();
     if input.len() < READINGS {
-        return line::put_text(line, 0, b"readings short\n");
+        text.push(b"readings short\n");
+        return text.put(line);
     }
     let readings = readings_of(input);
-    let called = call(set, &input[READINGS..], &readings, rows, store);
-    line::put_called(line, called)
+    let answer = call(set, &input[READINGS..], &readings, rows, store);
+    text.push_answer(answer);
+    text.put(line)
 }
 
 // The program's work (LANGUAGE 6.9) under the language's own set (2.8), with rows and store of its own.

@@ -1,6 +1,5 @@
--- What the parts of `run`, of `call` and of `report` answer. No rule of the language is stated here.
-use Rattle.std.specs.Prelude.{ℕ, ◌+◌, ◌≡◌, List, ℤ, length}
-use Rattle.std.proofs.lemmas.List.Edits.{sets}
+-- What the parts of `run` and of `call` ask and answer. No rule of the language is stated here.
+use Rattle.std.specs.Prelude.{ℕ, ◌≡◌, List, ℤ, length}
 use Rattle.syntax.specs.Result.{ok}
 use Rattle.syntax.specs.Limits.{Limits, store_numbers}
 use Rattle.dynamics.specs.Answers as unchecked
@@ -19,8 +18,3 @@ pub record RunAccepted (l : Limits) (rows : List ℕ) (readings : List ℤ) (sto
   pub accepted : check_of l rows ≡ ok terms
   pub eight : length readings ≡ 8
   pub size : length store ≡ store_numbers l
-
--- A text put into a line from offset `at` on: the offset after it, and the line afterwards.
-pub record Put (line : List ℕ) (at : ℕ) (text : List ℕ) (end : ℕ) (after : List ℕ) : Type 0 where
-  pub ends : end ≡ at + length text
-  pub stored : after ≡ sets line at text

@@ -2,45 +2,36 @@
 // `program::report::report_base` makes of them. Where reading fails there is no line: what was read may not be the whole input.
 #![tactic(auto)]
 
-ghost use Rattle.std.specs.Prelude.{length};
-ghost use Rattle.roomcheck.specs.Input.{Within};
+ghost use Rattle.std.specs.Prelude.{◌≤◌, length, IfOk};
 
+use std::io;
 use std::io::{ErrorKind, Read, Write};
 use syntax::limits;
 
 // The readings, and one byte more than a script may have: what follows changes nothing.
 const CAPACITY: usize = program::report::READINGS + limits::BYTES + 1;
 
-// The number of bytes read when the input ended or the buffer was full; or an error before that.
-#[derive(Drop)]
-enum Input {
-    Whole(usize),
-    Failed,
-}
-
-// A read that a signal interrupted is tried again. Every loop has to end, so the reads are counted; so many of them
-// are out of reach.
-fn read_input<R: Read>(input: &mut R, buffer: &mut [u8]) -> Input
-    ensures { Within (length buffer.new) result }
+// How much of the buffer is filled when the input ends or the buffer is full. A read that a signal interrupted is tried
+// again. Every loop has to end, so the reads are counted; so many of them are out of reach.
+fn read_input<R: Read>(input: &mut R, buffer: &mut [u8]) -> io::Result<usize>
+    ensures { IfOk result (λ n. n ≤ length buffer.new) }
 {
     let mut done = 0;
-    let mut tries: u64 = 0xffff_ffff_ffff_ffff;
-    while done < buffer.len() {
-        if tries == 0 {
-            return Input::Failed;
+    for _ in 0..u64::MAX {
+        if done == buffer.len() {
+            return Ok(done);
         }
-        tries -= 1;
         match input.read(&mut buffer[done..]) {
-            Ok(0) => return Input::Whole(done),
+            Ok(0) => return Ok(done),
             Ok(more) => done += more,
             Err(e) => {
                 if e.kind() != ErrorKind::Interrupted {
-                    return Input::Failed;
+                    return Err(e);
                 }
             }
         }
     }
-    Input::Whole(done)
+    Err(io::Error::from(ErrorKind::Interrupted))
 }
 
 // What cannot be told on standard error either is not told.
@@ -52,7 +43,7 @@ fn complain(rt: &HostRuntime, text: &[u8]) {
 fn main(rt: HostRuntime) {
     let mut input = [0u8; CAPACITY];
     let mut from = rt.stdin();
-    let Input::Whole(n) = read_input(&mut from, &mut input) else {
+    let Ok(n) = read_input(&mut from, &mut input) else {
         complain(&rt, b"roomcheck: error while reading standard input\n");
         return;
     };

@@ -10,10 +10,7 @@ ghost use Rattle.room.specs.Running.{run_of};
 ghost use Rattle.room.specs.Calling.{call_of};
 ghost use Rattle.c_answers.specs.Answers.{script_in, terms_in, bytes_in, ran_in, unchecked_in, called_in, in_c, SafeRunInC, SafeCallInC};
 
-use c_answers::answers::{
-    Bytes, Call, Run, RunUnchecked, Script, Terms, c_bytes, c_called, c_checked, c_ran, c_script,
-    c_terms, c_unchecked,
-};
+use c_answers::answers::{Bytes, Call, Run, RunUnchecked, Script, Terms};
 use syntax::limits::Limits;
 
 #[unsafe(no_mangle)]
@@ -25,21 +22,21 @@ pub extern "C" fn roomscript_read(
 ) -> Script
     ensures { (result, rows.new) ≡ in_c script_in (read_of limits newest script.now rows.old) }
 {
-    c_script(reader::read(limits, newest, script, rows))
+    Script::from(reader::read(limits, newest, script, rows))
 }
 
 #[unsafe(no_mangle)]
 pub extern "C" fn roomscript_judge_rows(limits: Limits, rows: &[u32]) -> Terms
     ensures { result ≡ terms_in (judged_of limits rows.now) }
 {
-    c_terms(reader::judge_rows(limits, rows))
+    Terms::from(reader::judge_rows(limits, rows))
 }
 
 #[unsafe(no_mangle)]
 pub extern "C" fn roomscript_length(limits: Limits, version: u32, rows: &[u32]) -> Bytes
     ensures { result ≡ bytes_in (length_of limits version rows.now) }
 {
-    c_bytes(reader::length(limits, version, rows))
+    Bytes::from(reader::length(limits, version, rows))
 }
 
 #[unsafe(no_mangle)]
@@ -51,14 +48,14 @@ pub extern "C" fn roomscript_write(
 ) -> Bytes
     ensures { (result, output.new) ≡ in_c bytes_in (written_of limits version rows.now output.old) }
 {
-    c_bytes(reader::write(limits, version, rows, output))
+    Bytes::from(reader::write(limits, version, rows, output))
 }
 
 #[unsafe(no_mangle)]
 pub extern "C" fn roomscript_check(limits: Limits, rows: &[u32]) -> Terms
     ensures { result ≡ terms_in (check_of limits rows.now) }
 {
-    c_checked(ownership::check(limits, rows))
+    Terms::from(ownership::check(limits, rows))
 }
 
 #[unsafe(no_mangle)]
@@ -71,7 +68,7 @@ pub extern "C" fn roomscript_run(
     ensures answered { (result, store.new) ≡ in_c ran_in (run_of limits rows.now readings.now store.old) }
     ensures safe { SafeRunInC limits rows.now readings.now result store.old store.new }
 {
-    c_ran(room::run(limits, rows, readings, store))
+    Run::from(room::run(limits, rows, readings, store))
 }
 
 // For lessons and tests about what the check prevents; everything else calls `roomscript_run` (LANGUAGE 6.7).
@@ -84,7 +81,7 @@ pub extern "C" fn roomscript_run_unchecked(
 ) -> RunUnchecked
     ensures { (result, store.new) ≡ in_c unchecked_in (unchecked_of limits rows.now readings.now store.old) }
 {
-    c_unchecked(machine::run_unchecked(limits, rows, readings, store))
+    RunUnchecked::from(machine::run_unchecked(limits, rows, readings, store))
 }
 
 #[unsafe(no_mangle)]
@@ -98,5 +95,5 @@ pub extern "C" fn roomscript_call(
     ensures answered { (result, (rows.new, store.new)) ≡ in_c called_in (call_of limits script.now readings.now rows.old store.old) }
     ensures safe { SafeCallInC limits script.now readings.now rows.old result store.old store.new }
 {
-    c_called(room::call(limits, script, readings, rows, store))
+    Call::from(room::call(limits, script, readings, rows, store))
 }

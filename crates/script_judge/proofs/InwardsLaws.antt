@@ -16,10 +16,16 @@ use Rattle.syntax.proofs.KindBytes.{wrapping}
 use Rattle.syntax.proofs.RowTreeLaws.{wrapped_inner}
 use Rattle.statics.specs.Environment.{used, Environment, update, is_free}
 use Rattle.statics.specs.Uses.{Unfinished}
-use Rattle.statics.specs.Rules.{Judged, Out}
+use Rattle.statics.specs.Rules.{Judged}
 use Rattle.statics.specs.Neat.{Neat}
+use Rattle.std.specs.Prelude as prelude
+use Rattle.syntax.specs.declared.refusals.Refusal as answer
+use Rattle.term_judge.specs.declared.terms.Judged as code
+use Rattle.variables.specs.declared.table.Row.{Row}
+use Rattle.variables.specs.Table.{environment_of}
+use Rattle.variables.specs.Verdicts.{as_value}
 use Rattle.uses.specs.RowUses.{later_in}
-use Rattle.term_judge.specs.JudgeRows.{Ended, judge_at, begin_at, AfterReady, after_at}
+use Rattle.term_judge.specs.JudgeRows.{Ended, told_as, ended, judge_at, begin_at, AfterReady, after_at}
 use Rattle.uses.specs.RowPlaces.{Wraps, AllWrap}
 use Rattle.statics.proofs.Answers.{was_free}
 use Rattle.statics.proofs.Slots.{update_same}
@@ -118,18 +124,15 @@ module _ (nv levels : ℕ) (rows : List ℕ) (i : ℕ) (later : ℕ → Unfinish
   answer_in level n Γ = judge_at nv (tree_at nv (levels - n) rows (i + n)) level (inside n) Γ
 
   -- The term n in has been judged, in that state: this is its answer.
-  abbrev pub Outwards : ℕ → Environment → ℕ → Out × ℕ → Type 0
-  Outwards level Γ₀ n o = (Γ : Environment) × Inwards rows i Γ₀ n Γ × (ok o ≡ answer_in level n Γ)
+  abbrev pub Outwards : ℕ → Environment → ℕ → Ended → Type 0
+  Outwards level Γ₀ n E = (Γ : Environment) × Inwards rows i Γ₀ n Γ × (E ≡ answer_in level n Γ)
 
   -- The innermost term has been judged.
-  innermost : (level : ℕ) (n : ℕ) (Γ : Environment) (E : Ended) → E ≡ judge_at nv (tree_at nv (levels - n) rows (i + n)) level (λ next. later_in rows i (i + n - i) (later next)) Γ → E ≡ answer_in level n Γ
-  innermost level n Γ E e =
+  pub outwards_start : (level : ℕ) (Γ₀ : Environment) (n : ℕ) (Γ : Environment) → Inwards rows i Γ₀ n Γ → (E : Ended)
+      → E ≡ judge_at nv (tree_at nv (levels - n) rows (i + n)) level (λ next. later_in rows i (i + n - i) (later next)) Γ → Outwards level Γ₀ n E
+  outwards_start level Γ₀ n Γ I E e =
       let w : i + n - i ≡ n = omega arith in
-      rw w at e
-
-  pub outwards_start : (level : ℕ) (Γ₀ : Environment) (n : ℕ) (Γ : Environment) → Inwards rows i Γ₀ n Γ → (o : Out × ℕ)
-      → ok o ≡ judge_at nv (tree_at nv (levels - n) rows (i + n)) level (λ next. later_in rows i (i + n - i) (later next)) Γ → Outwards level Γ₀ n o
-  outwards_start level Γ₀ n Γ I o e = (Γ, I, innermost level n Γ _ e)
+      (Γ, I, rw w at e)
 
   module _ (good : IsTree (tree_at nv levels rows i)) where
     module _ (level : ℕ) (Γ₀ : Environment) where
@@ -157,46 +160,35 @@ module _ (nv levels : ℕ) (rows : List ℕ) (i : ℕ) (later : ℕ → Unfinish
       pub inwards_refused : (n : ℕ) (Γ : Environment) → Inwards rows i Γ₀ n Γ → wraps_of (field_at rows (i + n) 0) ≡ true → (x : Refusal) → begin_at rows (i + n) Γ ≡ err x → err x ≡ judge_at nv (tree_at nv levels rows i) level later Γ₀
       inwards_refused n Γ I w x e = outer_refused n Γ I x (wrapped_refused nv (levels - n) rows (i + n) (inwards_tree nv levels rows i good Γ₀ n Γ I) w level (inside n) Γ x e)
 
-      -- So is that of the innermost term.
-      pub innermost_refused : (n : ℕ) (Γ : Environment) → Inwards rows i Γ₀ n Γ → (x : Refusal) → err x ≡ judge_at nv (tree_at nv (levels - n) rows (i + n)) level (λ next. later_in rows i (i + n - i) (later next)) Γ → err x ≡ judge_at nv (tree_at nv levels rows i) level later Γ₀
-      innermost_refused n Γ I x e = outer_refused n Γ I x (sym (innermost level n Γ _ e))
-
       -- The outermost term's answer.
-      pub outwards_none : (n : ℕ) (o : Out × ℕ) → n ≤ 0 → Outwards level Γ₀ n o → ok o ≡ judge_at nv (tree_at nv levels rows i) level later Γ₀
+      pub outwards_none : (n : ℕ) (E : Ended) → n ≤ 0 → Outwards level Γ₀ n E → E ≡ judge_at nv (tree_at nv levels rows i) level later Γ₀
       unfolding Inwards
-      outwards_none zero o h O = rw O.1 at O.2 ∙ outermost
-      outwards_none (suc n) o h O = absurd (omega arith)
+      outwards_none zero E h O = rw O.1 at O.2 ∙ outermost
+      outwards_none (suc n) E h O = absurd (omega arith)
 
-      module _ (o : Out × ℕ) where
-        -- The answer of the term around.
-        outer : (n m : ℕ) → n ≡ suc m → (O : Outwards level Γ₀ n o) (E : Ended) → E ≡ after_at nv level rows (i + m) (λ next. later_in rows i (i + m - i) (later next)) (ok o) → (Γ : Environment) × Inwards rows i Γ₀ m Γ × (E ≡ answer_in level m Γ)
-        unfolding Inwards
-        outer zero m q O E e = absurd (omega arith)
-        outer (suc n) m q O E e =
-            let w : m ≡ n = omega arith in
-            let I = O.1 in
-            let v : i + m - i ≡ m = omega arith in
-            let f : E ≡ after_at nv level rows (i + m) (inside m) (ok o) = rw v at e in
-            rw w (I.0, I.1, rw w at f ∙ ap (after_at nv level rows (i + n) (inside n)) O.2 ∙ sym (step n O.0 I.0 I.1 I.2))
+      -- One term further out.
+      pub outwards_less : (n m : ℕ) → n ≡ suc m → (E : Ended) → Outwards level Γ₀ n E → (E' : Ended) → E' ≡ after_at nv level rows (i + m) (λ next. later_in rows i (i + m - i) (later next)) E → Outwards level Γ₀ m E'
+      unfolding Inwards
+      outwards_less zero m q E O E' e = absurd (omega arith)
+      outwards_less (suc n) m q E O E' e =
+          let w : m ≡ n = omega arith in
+          let I = O.1 in
+          let v : i + m - i ≡ m = omega arith in
+          let f : E' ≡ after_at nv level rows (i + m) (inside m) E = rw v at e in
+          rw w (I.0, I.1, rw w at f ∙ ap (after_at nv level rows (i + n) (inside n)) O.2 ∙ sym (step n O.0 I.0 I.1 I.2))
 
-        -- One term further out.
-        pub outwards_less : (n m : ℕ) → n ≡ suc m → Outwards level Γ₀ n o → (out : Out × ℕ) → ok out ≡ after_at nv level rows (i + m) (λ next. later_in rows i (i + m - i) (later next)) (ok o) → Outwards level Γ₀ m out
-        outwards_less n m q O out e = outer n m q O _ e
-
-        -- A refusal on the way outwards is that of the outermost term too.
-        pub outwards_refused : (n m : ℕ) → n ≡ suc m → Outwards level Γ₀ n o → (x : Refusal) → err x ≡ after_at nv level rows (i + m) (λ next. later_in rows i (i + m - i) (later next)) (ok o) → err x ≡ judge_at nv (tree_at nv levels rows i) level later Γ₀
-        outwards_refused n m q O x e = let z = outer n m q O _ e in outer_refused m z.0 z.1 x (sym z.2)
-
-        -- What is known of the table after the inner term.
-        pub outwards_ready : (n m : ℕ) → n ≡ suc m → Neat nv Γ₀ level → Outwards level Γ₀ n o → AfterReady nv level rows (i + m) o
-        unfolding Inwards
-        outwards_ready zero m q N O = absurd (omega arith)
-        outwards_ready (suc n) m q N O =
-            let w : m ≡ n = omega arith in
-            let I = O.1 in
-            let after : Fine nv O.0 o.0.0 o.0.1 level = fine_tree nv level (inside (suc n)) O.0 (inwards_neat rows i nv level Γ₀ N (suc n) O.0 O.1) o (levels - suc n) rows (i + suc n) (inwards_tree nv levels rows i good Γ₀ (suc n) O.0 O.1) O.2 in
-            rw w (record {
-              neat = after.neat;
-              value = after.value;
-              taken = λ k. after.taken (field_at rows (i + n) 1) (begun_taken rows (i + n) I.0 O.0 I.2 k);
-            })
+      -- What is known of the table after the inner term.
+      pub outwards_ready : (n m : ℕ) → n ≡ suc m → Neat nv Γ₀ level → (env : List Row) (inner : prelude.Result code.Judged answer.Refusal) → Outwards level Γ₀ n (ended env inner) → AfterReady nv level rows (i + m) env inner
+      unfolding Inwards
+      outwards_ready zero m q N env inner O = absurd (omega arith)
+      outwards_ready (suc n) m q N env inner O =
+          let w : m ≡ n = omega arith in
+          let I = O.1 in
+          rw w (record {
+            neat = λ o e. (after o e).neat;
+            value = λ o e. (after o e).value;
+            taken = λ o e k. (after o e).taken (field_at rows (i + n) 1) (begun_taken rows (i + n) I.0 O.0 I.2 k);
+          })
+        where
+          after : (o : code.Judged) → inner ≡ prelude.Ok o → Fine nv O.0 (environment_of env) (as_value env o.value) level
+          after o e = fine_tree nv level (inside (suc n)) O.0 (inwards_neat rows i nv level Γ₀ N (suc n) O.0 O.1) (told_as env o) (levels - suc n) rows (i + suc n) (inwards_tree nv levels rows i good Γ₀ (suc n) O.0 O.1) (ap (ended env) (sym e) ∙ O.2)

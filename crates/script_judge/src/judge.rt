@@ -33,8 +33,8 @@ const FEW: usize = 16;
 
 const MANY: usize = 128;
 
-// The block that those around end before: its terms, then its end (LANGUAGE 3.28). `level` is that of the block around it;
-// what is in scope before the block stays so after it.
+// The block at row `around.end`: its terms, then its end (LANGUAGE 3.28). `level` is that of the block around it; what is
+// in scope before the block stays so after it.
 #[cycle(terms)]
 fn judge_block(
     script: &Script,
@@ -118,7 +118,7 @@ fn judge_many_kept(
     judge_branches(script, i, levels, env, level, named, &mut kept, count)
 }
 
-// The choice that those around end before, whose place is a number before its blocks are judged (LANGUAGE 3.31).
+// The choice at row `around.end`, whose place is a number before its blocks are judged (LANGUAGE 3.31).
 #[cycle(terms)]
 fn judge_choice(
     script: &Script,
@@ -146,7 +146,7 @@ fn judge_choice(
     }
 }
 
-// The term that those around end before, which has no one inner term: a block, a choice, or a term with no inner term.
+// The term at row `around.end`, which has no one inner term: a block, a choice, or a term with no inner term.
 #[cycle(terms)]
 fn judge_inmost(
     script: &Script,
@@ -199,16 +199,16 @@ fn judge_term(
         end: i + count,
         named,
     };
-    let mut judged = judge_inmost(script, &around, levels - count, env, level)?;
+    let mut judged = judge_inmost(script, &around, levels - count, env, level);
     for k in (0..count).rev() {
         let around = Around {
             start: i,
             end: i + k,
             named,
         };
-        judged = judge_after(script, &around, env, level, judged)?;
+        judged = judge_after(script, &around, env, level, judged);
     }
-    Ok(judged)
+    judged
 }
 
 // A block's terms in order (LANGUAGE 3.28), count of them from row i on: the value of the last (3.4).

@@ -13,7 +13,6 @@ pub mod Sound
 pub mod HeadBack
 pub mod Back
 pub mod Lists
-pub mod PackedLaws
 pub mod BlockLaws
 pub mod OperandLaws
 pub mod TermLaws

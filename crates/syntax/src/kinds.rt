@@ -74,32 +74,6 @@ impl TryFrom<u32> for Kind {
     }
 }
 
-pub const NUMBER: u32 = 1;
-
-pub const READING: u32 = 2;
-
-pub const COPY: u32 = 3;
-
-pub const MOVE: u32 = 4;
-
-pub const SHARED: u32 = 5;
-
-pub const EXCLUSIVE: u32 = 6;
-
-pub const BOX: u32 = 7;
-
-pub const LET: u32 = 8;
-
-pub const ASSIGN: u32 = 9;
-
-pub const BELOW: u32 = 10;
-
-pub const BLOCK: u32 = 11;
-
-pub const CHOICE: u32 = 12;
-
-pub const SUM: u32 = 13;
-
 // The newest version there is (LANGUAGE 2.1).
 pub const NEWEST: u32 = 2;
 
@@ -126,22 +100,19 @@ pub fn known(version: usize, kind: u32) -> bool
     ensures { result ≡ known_in version kind }
 {
     let last = if version < CHOICE_AND_SUM_SINCE {
-        BLOCK
+        Kind::Block as u32
     } else {
-        SUM
+        Kind::Sum as u32
     };
-    NUMBER <= kind && kind <= last
+    Kind::Number as u32 <= kind && kind <= last
 }
 
 // Box, let and assign have one inner term (LANGUAGE 2.3), which is in the next row.
 pub fn wraps(kind: u32) -> bool
     ensures { result ≡ wraps_of kind }
 {
-    if kind == BOX {
-        return true;
-    }
-    if kind == LET {
-        return true;
-    }
-    kind == ASSIGN
+    let Ok(kind) = Kind::try_from(kind) else {
+        return false;
+    };
+    matches!(kind, Kind::Box | Kind::Let | Kind::Assign)
 }

@@ -1,5 +1,4 @@
-// The limits of scripts (LANGUAGE 2.4, 2.8), the lengths of lent memory (2.9, 4.1), and the refusal numbers of the
-// caller (5.3) and the carrier (5.4).
+// The limits of scripts (LANGUAGE 2.4, 2.8), the lengths of lent memory (2.9, 4.1), and a set in one number.
 ghost use Rattle.std.specs.Prelude.{◌≡◌, true, ◌<◌};
 ghost use Rattle.syntax.specs.Limits.{in_ranges, row_numbers, store_numbers, unpacked, version_of};
 
@@ -58,41 +57,8 @@ pub const TERMS_MODULUS: usize = 8192;
 
 pub const VERSION_UNIT: usize = 34359738368;
 
-// By the caller (LANGUAGE 5.3).
-pub const SCRIPT_TOO_LONG: u32 = 1;
-
-pub const ROWS_LENGTH: u32 = 2;
-
-pub const STORE_LENGTH: u32 = 3;
-
-pub const READINGS_LENGTH: u32 = 4;
-
-pub const OUTPUT_SHORT: u32 = 5;
-
-pub const SET_OUTSIDE: u32 = 74;
-
-// By the carrier of the bytes or rows (LANGUAGE 5.4).
-pub const MARK: u32 = 10;
-
-pub const VERSION: u32 = 11;
-// Where it is refused in a script's bytes, whichever of the two differs (LANGUAGE 5.4).
+// Where a version is refused in a script's bytes, whichever of the two differs (LANGUAGE 5.4).
 pub const VERSION_PLACE: usize = 3;
-
-pub const ENDED: u32 = 12;
-
-pub const UNKNOWN_KIND: u32 = 13;
-
-pub const OPERAND: u32 = 14;
-
-pub const TOO_DEEP: u32 = 15;
-
-pub const TOO_MANY_TERMS: u32 = 16;
-
-pub const TOO_MANY_BOXES: u32 = 17;
-
-pub const NO_BLOCK: u32 = 18;
-
-pub const LEFT_OVER: u32 = 19;
 
 // Each limit of the set is in its range (LANGUAGE 2.8); otherwise 74.
 pub fn in_ranges(set: Limits) -> bool
@@ -121,8 +87,8 @@ pub fn store_numbers(set: Limits) -> usize
     3 * (set.variables as usize + set.boxes as usize)
 }
 
-// A set in its ranges (LANGUAGE 2.8) in one number, as functions that call themselves hand it down: a number goes in a
-// register, where a struct goes through memory at every call. It is below VERSION_UNIT, so that it has no version.
+// A set in its ranges (LANGUAGE 2.8) in one number, for whoever has to keep it in a word. It is below VERSION_UNIT, so that
+// it has no version. No function here takes a set in this form: kept for the theorems `Ranges.packs` and `packs_below`.
 pub fn packed(set: Limits) -> usize
     requires { in_ranges set ≡ true }
     ensures { (unpacked result ≡ set) × (result < 34359738368) }
@@ -133,7 +99,7 @@ pub fn packed(set: Limits) -> usize
     terms + levels + boxes + set.variables as usize
 }
 
-// The same number with a version (LANGUAGE 2.1): what is read and judged term by term has the kinds of one version (2.3).
+// The same number with a version (LANGUAGE 2.1): kept for the theorem `Ranges.versions`.
 pub fn with_version(sizes: usize, version: usize) -> usize
     requires { version < 8192 }
     ensures { (unpacked result ≡ unpacked sizes) × (version_of result ≡ version) }

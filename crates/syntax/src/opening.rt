@@ -3,10 +3,8 @@ ghost use Rattle.std.specs.Prelude.{◌≡◌, false, ◌≤◌, slice_index};
 ghost use Rattle.syntax.specs.Result.{ok};
 ghost use Rattle.syntax.specs.Refusals.{told};
 ghost use Rattle.syntax.specs.KindNumbers.{number_in};
-ghost use Rattle.syntax.specs.Parts.{boxes_with};
 ghost use Rattle.syntax.specs.ByteParts.{opening_number, no_block_byte, on_number};
 
-use crate::kinds;
 use crate::kinds::Kind;
 use crate::limits::Limits;
 use crate::progress::Progress;
@@ -52,12 +50,4 @@ pub fn opening(
         return Err(progress.refused(Reason::TooManyBoxes));
     }
     Ok(kind)
-}
-
-// The box terms met, with a term of this kind. Those before it are at most 128, for every set (LANGUAGE 2.8).
-pub fn boxes_with(kind: u32, boxes: usize) -> usize
-    requires { boxes ≤ 128 }
-    ensures { result ≡ boxes_with kind boxes }
-{
-    if kind == kinds::BOX { boxes + 1 } else { boxes }
 }

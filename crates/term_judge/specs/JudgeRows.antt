@@ -63,11 +63,11 @@ rule_after nv level rows i ns o =
 abbrev pub after_at : ℕ → ℕ → List ℕ → ℕ → (ℕ → Unfinished) → Ended → Ended
 after_at nv level rows i later inner = inner >>= λ o. at_row o.1 (rule_after nv level rows i (row_names rows i ∷ later o.1) o.0)
 
--- What is asked of what the inner term gave: its state and the value are neat, and the number of a let is taken.
-pub record AfterReady (nv level : ℕ) (rows : List ℕ) (i : ℕ) (inner : Out × ℕ) : Type 0 where
-  pub neat : Neat nv inner.0.0 level
-  pub value : NeatValue inner.0.0 level inner.0.1
-  pub taken : field_at rows i 0 ≡ 8 → inner.0.0 (field_at rows i 1) ≡ used
+-- What is asked of the table after the inner term: its state and the value are neat, and the number of a let is taken.
+pub record AfterReady (nv level : ℕ) (rows : List ℕ) (i : ℕ) (env : List Row) (inner : prelude.Result code.Judged Refusal) : Type 0 where
+  pub neat : (o : code.Judged) → inner ≡ prelude.Ok o → Neat nv (environment_of env) level
+  pub value : (o : code.Judged) → inner ≡ prelude.Ok o → NeatValue (environment_of env) level (as_value env o.value)
+  pub taken : (o : code.Judged) → inner ≡ prelude.Ok o → field_at rows i 0 ≡ 8 → environment_of env (field_at rows i 1) ≡ used
 
 -- What is asked of the tables where a term, a block or a choice is judged at this level, with so many levels left below it.
 pub record Ready (nv level levels : ℕ) (rows : List ℕ) (env : List Row) (uses : List ℕ) : Type 0 where

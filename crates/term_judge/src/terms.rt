@@ -2,7 +2,6 @@
 // inner term, and a box, let or assign before and after its inner term.
 ghost use Rattle.std.specs.Prelude.{◌≡◌, true, List, ℕ, ◌<◌, ◌≤◌, ◌+◌, ◌-◌, length};
 ghost use Rattle.std.proofs.Math.Option.{some};
-ghost use Rattle.syntax.specs.Result.{ok};
 ghost use Rattle.syntax.specs.KindNumbers.{as_kind};
 ghost use Rattle.syntax.specs.RowParts.{field_at};
 ghost use Rattle.syntax.specs.RowTrees.{place_at};
@@ -16,7 +15,7 @@ ghost use Rattle.bars.specs.Leading.{LaterIs};
 ghost use Rattle.rules.specs.RuleAnswers.{begun};
 ghost use Rattle.uses.specs.RowUses.{names_of, named_around, named_with, later_of};
 ghost use Rattle.uses.specs.RowPlaces.{Wraps, AllWrap, AllAround};
-ghost use Rattle.term_judge.specs.JudgeRows.{judge_leaf, at_row, told_as, ended, begin_at, AfterReady, after_at};
+ghost use Rattle.term_judge.specs.JudgeRows.{judge_leaf, at_row, ended, begin_at, AfterReady, after_at};
 
 use assigns::assign::{judge_write, judge_written};
 use rules::rules::{
@@ -50,8 +49,7 @@ pub fn judged_term(i: usize, next: usize, verdict: Verdict) -> Result<Judged, Re
     }
 }
 
-// The terms that have no inner term: the rule of each kind (LANGUAGE 3.18 to 3.22, 3.27). The term is at the row before
-// which those around it end.
+// The terms that have no inner term: the rule of each kind (LANGUAGE 3.18 to 3.22, 3.27). The term is at row `around.end`.
 pub fn judge_leaf(
     script: &Script,
     around: &Around,
@@ -109,8 +107,8 @@ pub fn judge_before(script: &Script, i: usize, env: &mut [Row]) -> Result<(), Re
     begin_let(env, script.variables, i, x)
 }
 
-// The rest of the rule of the assign (LANGUAGE 3.25) that those around end before, after its right side, which ends
-// before row `next`.
+// The rest of the rule of the assign at row `around.end` (LANGUAGE 3.25), after its right side, which ends before row
+// `next`.
 fn judge_assign(
     script: &Script,
     around: &Around,
@@ -133,18 +131,19 @@ fn judge_assign(
     judge_written(barred)
 }
 
-// What follows the inner term of the box, let or assign that those around end before: the rest of the rule
-// (LANGUAGE 3.23 to 3.25).
+// What follows the inner term of the box, let or assign at row `around.end`: the rest of the rule (LANGUAGE 3.23 to 3.25).
+// An inner term's refusal is the script's (3.17).
 pub fn judge_after(
     script: &Script,
     around: &Around,
     env: &mut [Row],
     level: u64,
-    inner: Judged,
+    inner: Result<Judged, Refusal>,
 ) -> Result<Judged, Refusal>
-    requires { (around.now.start ≤ around.now.end) × AllWrap script.now.variables script.now.rows.now around.now.start (around.now.end + 1 - around.now.start) × TableFor env.old script.now.variables × (length script.now.uses.now ≡ script.now.variables) × AfterReady script.now.variables level script.now.rows.now around.now.end (told_as env.old inner) }
-    ensures { (ended env.new result ≡ after_at script.now.variables level script.now.rows.now around.now.end (later_of script.now around.now) (ok (told_as env.old inner))) × TableFor env.new script.now.variables }
+    requires { (around.now.start ≤ around.now.end) × AllWrap script.now.variables script.now.rows.now around.now.start (around.now.end + 1 - around.now.start) × TableFor env.old script.now.variables × (length script.now.uses.now ≡ script.now.variables) × AfterReady script.now.variables level script.now.rows.now around.now.end env.old inner }
+    ensures { (ended env.new result ≡ after_at script.now.variables level script.now.rows.now around.now.end (later_of script.now around.now) (ended env.old inner)) × TableFor env.new script.now.variables }
 {
+    let inner = inner?;
     let i = around.end;
     let Ok(kind) = Kind::try_from(field_at(script.rows, i, 0)) else {
         unreachable!();
@@ -155,6 +154,7 @@ pub fn judge_after(
             let x = index_at(script.rows, i, 1);
             judge_let(env, script.variables, level, x, inner.value)
         }
+        // An assign, the third of the kinds that stand around one inner term.
         _ => judge_assign(script, around, inner.next, env, inner.value),
     };
     judged_term(i, inner.next, verdict)

@@ -84,7 +84,7 @@ pub fn read_barred(script: &Script, around: &Around, from: usize, env: &[Row], r
     is_barred(script, around, from, env, root, Borrows::Exclusive, may)
 }
 
-// Writing barred (LANGUAGE 3.12), likewise.
+// Writing barred (LANGUAGE 3.12), likewise: the two differ in which borrows count, and in who may hold one.
 pub fn write_barred(script: &Script, around: &Around, from: usize, env: &[Row], root: usize) -> bool
     requires { AllAround script.now around.now × TableFor env.now script.now.variables × (length script.now.uses.now ≡ script.now.variables) × (root < script.now.variables) }
     ensures { (ns : Unfinished) → LaterIs script.now.variables script.now.uses.now from (named_around script.now around.now) ns → result ≡ write_barred script.now.variables ns (environment_of env.now) root }

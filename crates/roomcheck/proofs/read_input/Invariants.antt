@@ -1,9 +1,6 @@
--- What was read stands in the buffer. The measure is the tries left.
+-- What was read stands in the buffer.
 use Rattle.std.specs.Prelude.{◌≤◌, length}
 use Rattle.roomcheck.proofs.read_input.Given as goal
 
-abbrev pub invariant-loop-done : goal.invariant-loop-done
-invariant-loop-done g l = l.done ≤ length l.buffer
-
-abbrev pub decreases-loop-done : goal.decreases-loop-done
-decreases-loop-done g l = l.tries
+abbrev pub invariant-loop : goal.invariant-loop
+invariant-loop g l = l.done ≤ length l.buffer

@@ -19,13 +19,13 @@ abbrev pub decreases-run_block : goal.decreases-run_block
 decreases-run_block l = l.levels * 4 + 3
 
 abbrev pub invariant-run_term-loop-around : goal.invariant-run_term-loop-around
-invariant-run_term-loop-around l = Inwards l.script.limits.now l.script.rows.now l.i l.levels l.script.readings.now l.store l.opened l.count l.taken l.around
+invariant-run_term-loop-around l = Inwards l.script.limits l.script.rows.now l.i l.levels l.script.readings.now l.store l.opened l.count l.taken l.around
 
 abbrev pub decreases-run_term-loop-around : goal.decreases-run_term-loop-around
 decreases-run_term-loop-around l = l.levels - l.around
 
 abbrev pub invariant-run_term-loop-k : goal.invariant-run_term-loop-k
-invariant-run_term-loop-k l = Outwards l.script.limits.now l.script.rows.now l.i l.fn.levels l.script.readings.now l.fn.count l.fn.taken l.initial.store l.initial.opened l.initial.k l.initial.ran l.store l.opened l.k l.ran
+invariant-run_term-loop-k l = Outwards l.script.limits l.script.rows.now l.i l.fn.levels l.script.readings.now l.fn.count l.fn.taken l.initial.store l.initial.opened l.initial.k l.initial.ran l.store l.opened l.k l.ran
 
 abbrev pub invariant-run_block-loop : goal.invariant-run_block-loop
-invariant-run_block-loop l = Going l.script.limits.now l.script.rows.now l.fn.block l.levels l.script.readings.now l.initial.store l.initial.opened l.fn.count l.fn.taken l.store l.opened (field_at l.script.rows.now l.block 1 - l.counter) l.at
+invariant-run_block-loop l = Going l.script.limits l.script.rows.now l.fn.block l.levels l.script.readings.now l.initial.store l.initial.opened l.fn.count l.fn.taken l.store l.opened (field_at l.script.rows.now l.block 1 - l.counter) l.at

@@ -11,6 +11,6 @@ returns-then-eq c = sym (level_live c.args.env.now c.args.x (now_live _ _ c.eq.e
 pub returns : goal.returns
 returns c =
     sym (level_not_live c.args.env.now c.args.x (elim c.else-x-variables.branch [
-      else-x-variables-via-then-x-variables+else-eq w ↦ now_dead _ _ w.eq.ensures w.if-eq.false
+      | else-x-variables-via-then-x-variables+else-eq w ↦ now_dead _ _ w.eq.ensures w.if-eq.false
       | else-x-variables-via-else-x-variables w ↦ omega (arith, past_status c.args.env.now c.args.variables c.requires c.args.x w.if-x-variables.false)
     ]))

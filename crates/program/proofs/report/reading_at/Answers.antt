@@ -11,19 +11,12 @@ use Rattle.room.specs.Calling.{reading_at}
 use borrow.Author.Rules.{rules}
 use Rattle.program.proofs.report.reading_at.Goals as goal
 
-pub returns-then-input-lt4 : goal.returns-then-input-lt4
+pub returns-then-saturating_sub-at : goal.returns-then-saturating_sub-at
 unfolding reading_at
-returns-then-input-lt4 c = rw (lt-leb (c.args.at + 4) (length c.args.input.now) (omega (arith, c.if-input-lt4.true))) refl
-
-pub returns-then-input-at : goal.returns-then-input-at
-unfolding reading_at
-returns-then-input-at c = rw (lt-leb (c.args.at + 4) (length c.args.input.now) (omega (arith, c.if-input-lt4.false, c.if-input-at.true))) refl
-
-pub word_at-requires : goal.word_at-requires
-word_at-requires c = omega (arith, c.if-input-lt4.false, c.if-input-at.false)
+returns-then-saturating_sub-at c = rw (lt-leb (c.args.at + 4) (length c.args.input.now) (omega arith)) refl
 
 pub returns : goal.returns
 unfolding reading_at
 returns c =
-    let h : SFits w32 c.number_of.result = search rules in
-    rw (le-leb (c.args.at + 4) (length c.args.input.now) (omega (arith, c.if-input-lt4.false, c.if-input-at.false)), ← c.word_at.ensures) (to_z-of_z h ∙ c.number_of.ensures)
+    let h : SFits w32 c.from_be_bytes.result = search rules in
+    rw (le-leb (c.args.at + 4) (length c.args.input.now) (omega arith)) (to_z-of_z h ∙ c.from_be_bytes.ensures)

@@ -1,22 +1,15 @@
-use native.Mathlib.Omega.{arith}
-use mathlib.Core.Path.{◌≡◌}
-use lib.ListN.{length}
+use mathlib.Core.Path.{refl}
 use Rattle.syntax.proofs.Lists.{part_all}
 use Rattle.program.specs.Line.{short_line}
 use Rattle.program.proofs.ReportLaws.{report_short, report_called}
-use borrow.Author.Rules.{rules}
 use Rattle.program.proofs.report.report.Goals as goal
 
-pub returns-then-input-lt-READINGS : goal.returns-then-input-lt-READINGS
+pub returns-then-input-lt-READINGS-clause-answered : goal.returns-then-input-lt-READINGS-clause-answered
 unfolding short_line
-returns-then-input-lt-READINGS c =
-    let l : length c.args.line.now ≡ 80 = search rules in
-    record { answered = report_short _ _ _ _ _ _ _ c.if-input-lt-READINGS.true c.put_text.ensures (omega arith); within = omega (arith, c.put_text.auto.line) }
+returns-then-input-lt-READINGS-clause-answered c =
+    report_short _ _ _ c.new-text.ensures c.push.ensures _ _ _ _ _ _ _ c.put.ensures.length c.put.ensures.put c.if-input-lt-READINGS.true refl
 
-pub returns : goal.returns
-returns c =
-    let l : length c.args.line.now ≡ 80 = search rules in
-    record {
-      answered = report_called _ _ _ _ _ _ _ c.if-input-lt-READINGS.false _ _ _ _ _ (part_all c.args.input.now 32) c.readings_of-readings.ensures c.call-called.ensures.answered c.put_called.ensures.put (omega (arith, c.put_called.ensures.within));
-      within = omega (arith, c.put_called.ensures.within, c.put_called.auto.line);
-    }
+pub returns-clause-answered : goal.returns-clause-answered
+returns-clause-answered c =
+    report_called _ _ _ c.new-text.ensures c.push_answer.ensures.put _ _ _ _ _ _ _ c.put-2.ensures.length c.put-2.ensures.put c.if-input-lt-READINGS.false
+    _ _ _ _ _ (part_all c.args.input.now 32) c.readings_of-readings.ensures c.call-answer.ensures.answered refl

@@ -42,7 +42,7 @@ use Rattle.script_judge.proofs.BlockTerm.{block_refused, block_fine, block_insid
 use Rattle.script_judge.proofs.ScopeLaws.{scope_around}
 use Rattle.script_judge.proofs.BlockLaws.{one_judged, next_after, rest_refused, rest_fine, rest_none}
 use Rattle.script_judge.proofs.BranchLaws.{first_ready, first_refused, first_neat, first_stays, second_ready, second_start, second_refused, second_neat, second_stays, branches_fine, choice_refused, choice_met}
-use Rattle.script_judge.proofs.InwardsLaws.{Outwards, inwards_start, inwards_more, inwards_neat, inwards_tree, inwards_around, inwards_refused, innermost_refused, outwards_start, outwards_none, outwards_less, outwards_refused, outwards_around, outwards_ready}
+use Rattle.script_judge.proofs.InwardsLaws.{Outwards, inwards_start, inwards_more, inwards_neat, inwards_tree, inwards_around, inwards_refused, outwards_start, outwards_none, outwards_less, outwards_around, outwards_ready}
 use Rattle.script_judge.proofs.TreeStates.{fine_tree}
 use Rattle.script_judge.proofs.judge.+terms.Goals as goal
 use Rattle.script_judge.proofs.judge.+terms.Goals.{judge_block-After-all_named-inside, judge_branches-In_ok-first, judge_choice-After-index_of-root, judge_choice-After-judge_number, judge_choice-After-unite-inside, judge_inmost-In-Ok, judge_term-At-loop-k, judge_term-At-loop-env}
@@ -377,8 +377,8 @@ tree t l = inwards_tree _ _ _ _ l.requires.0 _ _ _ l.loop-env.invariant.2
 
 -- Where the innermost is judged, and some terms in from there, outwards.
 outwards : (t : ℕ) (o : judge_term-At-loop-k t)
-    → Outwards o.args.script.now.variables o.args.levels o.args.script.now.rows.now o.args.i (later_at o.args.script.now.variables o.args.script.now.uses.now (has o.args.named)) o.args.level (environment_of o.args.env.now) o.loop-k.k (told_as o.loop-k.env o.loop-k.judged)
-outwards t o = o.loop-k.invariant.2 _ (outwards_start _ _ _ _ _ _ _ _ _ o.loop-env.invariant.2 (told_as o.judge_inmost.new.env o.in_ok-judged.judged) (rw o.in_ok-judged.was at o.judge_inmost.ensures.0))
+    → Outwards o.args.script.now.variables o.args.levels o.args.script.now.rows.now o.args.i (later_at o.args.script.now.variables o.args.script.now.uses.now (has o.args.named)) o.args.level (environment_of o.args.env.now) o.loop-k.k (ended o.loop-k.env o.loop-k.judged)
+outwards t o = o.loop-k.invariant.2 _ (outwards_start _ _ _ _ _ _ _ _ _ o.loop-env.invariant.2 _ o.judge_inmost-judged.ensures.0)
 
 pub judge_term-loop-env-init : goal.judge_term-loop-env-init
 judge_term-loop-env-init t c = (refl, c.requires.1.table, inwards_start _ _ _)
@@ -419,36 +419,27 @@ judge_term-overflow_add-around t c = omega (arith, has_room _ _ _ _ (tree t (goa
 pub judge_term-overflow_sub-levels : goal.judge_term-overflow_sub-levels
 judge_term-overflow_sub-levels t c = omega (arith, has_level _ _ _ _ (tree t (goal.at.judge_term-overflow_sub-levels t c).At-loop-env))
 
-pub judge_term-judge_inmost-requires : goal.judge_term-judge_inmost-requires
-judge_term-judge_inmost-requires t c =
+pub judge_term-judge_inmost-judged-requires : goal.judge_term-judge_inmost-judged-requires
+judge_term-judge_inmost-judged-requires t c =
     let p = c.requires in
-    (omega (arith, c.decreases), (tree t (goal.at.judge_term-judge_inmost-requires t c).At-loop-env, sym (c.wraps.ensures ∙ ap wraps_of c.field_at.ensures) ∙ c.loop-env-test.false, record { table = c.loop-env.invariant.1; neat = inwards_neat _ _ _ _ _ p.1.neat _ _ c.loop-env.invariant.2; deep = omega (arith, p.1.deep); last_uses = p.1.last_uses }, omega arith, inwards_around _ _ _ _ p.0 _ _ _ c.loop-env.invariant.2))
-
-pub judge_term-returns-in_err-judged : goal.judge_term-returns-in_err-judged
-judge_term-returns-in_err-judged t c =
-    (ap (ended _) (left_with _ _ c.from_residual-in_err-judged.ensures.1) ∙ innermost_refused _ _ _ _ _ c.requires.0 _ _ _ _ c.loop-env.invariant.2 _ (rw c.in_err-judged.was at c.judge_inmost.ensures.0), c.judge_inmost.ensures.1)
+    (omega (arith, c.decreases), (tree t (goal.at.judge_term-judge_inmost-judged-requires t c).At-loop-env, sym (c.wraps.ensures ∙ ap wraps_of c.field_at.ensures) ∙ c.loop-env-test.false, record { table = c.loop-env.invariant.1; neat = inwards_neat _ _ _ _ _ p.1.neat _ _ c.loop-env.invariant.2; deep = omega (arith, p.1.deep); last_uses = p.1.last_uses }, omega arith, inwards_around _ _ _ _ p.0 _ _ _ c.loop-env.invariant.2))
 
 pub judge_term-loop-k-init : goal.judge_term-loop-k-init
-judge_term-loop-k-init t c = (refl, c.judge_inmost.ensures.1, λ Γ O. O)
+judge_term-loop-k-init t c = (refl, c.judge_inmost-judged.ensures.1, λ Γ O. O)
 
 pub judge_term-overflow_add-around-in-loop-k : goal.judge_term-overflow_add-around-in-loop-k
 judge_term-overflow_add-around-in-loop-k t c =
     omega (arith, c.loop-k.auto.k, has_room _ _ _ _ (tree t (goal.at.judge_term-overflow_add-around-in-loop-k t c).At-loop-env))
 
-pub judge_term-judge_after-requires : goal.judge_term-judge_after-requires
-judge_term-judge_after-requires t c =
+pub judge_term-judge_after-judged-requires : goal.judge_term-judge_after-judged-requires
+judge_term-judge_after-judged-requires t c =
     let p = c.requires in
-    let out = outwards t (goal.at.judge_term-judge_after-requires t c).At-loop-k in
-    (omega arith, outwards_around _ _ _ _ p.0 _ _ _ _ (omega arith) out.1, c.loop-k.invariant.1, p.1.last_uses.long, outwards_ready _ _ _ _ _ p.0 _ _ _ _ _ (omega arith) p.1.neat out)
-
-pub judge_term-returns-in_err-judged-2 : goal.judge_term-returns-in_err-judged-2
-judge_term-returns-in_err-judged-2 t c =
-    let out = outwards t (goal.at.judge_term-returns-in_err-judged-2 t c).At-loop-k in
-    (ap (ended _) (left_with _ _ c.from_residual-in_err-judged-2.ensures.1) ∙ outwards_refused _ _ _ _ _ c.requires.0 _ _ _ _ _ (omega arith) out _ (rw c.in_err-judged-2.was at c.judge_after.ensures.0), c.judge_after.ensures.1)
+    let out = outwards t (goal.at.judge_term-judge_after-judged-requires t c).At-loop-k in
+    (omega arith, outwards_around _ _ _ _ p.0 _ _ _ _ (omega arith) out.1, c.loop-k.invariant.1, p.1.last_uses.long, outwards_ready _ _ _ _ _ p.0 _ _ _ _ (omega arith) p.1.neat _ _ out)
 
 pub judge_term-loop-k-preserved : goal.judge_term-loop-k-preserved
 judge_term-loop-k-preserved t c =
-    (c.judge_after.auto.env ∙ c.loop-k.invariant.0, c.judge_after.ensures.1, λ Γ O. outwards_less _ _ _ _ _ c.requires.0 _ _ _ _ _ (omega arith) (c.loop-k.invariant.2 Γ O) _ (rw c.in_ok-judged-2.was at c.judge_after.ensures.0))
+    (c.judge_after-judged.auto.env ∙ c.loop-k.invariant.0, c.judge_after-judged.ensures.1, λ Γ O. outwards_less _ _ _ _ _ c.requires.0 _ _ _ _ (omega arith) _ (c.loop-k.invariant.2 Γ O) _ c.judge_after-judged.ensures.0)
 
 pub judge_term-returns : goal.judge_term-returns
 judge_term-returns t c =

@@ -9,7 +9,7 @@ use Rattle.variables.specs.Masks.{has}
 use Rattle.variables.specs.Table.{TableFor, environment_of}
 use Rattle.variables.specs.Verdicts.{as_value}
 use Rattle.uses.specs.RowUses.{later_at}
-use Rattle.term_judge.specs.JudgeRows.{told_as, Ready, rest_at}
+use Rattle.term_judge.specs.JudgeRows.{ended, Ready, rest_at}
 use Rattle.script_judge.proofs.InwardsLaws.{Inwards, Outwards}
 use Rattle.script_judge.proofs.judge.+terms.Given as goal
 
@@ -55,7 +55,7 @@ decreases-judge_term-loop-env l = l.levels - l.count
 
 abbrev pub invariant-judge_term-loop-k : goal.invariant-judge_term-loop-k
 invariant-judge_term-loop-k l = (length l.env ≡ length l.initial.env) × TableFor l.env l.script.variables
-    × ((Γ : Environment) → Outwards l.script.variables l.levels l.script.rows.now l.i (later_at l.script.variables l.script.uses.now (has l.named)) l.level Γ l.initial.k (told_as l.initial.env l.initial.judged) → Outwards l.script.variables l.levels l.script.rows.now l.i (later_at l.script.variables l.script.uses.now (has l.named)) l.level Γ l.k (told_as l.env l.judged))
+    × ((Γ : Environment) → Outwards l.script.variables l.levels l.script.rows.now l.i (later_at l.script.variables l.script.uses.now (has l.named)) l.level Γ l.initial.k (ended l.initial.env l.initial.judged) → Outwards l.script.variables l.levels l.script.rows.now l.i (later_at l.script.variables l.script.uses.now (has l.named)) l.level Γ l.k (ended l.env l.judged))
 
 -- What is left gives the answer of all, and no row comes again.
 abbrev pub invariant-judge_terms-loop : goal.invariant-judge_terms-loop

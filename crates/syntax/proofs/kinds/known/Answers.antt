@@ -28,11 +28,11 @@ up_to v b last which h = go (leb b 11) refl
         (λ w. rw (e, w.1, le-leb 2 v w.0, and-true (leb b 13)))
         which
 
-pub returns-then-kind-ge-NUMBER : goal.returns-then-kind-ge-NUMBER
-returns-then-kind-ge-NUMBER c =
+pub returns-then-kind : goal.returns-then-kind
+returns-then-kind c =
     up_to _ _ _
     (elim c.if-version-lt-CHOICE_AND_SUM_SINCE.branch [ then-version-lt-CHOICE_AND_SUM_SINCE w ↦ inl (omega arith, omega arith) | else-version-lt-CHOICE_AND_SUM_SINCE w ↦ inr (omega arith, omega arith) ])
-    (omega (arith, c.if-kind-ge-NUMBER.true))
+    (omega (arith, c.if-kind.true))
 
-pub returns-else-kind-ge-NUMBER : goal.returns-else-kind-ge-NUMBER
-returns-else-kind-ge-NUMBER c = lt-leb _ _ c.if-kind-ge-NUMBER.false ∙ none _ _ (omega (arith, c.if-kind-ge-NUMBER.false))
+pub returns-else-kind : goal.returns-else-kind
+returns-else-kind c = lt-leb _ _ c.if-kind.false ∙ none _ _ (omega (arith, c.if-kind.false))

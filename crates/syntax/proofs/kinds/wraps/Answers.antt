@@ -1,16 +1,45 @@
 -- `syntax::kinds::wraps` meets its contract. Assumes nothing.
-use borrow.Author.Tests.{eq-eqb, ne_eqb}
+use native.Mathlib.Omega.{arith}
+use mathlib.Core.Path.{◌≡◌, refl, ◌∙◌, ap}
+use mathlib.Core.Bool.{true, false}
+use mathlib.Core.Logic.{◌⊎◌, ⊎_elim}
+use borrow.Author.Tests.{ne_eqb}
+use Rattle.syntax.specs.declared.kinds.Kind.{Kind}
+use Rattle.syntax.specs.declared.kinds.Kind.TheVariants as kind
 use Rattle.syntax.specs.Kinds.{byte_of, wraps_of}
+use Rattle.syntax.specs.KindNumbers.{number_in}
 use Rattle.syntax.proofs.kinds.wraps.Goals as goal
 
-pub returns-then-kind-eq-BOX : goal.returns-then-kind-eq-BOX
+alone : (k : Kind) → (k ≡ kind.Box → ⊥) → (k ≡ kind.Let → ⊥) → (k ≡ kind.Assign → ⊥) → false ≡ wraps_of (number_in k)
 unfolding wraps_of byte_of
-returns-then-kind-eq-BOX c = rw (eq-eqb _ _ c.if-kind-eq-BOX.true)
+alone kind.Number b l a = refl
+alone kind.Reading b l a = refl
+alone kind.Copy b l a = refl
+alone kind.Move b l a = refl
+alone kind.Shared b l a = refl
+alone kind.Exclusive b l a = refl
+alone kind.Box b l a = absurd (b refl)
+alone kind.Let b l a = absurd (l refl)
+alone kind.Assign b l a = absurd (a refl)
+alone kind.Below b l a = refl
+alone kind.Block b l a = refl
+alone kind.Choice b l a = refl
+alone kind.Sum b l a = refl
 
-pub returns-then-kind-eq-LET : goal.returns-then-kind-eq-LET
+around : (k : Kind) → (k ≡ kind.Box) ⊎ ((k ≡ kind.Let) ⊎ (k ≡ kind.Assign)) → true ≡ wraps_of (number_in k)
 unfolding wraps_of byte_of
-returns-then-kind-eq-LET c = rw (ne_eqb _ _ c.before.if-kind-eq-BOX.false, eq-eqb _ _ c.if-kind-eq-LET.true)
+around k h = ⊎_elim (λ e. rw e refl) (⊎_elim (λ e. rw e refl) (λ e. rw e refl)) h
 
-pub returns : goal.returns
+pub returns-in_default : goal.returns-in_default
 unfolding wraps_of byte_of
-returns c = rw (ne_eqb _ _ c.before.if-kind-eq-BOX.false, ne_eqb _ _ c.if-kind-eq-LET.false)
+returns-in_default c = rw (
+  ne_eqb c.args.kind 7 (λ e. c.in_default.ensures (omega (arith, e), omega (arith, e))),
+  ne_eqb c.args.kind 8 (λ e. c.in_default.ensures (omega (arith, e), omega (arith, e))),
+  ne_eqb c.args.kind 9 (λ e. c.in_default.ensures (omega (arith, e), omega (arith, e))),
+)
+
+pub returns-in-Box : goal.returns-in-Box
+returns-in-Box c = around _ c.in-Box.is ∙ ap wraps_of c.in-Ok.ensures
+
+pub returns-in_default-matches : goal.returns-in_default-matches
+returns-in_default-matches c = alone _ c.in_default-matches.not-Box c.in_default-matches.not-Let c.in_default-matches.not-Assign ∙ ap wraps_of c.in-Ok.ensures

@@ -1,0 +1,5 @@
+-- The number that is left.
+use Rattle.program.proofs.line.Text.+push_decimal.Given as goal
+
+abbrev pub decreases-push_decimal : goal.decreases-push_decimal
+decreases-push_decimal l = l.n

@@ -1,2 +1,0 @@
--- What the program says of its input.
-pub mod Input
