@@ -14,7 +14,6 @@ use Rattle.std.specs.Prelude.{Ok, Err}
 use Rattle.syntax.specs.Refusals.{number_of, told}
 use Rattle.syntax.specs.declared.refusals.Refusal as answer
 use Rattle.syntax.specs.declared.refusals.Reason.TheVariants.{WrongKind}
-use Rattle.syntax.proofs.FormNumbers.{form_numbers}
 use Rattle.store.specs.declared.store.Value as held
 use Rattle.store.specs.declared.store.Value.TheVariants as value
 use Rattle.syntax.specs.Result.{Result, ok, err, Refusal, need, ◌>>=◌}
@@ -115,15 +114,6 @@ module _ (set : Limits) where
   judged_decoded : (rows : List ℕ) → in_ranges set ≡ true → length rows ≡ row_numbers set → judged_of set rows ≡ (decode set rows >>= λ t. ok (size t))
   unfolding judged_of rows_tree need ◌>>=◌
   judged_decoded rows i a = rw (i, eq-eqb (length rows) (row_numbers set) a)
-
-  -- The numbers by which rows that fit can be refused.
-  pub refusal_numbers : (rows : List ℕ) → in_ranges set ≡ true → length rows ≡ row_numbers set → (n p : ℕ) → err (n, p) ≡ judged_of set rows → (12 ≤ n) × (n ≤ 19)
-  unfolding ◌>>=◌
-  refusal_numbers rows i a n p q = go (decode set rows) refl (q ∙ judged_decoded rows i a)
-    where
-      go : (m : Result Refusal Term) → decode set rows ≡ m → ◌≡◌ {A = Result Refusal ℕ} (err (n, p)) (m >>= λ t. ok (size t)) → (12 ≤ n) × (n ≤ 19)
-      go (ok t) d q = absurd (cc)
-      go (err e) d q = let z : ◌≡◌ {A = Refusal} (n, p) e = cc in form_numbers set rows (n, p) (d ∙ ap err (sym z))
 
   module _ (rows : List ℕ) (readings : List ℤ) (w : List ℕ) where
     pub unfit_refused : (e : answer.Refusal) → run_fits set rows readings w ≡ err (number_of e.reason, e.place) → ◌≡◌ {A = AnswerAndStore} (told_unchecked (Err (out.Refused e)), w) (unchecked_of set rows readings w)
