@@ -168,7 +168,7 @@ fn judge_inmost(
         _ => {
             let first = place_at(script.rows, i, 1);
             let second = place_at(script.rows, i, 3);
-            let verdict = judge_leaf(script, around, env, kind, first, second);
+            let verdict = judge_leaf(script, around, env, kind.number(), first, second);
             judged_term(i, i + 1, verdict)
         }
     }

@@ -2,6 +2,7 @@
 // inner term, and a box, let or assign before and after its inner term.
 ghost use Rattle.std.specs.Prelude.{◌≡◌, true, List, ℕ, ◌<◌, ◌≤◌, ◌+◌, ◌-◌, length};
 ghost use Rattle.std.proofs.Math.Option.{some};
+ghost use Rattle.syntax.specs.Kinds.{newest, kind_of};
 ghost use Rattle.syntax.specs.KindNumbers.{as_kind};
 ghost use Rattle.syntax.specs.RowParts.{field_at};
 ghost use Rattle.syntax.specs.RowTrees.{place_at};
@@ -49,8 +50,8 @@ pub fn judged_term(i: usize, next: usize, verdict: Verdict) -> Result<Judged, Re
     }
 }
 
-// The terms that have no inner term: the rule of each kind (LANGUAGE 3.18 to 3.22, 3.27). The term is at row `around.end`.
-pub fn judge_leaf(
+// The term of this kind at row `around.end`, where it has no inner term: the rule of the kind (LANGUAGE 3.18 to 3.22, 3.27).
+fn judge_kind(
     script: &Script,
     around: &Around,
     env: &mut [Row],
@@ -88,6 +89,24 @@ pub fn judge_leaf(
         }
         // A number and a reading; the others have inner terms.
         _ => number_value(),
+    }
+}
+
+// The same by the number of the kind, which may be any: what is no kind is judged as a number.
+pub fn judge_leaf(
+    script: &Script,
+    around: &Around,
+    env: &mut [Row],
+    kind: u32,
+    first: Place,
+    second: Place,
+) -> Verdict
+    requires { NeatTable env.old script.now.variables × (length script.now.uses.now ≡ script.now.variables) × AllAround script.now around.now × ((x : ℕ) → names (names_of (kind_of newest kind) first.root second.root) x ≡ true → x < script.now.variables) }
+    ensures { ((ns : Unfinished) → LaterIs script.now.variables script.now.uses.now around.now.end (named_around script.now around.now) ns → answered env.new around.now.end result ≡ judge_leaf script.now.variables (kind_of newest kind) around.now.end (as_place first) (as_place second) ns (environment_of env.old)) × TableFor env.new script.now.variables }
+{
+    match Kind::try_from(kind) {
+        Ok(kind) => judge_kind(script, around, env, kind, first, second),
+        Err(_) => number_value(),
     }
 }
 

@@ -59,7 +59,7 @@ byte_kind table.k_block = omega arith
 byte_kind table.k_choice = omega arith
 byte_kind table.k_sum = omega arith
 
-no_kind : (n : ℕ) → (IsKind n → ⊥) → kind_of newest n ≡ none
+pub no_kind : (n : ℕ) → (IsKind n → ⊥) → kind_of newest n ≡ none
 no_kind n h = go (kind_of newest n) refl
   where
     go : (o : Option table.Kind) → kind_of newest n ≡ o → o ≡ none

@@ -32,6 +32,7 @@ use Rattle.variables.proofs.QuestionLaws.{left_with}
 use Rattle.rules.specs.RuleAnswers.{NumberIs}
 use Rattle.choices.specs.Kept.{Stays}
 use Rattle.uses.specs.RowUses.{later_at, later_of, named_around}
+use Rattle.uses.proofs.KindNames.{kind_read}
 use Rattle.term_judge.specs.declared.terms.Judged.{Judged}
 use Rattle.term_judge.specs.JudgeRows.{told_as, ended, judge_at}
 use Rattle.term_judge.proofs.LaterLaws.{block_later, Follows, tree_follows, choice_later, tree_later, terms_follow}
@@ -355,7 +356,7 @@ judge_inmost-place_at-second-requires t c =
 pub judge_inmost-judge_leaf-verdict-requires : goal.judge_inmost-judge_leaf-verdict-requires
 judge_inmost-judge_leaf-verdict-requires t c =
     let p = c.requires in
-    ((p.2.table, (_, p.2.neat)), p.2.last_uses.long, p.4, leaf_below_law _ _ _ _ p.0 _ (kind_number t (goal.at.judge_inmost-judge_leaf-verdict-requires t c).In-Ok) _ _ c.place_at-first.ensures c.place_at-second.ensures)
+    ((p.2.table, (_, p.2.neat)), p.2.last_uses.long, p.4, λ x h. leaf_below_law _ _ _ _ p.0 _ (kind_number t (goal.at.judge_inmost-judge_leaf-verdict-requires t c).In-Ok) _ _ c.place_at-first.ensures c.place_at-second.ensures x (rw (kind_read c.in-Ok.kind (sym c.number.ensures)) at h))
 
 pub judge_inmost-overflow_add-i : goal.judge_inmost-overflow_add-i
 judge_inmost-overflow_add-i t c =
@@ -365,7 +366,7 @@ pub judge_inmost-returns-in_default-kind : goal.judge_inmost-returns-in_default-
 judge_inmost-returns-in_default-kind t c =
     let p = c.requires in (
       leaf_judged _ _ _ _ p.0 _ (later_of c.args.script.now c.args.around.now) _ c.in-Ok.kind (kind_number t (goal.at.judge_inmost-returns-in_default-kind t c).In-Ok) p.1 c.in_default-kind.not-Block c.in_default-kind.not-Choice _ _ c.place_at-first.ensures c.place_at-second.ensures _
-          (λ u q. told_ended _ _ _ _ _ c.judged_term.ensures _ (c.judge_leaf-verdict.ensures.0 _ (tree_later _ _ _ p.2.last_uses (has c.args.around.now.named) _ _ _ _ u _ q))),
+          (λ u q. told_ended _ _ _ _ _ c.judged_term.ensures _ (rw (← kind_read c.in-Ok.kind (sym c.number.ensures)) (c.judge_leaf-verdict.ensures.0 _ (tree_later _ _ _ p.2.last_uses (has c.args.around.now.named) _ _ _ _ u _ q)))),
       c.judge_leaf-verdict.ensures.1,
     )
 
