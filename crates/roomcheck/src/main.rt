@@ -31,6 +31,9 @@ fn read_input<R: Read>(input: &mut R, buffer: &mut [u8]) -> io::Result<usize>
             }
         }
     }
+    if done == buffer.len() {
+        return Ok(done);
+    }
     Err(io::Error::from(ErrorKind::Interrupted))
 }
 
