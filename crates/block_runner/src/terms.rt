@@ -61,16 +61,16 @@ fn run_after(
         unreachable!();
     };
     match kind {
-        Kind::Box => Ok(run_box(&script.limits, store, inner)),
+        Kind::Box => run_box(&script.limits, store, Ok(inner)),
         Kind::Let => run_let(
             &script.limits,
             store,
             opened,
             i,
             field_at(script.rows, i, 1),
-            inner,
+            Ok(inner),
         ),
-        Kind::Assign => run_assign(&script.limits, store, i, place_at(script.rows, i, 1), inner),
+        Kind::Assign => run_assign(&script.limits, store, i, place_at(script.rows, i, 1), Ok(inner)),
         _ => unreachable!(),
     }
 }
@@ -96,8 +96,8 @@ fn run_choice(
     };
     let block = chosen(script.rows, i, number);
     let inner = run_block(script, block, levels - 1 - 1, store, opened, count, taken)?;
-    let ran = close_block(&script.limits, store, opened, block, count, inner)?;
-    Ok(past_choice(script.rows, number, ran))
+    let ran = close_block(&script.limits, store, opened, block, count, Ok(inner))?;
+    past_choice(script.rows, number, Ok(ran))
 }
 
 // The term at row i, which has no inner term, or is a choice, or a block: its terms, then its end (LANGUAGE 4.17).
@@ -120,7 +120,7 @@ fn run_inmost(
     match kind {
         Kind::Block => {
             let inner = run_block(script, i, levels - 1, store, opened, count, taken)?;
-            close_block(&script.limits, store, opened, i, count, inner)
+            close_block(&script.limits, store, opened, i, count, Ok(inner))
         }
         Kind::Choice => run_choice(script, i, levels, store, opened, count, taken),
         _ => run_plain(script, i, store, count, taken),

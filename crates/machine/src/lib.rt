@@ -55,7 +55,7 @@ fn run_script(
         readings,
     };
     let inner = run_block(&script, 0, deeper, store, opened, 0, 0)?;
-    let ran = close_block(limits, store, opened, 0, 0, inner)?;
+    let ran = close_block(limits, store, opened, 0, 0, Ok(inner))?;
     match ran.value {
         Value::Number(bits) => Ok(Ran {
             answer: number_of(bits),
