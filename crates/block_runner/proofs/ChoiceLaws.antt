@@ -6,7 +6,7 @@ use mathlib.Core.Path.{◌≡◌, sym, ap, subst, ◌∙◌}
 use mathlib.Core.List.{List}
 use lib.IntN.{ℤ}
 use borrow.Author.Tests.{eq-eqb, ne_eqb}
-use Rattle.std.specs.Prelude.{Result, Ok, Err}
+use Rattle.std.specs.Prelude.{Result, Ok, Err, MatchResult}
 use Rattle.syntax.specs.Limits.{Limits, row_numbers}
 use Rattle.syntax.specs.declared.refusals.Reason.{Reason}
 use Rattle.syntax.specs.declared.refusals.Refusal.{Refusal}
@@ -200,7 +200,7 @@ module _ (set : Limits) where
           pub choice_past : PastReady rows m ran
           choice_past z = record { set = set; levels = levels - 1; is = next_is z }
 
-          pub choice_returns : (r : Standing) → Past rows m ran r → TermRan set rows i levels readings w opened n taken w₁ opened₁ (Ok r)
+          choice_returns : (r : Standing) → Past rows m ran r → TermRan set rows i levels readings w opened n taken w₁ opened₁ (Ok r)
           choice_returns r q = subst (λ (x : Standing). TermRan set rows i levels readings w opened n taken w₁ opened₁ (Ok x)) (sym q.is) (go (ℕ_discrete m 0))
             where
               go : Dec (m ≡ 0) → TermRan set rows i levels readings w opened n taken w₁ opened₁ (Ok (onwards ran r.next))
@@ -211,3 +211,7 @@ module _ (set : Limits) where
               go (no z) =
                   after_block (i + 1) shape.first (first_runs root follows p m y z) ran (first_ran z) (omega arith) in_rows.second r.next
                   (q.first z set (levels - 1) (next_is z) ∙ ap (λ (k : ℕ). end_of (tree_at set.variables (levels - 1) rows k)) (first_next z) ∙ some_end _ _ _ shape.second.is)
+
+          pub choice_passes : (r : Result Standing Refusal) → MatchResult r (λ s. Past rows m ran s) (λ _. ⊥) → TermRan set rows i levels readings w opened n taken w₁ opened₁ r
+          choice_passes (Ok r) q = choice_returns r q
+          choice_passes (Err x) q = absurd q

@@ -7,7 +7,7 @@ use Rattle.syntax.proofs.RowTreeLaws.{has_level, has_room}
 use Rattle.store.proofs.Again.{again}
 use Rattle.block_runner.proofs.BlockRunLaws.{going_starts, going_ends, going_drops, turn_ready, going_stops, going_goes, block_ready, block_stops, block_ending, block_returns}
 use Rattle.block_runner.proofs.WrapLaws.{tree_known, inmost_ready, inmost_returns, inwards_starts, inwards_here, inwards_room, inwards_level, inwards_goes, inwards_stops, outwards_starts, outwards_ends, outwards_after, outwards_stops, outwards_goes}
-use Rattle.block_runner.proofs.ChoiceLaws.{choice_place, choice_stops, choice_passable, chosen_ready, choice_fails, choice_past, choice_returns}
+use Rattle.block_runner.proofs.ChoiceLaws.{choice_place, choice_stops, choice_passable, chosen_ready, choice_fails, choice_past, choice_passes}
 use native.Mathlib.Omega.{arith}
 use mathlib.Core.Path.{sym, ap, subst, ◌∙◌}
 use Rattle.block_runner.proofs.terms.+terms.Goals as goal
@@ -181,4 +181,4 @@ run_choice-past_choice-requires t c =
 pub run_choice-returns : goal.run_choice-returns
 run_choice-returns t c =
     let ready = chosen_ready _ _ _ _ _ _ _ _ _ c.requires.0 c.requires.1 _ _ c.chosen-block.ensures in
-    choice_returns _ _ _ _ _ _ _ _ _ c.requires.0 c.requires.1 _ _ _ _ c.chosen-block.ensures _ _ c.place_at.ensures c.in-Ok.ensures _ (block_returns _ _ _ _ _ _ _ _ _ ready.0 ready.1 _ _ _ c.in_ok-inner.ensures _ _ c.in_ok-ran.ensures) _ c.past_choice.ensures
+    choice_passes _ _ _ _ _ _ _ _ _ c.requires.0 c.requires.1 _ _ _ _ c.chosen-block.ensures _ _ c.place_at.ensures c.in-Ok.ensures _ (block_returns _ _ _ _ _ _ _ _ _ ready.0 ready.1 _ _ _ c.in_ok-inner.ensures _ _ c.in_ok-ran.ensures) _ c.past_choice.ensures
