@@ -7,7 +7,7 @@ use mathlib.Core.Option.{none, some}
 use mathlib.Core.List.{List, []}
 use lib.IntN.{ℤ}
 use lib.ListN.{length}
-use Rattle.std.specs.Prelude.{Result, Ok, Err}
+use Rattle.std.specs.Prelude.{Result, Ok, Err, IfOk, MatchResult}
 use Rattle.syntax.specs.Limits.{Limits}
 use Rattle.syntax.specs.declared.refusals.Reason.{Reason}
 use Rattle.syntax.specs.declared.refusals.Refusal.{Refusal}
@@ -286,7 +286,7 @@ module _ (set : Limits) where
         ∙ ap (λ (d : RowTree Term). run_at readings d (state_at set w taken (since opened begin (n - begin)))) (sym is_block)
 
     -- A fault of its terms goes onwards.
-    pub block_stops : (w₁ opened₁ : List ℕ) (x : Refusal) → BlockRan set rows i (levels - 1) readings w opened n taken w₁ opened₁ (Err x) → TermRan set rows i levels readings w opened n taken w₁ opened₁ (Err x)
+    block_stops : (w₁ opened₁ : List ℕ) (x : Refusal) → BlockRan set rows i (levels - 1) readings w opened n taken w₁ opened₁ (Err x) → TermRan set rows i levels readings w opened n taken w₁ opened₁ (Err x)
     unfolding sequel
     block_stops w₁ opened₁ x t = record { tidy = t.tidy; is = λ begin h. ended_is w₁ opened₁ (Err x) t begin; sound = tt; opens = tt }
 
@@ -297,8 +297,8 @@ module _ (set : Limits) where
       runs_fine (some r) h q =
           keeps_ok (runs_ordered (bits_of readings) r.0 i (state_at set w taken []) g.ready.ordered) (outcome set w₁ opened₁ n inner) (same_ran (runs (bits_of readings) r.0 i (state_at set w taken [])) (outcome set w₁ opened₁ n inner) inner.next r.1 q).0
 
-      pub block_ending : length opened₁ ≡ length opened → EndReady set w₁ opened₁ n inner
-      block_ending long = record {
+      ending_ready : length opened₁ ≡ length opened → EndReady set w₁ opened₁ n inner
+      ending_ready long = record {
         ready = record { tidy = t.tidy; fine = record { sound = t.sound; ordered = runs_fine terms asks (runs_is w₁ opened₁ (Ok inner) t) } };
         listed = t.opens.listed;
         begun = t.opens.more;
@@ -311,8 +311,8 @@ module _ (set : Limits) where
           ∙ ap (λ (l : List ℕ). sequel (stood set w₁ opened₁ n (Ok inner)) (λ o. run_block_end i l o)) (since_kept opened₁ opened begin n h t.opens.kept)
           ∙ ended_is w₁ opened₁ (Ok inner) t begin
 
-      pub block_returns : (w₂ : List ℕ) (r : Stands) → BlockClosed set w₁ opened₁ i n inner w₂ r → TermRan set rows i levels readings w opened n taken w₂ opened₁ r
-      block_returns w₂ (Ok r) b = record {
+      closed_returns : (w₂ : List ℕ) (r : Stands) → BlockClosed set w₁ opened₁ i n inner w₂ r → TermRan set rows i levels readings w opened n taken w₂ opened₁ r
+      closed_returns w₂ (Ok r) b = record {
         tidy = b.tidy;
         is = closed_is w₂ (Ok r) b;
         sound = b.went.sound;
@@ -324,4 +324,14 @@ module _ (set : Limits) where
             let q = b.went.next in
             record { kept = o.kept; more = omega arith; few = omega arith; listed = λ k h. o.listed k (omega arith); room = rw q o.room };
       }
-      block_returns w₂ (Err x) b = record { tidy = b.tidy; is = closed_is w₂ (Err x) b; sound = tt; opens = tt }
+      closed_returns w₂ (Err x) b = record { tidy = b.tidy; is = closed_is w₂ (Err x) b; sound = tt; opens = tt }
+
+    -- Its end, which is handed a fault of its terms too.
+    pub block_ending : (w₁ opened₁ : List ℕ) (inner : Stands) → BlockRan set rows i (levels - 1) readings w opened n taken w₁ opened₁ inner → length opened₁ ≡ length opened → IfOk inner (λ s. EndReady set w₁ opened₁ n s)
+    block_ending w₁ opened₁ (Ok s) t long = ending_ready w₁ opened₁ s t long
+    block_ending w₁ opened₁ (Err x) t long = tt
+
+    pub block_returns : (w₁ opened₁ : List ℕ) (inner : Stands) → BlockRan set rows i (levels - 1) readings w opened n taken w₁ opened₁ inner → (w₂ : List ℕ) (r : Stands)
+        → MatchResult inner (λ s. BlockClosed set w₁ opened₁ i n s w₂ r) (λ e. (r ≡ Err e) × (w₂ ≡ w₁)) → TermRan set rows i levels readings w opened n taken w₂ opened₁ r
+    block_returns w₁ opened₁ (Ok s) t w₂ r b = closed_returns w₁ opened₁ s t w₂ r b
+    block_returns w₁ opened₁ (Err x) t w₂ r b = rw (b.0, b.1) (block_stops w₁ opened₁ x t)

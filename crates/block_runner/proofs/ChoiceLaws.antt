@@ -6,7 +6,7 @@ use mathlib.Core.Path.{◌≡◌, sym, ap, subst, ◌∙◌}
 use mathlib.Core.List.{List}
 use lib.IntN.{ℤ}
 use borrow.Author.Tests.{eq-eqb, ne_eqb}
-use Rattle.std.specs.Prelude.{Result, Ok, Err}
+use Rattle.std.specs.Prelude.{Result, Ok, Err, IfOk, MatchResult}
 use Rattle.syntax.specs.Limits.{Limits, row_numbers}
 use Rattle.syntax.specs.declared.refusals.Reason.{Reason}
 use Rattle.syntax.specs.declared.refusals.Refusal.{Refusal}
@@ -179,7 +179,7 @@ module _ (set : Limits) where
           }
 
       module _ (m j : ℕ) (c : Chosen rows i m j) (root follows : ℕ) (p : (root ≡ field_at rows i 1) × (follows ≡ field_at rows i 2)) (y : Numbered set w root follows (Ok m)) where
-        pub choice_fails : (x : Refusal) → RanAt (Err x) j → TermRan set rows i levels readings w opened n taken w₁ opened₁ (Err x)
+        choice_fails : (x : Refusal) → RanAt (Err x) j → TermRan set rows i levels readings w opened n taken w₁ opened₁ (Err x)
         choice_fails x t = go (ℕ_discrete m 0)
           where
             go : Dec (m ≡ 0) → TermRan set rows i levels readings w opened n taken w₁ opened₁ (Err x)
@@ -197,11 +197,11 @@ module _ (set : Limits) where
           next_is : (m ≡ 0 → ⊥) → IsTree (tree_at set.variables (levels - 1) rows ran.next)
           next_is z = rw (first_next z) (tree_some _ shape.second.is)
 
-          pub choice_past : PastReady rows m ran
-          choice_past z = record { set = set; levels = levels - 1; is = next_is z }
+          past_ready : PastReady rows m ran
+          past_ready z = record { set = set; levels = levels - 1; is = next_is z }
 
-          pub choice_returns : (r : Standing) → Past rows m ran r → TermRan set rows i levels readings w opened n taken w₁ opened₁ (Ok r)
-          choice_returns r q = subst (λ (x : Standing). TermRan set rows i levels readings w opened n taken w₁ opened₁ (Ok x)) (sym q.is) (go (ℕ_discrete m 0))
+          past_returns : (r : Standing) → Past rows m ran r → TermRan set rows i levels readings w opened n taken w₁ opened₁ (Ok r)
+          past_returns r q = subst (λ (x : Standing). TermRan set rows i levels readings w opened n taken w₁ opened₁ (Ok x)) (sym q.is) (go (ℕ_discrete m 0))
             where
               go : Dec (m ≡ 0) → TermRan set rows i levels readings w opened n taken w₁ opened₁ (Ok (onwards ran r.next))
               go (yes z) =
@@ -211,3 +211,14 @@ module _ (set : Limits) where
               go (no z) =
                   after_block (i + 1) shape.first (first_runs root follows p m y z) ran (first_ran z) (omega arith) in_rows.second r.next
                   (q.first z set (levels - 1) (next_is z) ∙ ap (λ (k : ℕ). end_of (tree_at set.variables (levels - 1) rows k)) (first_next z) ∙ some_end _ _ _ shape.second.is)
+
+        pub choice_past : (ran : Stands) → RanAt ran j → IfOk ran (λ s. PastReady rows m s)
+        choice_past (Ok s) t = past_ready s t
+        choice_past (Err x) t = tt
+
+        -- After the end of that block, which is handed a fault too.
+        pub choice_returns : (ran : Stands) → RanAt ran j → (r : Stands) → MatchResult ran (λ s. MatchResult r (λ q. Past rows m s q) (λ _. ⊥)) (λ e. r ≡ Err e)
+            → TermRan set rows i levels readings w opened n taken w₁ opened₁ r
+        choice_returns (Ok s) t (Ok q) p = past_returns s t q p
+        choice_returns (Ok s) t (Err x) p = absurd p
+        choice_returns (Err x) t r p = rw p (choice_fails x t)

@@ -61,16 +61,22 @@ fn run_after(
         unreachable!();
     };
     match kind {
-        Kind::Box => Ok(run_box(&script.limits, store, inner)),
+        Kind::Box => run_box(&script.limits, store, Ok(inner)),
         Kind::Let => run_let(
             &script.limits,
             store,
             opened,
             i,
             field_at(script.rows, i, 1),
-            inner,
+            Ok(inner),
         ),
-        Kind::Assign => run_assign(&script.limits, store, i, place_at(script.rows, i, 1), inner),
+        Kind::Assign => run_assign(
+            &script.limits,
+            store,
+            i,
+            place_at(script.rows, i, 1),
+            Ok(inner),
+        ),
         _ => unreachable!(),
     }
 }
@@ -95,9 +101,9 @@ fn run_choice(
         Err(reason) => return Err(Refusal { reason, place: i }),
     };
     let block = chosen(script.rows, i, number);
-    let inner = run_block(script, block, levels - 1 - 1, store, opened, count, taken)?;
-    let ran = close_block(&script.limits, store, opened, block, count, inner)?;
-    Ok(past_choice(script.rows, number, ran))
+    let inner = run_block(script, block, levels - 1 - 1, store, opened, count, taken);
+    let ran = close_block(&script.limits, store, opened, block, count, inner);
+    past_choice(script.rows, number, ran)
 }
 
 // The term at row i, which has no inner term, or is a choice, or a block: its terms, then its end (LANGUAGE 4.17).
@@ -119,7 +125,7 @@ fn run_inmost(
     };
     match kind {
         Kind::Block => {
-            let inner = run_block(script, i, levels - 1, store, opened, count, taken)?;
+            let inner = run_block(script, i, levels - 1, store, opened, count, taken);
             close_block(&script.limits, store, opened, i, count, inner)
         }
         Kind::Choice => run_choice(script, i, levels, store, opened, count, taken),

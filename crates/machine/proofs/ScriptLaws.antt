@@ -10,7 +10,7 @@ use lib.ListN.{length, get_or}
 use mir.Syntax.{w32}
 use mir.Val.{to_z}
 use borrow.Author.Tests.{eq-eqb}
-use Rattle.std.specs.Prelude.{Ok, Err}
+use Rattle.std.specs.Prelude.{Ok, Err, IfOk, MatchResult}
 use Rattle.syntax.specs.Refusals.{number_of, told}
 use Rattle.syntax.specs.declared.refusals.Refusal as answer
 use Rattle.syntax.specs.declared.refusals.Reason.TheVariants.{WrongKind}
@@ -45,7 +45,7 @@ use Rattle.machine.specs.declared.Stopped.TheVariants as out
 use Rattle.store.proofs.WordLaws.{cleared_store, cleared_tidy}
 use Rattle.term_runner.proofs.LeafLaws.{no_number}
 use Rattle.block_runner.proofs.TermLaws.{same_ran}
-use Rattle.block_runner.proofs.BlockRunLaws.{block_ready, block_stops, block_ending, block_returns}
+use Rattle.block_runner.proofs.BlockRunLaws.{block_ready, block_ending, block_returns}
 use Rattle.dynamics.proofs.JudgedRows.{Runnable, judged}
 
 -- The state in which a run begins.
@@ -232,21 +232,22 @@ module _ (set : Limits) where
           ends_answered p k a ea = rw ea ((tree_answers readings w₃ t.tidy.words opened₃ r (tree_at set.variables set.levels rows 0) g.is (ran (Ok r) t) p k) ∙ run_is rows readings w ready words)
 
       module _ (w₂ opened₂ : List ℕ) where
-        pub script_stops : (e : answer.Refusal) → BlockRan set rows 0 (set.levels - 1) readings w₁ opened 0 0 w₂ opened₂ (Err e) → ◌≡◌ {A = AnswerAndStore} (told_ran (Err e), w₂) (unchecked_of set rows readings w)
-        script_stops e t = ends_faulted w₂ opened₂ e (block_stops set rows 0 set.levels readings w₁ opened 0 0 (script_ready opened h) g.root w₂ opened₂ e t)
-
-        module _ (inner : Standing) (t : BlockRan set rows 0 (set.levels - 1) readings w₁ opened 0 0 w₂ opened₂ (Ok inner)) where
-          pub script_closes : length opened₂ ≡ length opened → EndReady set w₂ opened₂ 0 inner
+        module _ (inner : Stands) (t : BlockRan set rows 0 (set.levels - 1) readings w₁ opened 0 0 w₂ opened₂ inner) where
+          pub script_closes : length opened₂ ≡ length opened → IfOk inner (λ s. EndReady set w₂ opened₂ 0 s)
           script_closes long = block_ending set rows 0 set.levels readings w₁ opened 0 0 (script_ready opened h) g.root w₂ opened₂ inner t long
 
+          -- What the end of the outermost block answers, and leaves.
+          abbrev Ended : List ℕ → Stands → Type 0
+          Ended w₃ r = MatchResult inner (λ s. BlockClosed set w₂ opened₂ 0 0 s w₃ r) (λ e. (r ≡ Err e) × (w₃ ≡ w₂))
+
           module _ (w₃ : List ℕ) where
-            term_ran : (r : Stands) → BlockClosed set w₂ opened₂ 0 0 inner w₃ r → TermRan set rows 0 set.levels readings w₁ opened 0 0 w₃ opened₂ r
+            term_ran : (r : Stands) → Ended w₃ r → TermRan set rows 0 set.levels readings w₁ opened 0 0 w₃ opened₂ r
             term_ran r b = block_returns set rows 0 set.levels readings w₁ opened 0 0 (script_ready opened h) g.root w₂ opened₂ inner t w₃ r b
 
-            pub script_faults : (e : answer.Refusal) → BlockClosed set w₂ opened₂ 0 0 inner w₃ (Err e) → ◌≡◌ {A = AnswerAndStore} (told_ran (Err e), w₃) (unchecked_of set rows readings w)
+            pub script_faults : (e : answer.Refusal) → Ended w₃ (Err e) → ◌≡◌ {A = AnswerAndStore} (told_ran (Err e), w₃) (unchecked_of set rows readings w)
             script_faults e b = ends_faulted w₃ opened₂ e (term_ran (Err e) b)
 
-            module _ (r : Standing) (b : BlockClosed set w₂ opened₂ 0 0 inner w₃ (Ok r)) where
+            module _ (r : Standing) (b : Ended w₃ (Ok r)) where
               pub script_wrong : ((n : ℕ) → r.value ≡ value.Number n → ⊥) → ◌≡◌ {A = AnswerAndStore} (told_ran (Err (record { reason = WrongKind; place = 0 })), w₃) (unchecked_of set rows readings w)
               script_wrong k = ends_wrong w₃ opened₂ r (term_ran (Ok r) b) k
 

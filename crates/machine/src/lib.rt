@@ -54,7 +54,7 @@ fn run_script(
         rows,
         readings,
     };
-    let inner = run_block(&script, 0, deeper, store, opened, 0, 0)?;
+    let inner = run_block(&script, 0, deeper, store, opened, 0, 0);
     let ran = close_block(limits, store, opened, 0, 0, inner)?;
     match ran.value {
         Value::Number(bits) => Ok(Ran {

@@ -1,5 +1,6 @@
-// What follows an inner term: one function for each run rule (LANGUAGE 4.13 to 4.15, 4.17). A fault has its term (4.5).
-ghost use Rattle.std.specs.Prelude.{◌<◌, Ok};
+// What follows an inner term: one function for each run rule (LANGUAGE 4.13 to 4.15, 4.17). A fault has its term (4.5); that of
+// the inner term is the answer, and nothing else changes.
+ghost use Rattle.std.specs.Prelude.{◌≡◌, ◌<◌, Err, IfOk, MatchResult};
 ghost use Rattle.syntax.specs.Limits.{store_rows};
 ghost use Rattle.store.specs.Words.{Tidy, Sound};
 ghost use Rattle.term_runner.specs.Parts.{Wrote, PlaceAssigned, InnerReady, BoxReady, Boxed, LetReady, Declared, Assigned, EndReady, BlockClosed};
@@ -21,18 +22,23 @@ pub struct Standing {
 }
 
 // Box (LANGUAGE 4.13), after the inner term: the next cell opens with its value.
-pub fn run_box(limits: &Limits, store: &mut [u32], inner: Standing) -> Standing
-    requires { BoxReady limits.now store.old inner }
-    ensures { Boxed limits.now store.old inner store.new (Ok result) }
+pub fn run_box(
+    limits: &Limits,
+    store: &mut [u32],
+    inner: Result<Standing, Refusal>,
+) -> Result<Standing, Refusal>
+    requires { IfOk inner (λ s. BoxReady limits.now store.old s) }
+    ensures { MatchResult inner (λ s. Boxed limits.now store.old s store.new result) (λ e. (result ≡ Err e) × (store.new ≡ store.old)) }
 {
+    let inner = inner?;
     let row = limits.variables as usize + inner.taken;
     put_row(limits, store, row, Row::Open(inner.value));
-    Standing {
+    Ok(Standing {
         value: Value::Owner(inner.taken as u32),
         taken: inner.taken + 1,
         opened: inner.opened,
         next: inner.next,
-    }
+    })
 }
 
 // Let (LANGUAGE 4.14), after the inner term: its row opens, 62 if it is open already.
@@ -42,11 +48,12 @@ pub fn run_let(
     opened: &mut [u8],
     i: usize,
     x: u32,
-    inner: Standing,
+    inner: Result<Standing, Refusal>,
 ) -> Result<Standing, Refusal>
-    requires { LetReady limits.now store.old opened.old x inner }
-    ensures { Declared limits.now store.old opened.old i x inner store.new opened.new result }
+    requires { IfOk inner (λ s. LetReady limits.now store.old opened.old x s) }
+    ensures { MatchResult inner (λ s. Declared limits.now store.old opened.old i x s store.new opened.new result) (λ e. (result ≡ Err e) × (store.new ≡ store.old) × (opened.new ≡ opened.old)) }
 {
+    let inner = inner?;
     let row = x as usize;
     if let Row::Open(_) = load(limits, store, row) {
         return Err(Refusal {
@@ -98,11 +105,12 @@ pub fn run_assign(
     store: &mut [u32],
     i: usize,
     place: Place,
-    inner: Standing,
+    inner: Result<Standing, Refusal>,
 ) -> Result<Standing, Refusal>
-    requires { InnerReady limits.now store.old inner × (place.root < limits.now.variables) }
-    ensures { Assigned limits.now store.old i place.root place.follows inner store.new result }
+    requires { IfOk inner (λ s. InnerReady limits.now store.old s × (place.root < limits.now.variables)) }
+    ensures { MatchResult inner (λ s. Assigned limits.now store.old i place.root place.follows s store.new result) (λ e. (result ≡ Err e) × (store.new ≡ store.old)) }
 {
+    let inner = inner?;
     match assign_place(limits, store, place, inner.value) {
         Ok(()) => Ok(Standing {
             value: Value::Empty,
@@ -119,11 +127,12 @@ pub fn close_block(
     opened: &[u8],
     i: usize,
     begin: usize,
-    inner: Standing,
+    inner: Result<Standing, Refusal>,
 ) -> Result<Standing, Refusal>
-    requires { EndReady limits.now store.old opened.now begin inner }
-    ensures { BlockClosed limits.now store.old opened.now i begin inner store.new result }
+    requires { IfOk inner (λ s. EndReady limits.now store.old opened.now begin s) }
+    ensures { MatchResult inner (λ s. BlockClosed limits.now store.old opened.now i begin s store.new result) (λ e. (result ≡ Err e) × (store.new ≡ store.old)) }
 {
+    let inner = inner?;
     match close_variables(limits, store, opened, begin, inner.opened) {
         Ok(()) => Ok(Standing {
             opened: begin,

@@ -1,10 +1,11 @@
 // The block of a choice that does not run (LANGUAGE 4.23): its rows are passed over.
-ghost use Rattle.std.specs.Prelude.{◌+◌, ◌*◌, ◌≤◌, ◌≡◌, length};
+ghost use Rattle.std.specs.Prelude.{◌+◌, ◌*◌, ◌≤◌, ◌≡◌, length, Err, IfOk, MatchResult};
 ghost use Rattle.term_runner.specs.Skip.{inside_at, Passable, Passed, Chosen, PastReady, Past};
 
 use crate::around::Standing;
 use syntax::fields::{field_at, index_at};
 use syntax::kinds::Kind;
+use syntax::refusals::Refusal;
 
 // How many terms stand inside the term at row i, those inside them not counted (LANGUAGE 2.3).
 fn inside(rows: &[u32], i: usize) -> usize
@@ -52,13 +53,18 @@ pub fn chosen(rows: &[u32], i: usize, number: u32) -> usize
 }
 
 // After the block that ran: where it was the first one, the second is passed over.
-pub fn past_choice(rows: &[u32], number: u32, ran: Standing) -> Standing
-    requires { PastReady rows.now number ran }
-    ensures { Past rows.now number ran result }
+pub fn past_choice(
+    rows: &[u32],
+    number: u32,
+    ran: Result<Standing, Refusal>,
+) -> Result<Standing, Refusal>
+    requires { IfOk ran (λ s. PastReady rows.now number s) }
+    ensures { MatchResult ran (λ s. MatchResult result (λ r. Past rows.now number s r) (λ _. ⊥)) (λ e. result ≡ Err e) }
 {
+    let ran = ran?;
     if number == 0 {
-        return ran;
+        return Ok(ran);
     }
     let end = after_term(rows, ran.next);
-    Standing { next: end, ..ran }
+    Ok(Standing { next: end, ..ran })
 }

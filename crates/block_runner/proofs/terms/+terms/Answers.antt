@@ -5,9 +5,9 @@ use Rattle.syntax.specs.Parts.{IsKind}
 use Rattle.syntax.specs.KindNumbers.{number_in}
 use Rattle.syntax.proofs.RowTreeLaws.{has_level, has_room}
 use Rattle.store.proofs.Again.{again}
-use Rattle.block_runner.proofs.BlockRunLaws.{going_starts, going_ends, going_drops, turn_ready, going_stops, going_goes, block_ready, block_stops, block_ending, block_returns}
+use Rattle.block_runner.proofs.BlockRunLaws.{going_starts, going_ends, going_drops, turn_ready, going_stops, going_goes, block_ready, block_ending, block_returns}
 use Rattle.block_runner.proofs.WrapLaws.{tree_known, inmost_ready, inmost_returns, inwards_starts, inwards_here, inwards_room, inwards_level, inwards_goes, inwards_stops, outwards_starts, outwards_ends, outwards_after, outwards_stops, outwards_goes}
-use Rattle.block_runner.proofs.ChoiceLaws.{choice_place, choice_stops, choice_passable, chosen_ready, choice_fails, choice_past, choice_returns}
+use Rattle.block_runner.proofs.ChoiceLaws.{choice_place, choice_stops, choice_passable, chosen_ready, choice_past, choice_returns}
 use native.Mathlib.Omega.{arith}
 use mathlib.Core.Path.{sym, ap, subst, ◌∙◌}
 use Rattle.block_runner.proofs.terms.+terms.Goals as goal
@@ -51,22 +51,17 @@ run_inmost-unreachable-requires t c = tree_known _ _ _ _ c.requires.0.is (λ h. 
 pub run_inmost-overflow_sub-levels : goal.run_inmost-overflow_sub-levels
 run_inmost-overflow_sub-levels t c = omega (arith, has_level _ _ _ _ c.requires.0.is)
 
-pub run_inmost-run_block-requires : goal.run_inmost-run_block-requires
-run_inmost-run_block-requires t c =
+pub run_inmost-run_block-inner-requires : goal.run_inmost-run_block-inner-requires
+run_inmost-run_block-inner-requires t c =
     (omega (arith, c.decreases, has_level _ _ _ _ c.requires.0.is), block_ready _ _ _ _ _ _ _ _ _ c.requires.0 (sym (c.in-Ok.ensures ∙ c.field_at.ensures) ∙ ap number_in c.in-Block.is))
 
 pub run_inmost-close_block-requires : goal.run_inmost-close_block-requires
 run_inmost-close_block-requires t c =
-    block_ending _ _ _ _ _ _ _ _ _ c.requires.0 (sym (c.in-Ok.ensures ∙ c.field_at.ensures) ∙ ap number_in c.in-Block.is) _ _ _ c.in_ok-inner-in-Block.ensures c.run_block.auto.opened
+    block_ending _ _ _ _ _ _ _ _ _ c.requires.0 (sym (c.in-Ok.ensures ∙ c.field_at.ensures) ∙ ap number_in c.in-Block.is) _ _ _ c.run_block-inner.ensures c.run_block-inner.auto.opened
 
-pub run_inmost-returns-in_err-inner-in-Block : goal.run_inmost-returns-in_err-inner-in-Block
-run_inmost-returns-in_err-inner-in-Block t c =
-    rw (again c.in_err-inner-in-Block.field-0.0 c.from_residual.result c.from_residual.ensures)
-    (block_stops _ _ _ _ _ _ _ _ _ c.requires.0 (sym (c.in-Ok.ensures ∙ c.field_at.ensures) ∙ ap number_in c.in-Block.is) _ _ _ c.in_err-inner-in-Block.ensures)
-
-pub run_inmost-returns-in_ok-inner-in-Block : goal.run_inmost-returns-in_ok-inner-in-Block
-run_inmost-returns-in_ok-inner-in-Block t c =
-    block_returns _ _ _ _ _ _ _ _ _ c.requires.0 (sym (c.in-Ok.ensures ∙ c.field_at.ensures) ∙ ap number_in c.in-Block.is) _ _ _ c.in_ok-inner-in-Block.ensures _ _ c.close_block.ensures
+pub run_inmost-returns-in-Block : goal.run_inmost-returns-in-Block
+run_inmost-returns-in-Block t c =
+    block_returns _ _ _ _ _ _ _ _ _ c.requires.0 (sym (c.in-Ok.ensures ∙ c.field_at.ensures) ∙ ap number_in c.in-Block.is) _ _ _ c.run_block-inner.ensures _ _ c.close_block.ensures
 
 pub run_inmost-run_plain-requires : goal.run_inmost-run_plain-requires
 unfolding row_numbers
@@ -151,34 +146,22 @@ run_choice-overflow_sub-levels-2 t c =
     let ready = chosen_ready _ _ _ _ _ _ _ _ _ c.requires.0 c.requires.1 _ _ c.chosen-block.ensures in
     omega (arith, has_level _ _ _ _ ready.0.is)
 
-pub run_choice-run_block-requires : goal.run_choice-run_block-requires
-run_choice-run_block-requires t c =
+pub run_choice-run_block-inner-requires : goal.run_choice-run_block-inner-requires
+run_choice-run_block-inner-requires t c =
     let ready = chosen_ready _ _ _ _ _ _ _ _ _ c.requires.0 c.requires.1 _ _ c.chosen-block.ensures in
     (omega (arith, c.decreases, has_level _ _ _ _ c.requires.0.is), block_ready _ _ _ _ _ _ _ _ _ ready.0 ready.1)
 
-pub run_choice-close_block-requires : goal.run_choice-close_block-requires
-run_choice-close_block-requires t c =
+pub run_choice-close_block-ran-requires : goal.run_choice-close_block-ran-requires
+run_choice-close_block-ran-requires t c =
     let ready = chosen_ready _ _ _ _ _ _ _ _ _ c.requires.0 c.requires.1 _ _ c.chosen-block.ensures in
-    block_ending _ _ _ _ _ _ _ _ _ ready.0 ready.1 _ _ _ c.in_ok-inner.ensures c.run_block.auto.opened
-
-pub run_choice-returns-in_err-inner : goal.run_choice-returns-in_err-inner
-run_choice-returns-in_err-inner t c =
-    let ready = chosen_ready _ _ _ _ _ _ _ _ _ c.requires.0 c.requires.1 _ _ c.chosen-block.ensures in
-    rw (again c.in_err-inner.field-0.0 c.from_residual.result c.from_residual.ensures)
-    (choice_fails _ _ _ _ _ _ _ _ _ c.requires.0 c.requires.1 _ _ _ _ c.chosen-block.ensures _ _ c.place_at.ensures c.in-Ok.ensures _ (block_stops _ _ _ _ _ _ _ _ _ ready.0 ready.1 _ _ _ c.in_err-inner.ensures))
-
-pub run_choice-returns-in_err-ran : goal.run_choice-returns-in_err-ran
-run_choice-returns-in_err-ran t c =
-    let ready = chosen_ready _ _ _ _ _ _ _ _ _ c.requires.0 c.requires.1 _ _ c.chosen-block.ensures in
-    rw (again c.in_err-ran.field-0.0 c.from_residual-in_err-ran.result c.from_residual-in_err-ran.ensures)
-    (choice_fails _ _ _ _ _ _ _ _ _ c.requires.0 c.requires.1 _ _ _ _ c.chosen-block.ensures _ _ c.place_at.ensures c.in-Ok.ensures _ (block_returns _ _ _ _ _ _ _ _ _ ready.0 ready.1 _ _ _ c.in_ok-inner.ensures _ _ c.in_err-ran.ensures))
+    block_ending _ _ _ _ _ _ _ _ _ ready.0 ready.1 _ _ _ c.run_block-inner.ensures c.run_block-inner.auto.opened
 
 pub run_choice-past_choice-requires : goal.run_choice-past_choice-requires
 run_choice-past_choice-requires t c =
     let ready = chosen_ready _ _ _ _ _ _ _ _ _ c.requires.0 c.requires.1 _ _ c.chosen-block.ensures in
-    choice_past _ _ _ _ _ _ _ _ _ c.requires.0 c.requires.1 _ _ _ _ c.chosen-block.ensures _ _ c.place_at.ensures c.in-Ok.ensures _ (block_returns _ _ _ _ _ _ _ _ _ ready.0 ready.1 _ _ _ c.in_ok-inner.ensures _ _ c.in_ok-ran.ensures)
+    choice_past _ _ _ _ _ _ _ _ _ c.requires.0 c.requires.1 _ _ _ _ c.chosen-block.ensures _ _ c.place_at.ensures c.in-Ok.ensures _ (block_returns _ _ _ _ _ _ _ _ _ ready.0 ready.1 _ _ _ c.run_block-inner.ensures _ _ c.close_block-ran.ensures)
 
 pub run_choice-returns : goal.run_choice-returns
 run_choice-returns t c =
     let ready = chosen_ready _ _ _ _ _ _ _ _ _ c.requires.0 c.requires.1 _ _ c.chosen-block.ensures in
-    choice_returns _ _ _ _ _ _ _ _ _ c.requires.0 c.requires.1 _ _ _ _ c.chosen-block.ensures _ _ c.place_at.ensures c.in-Ok.ensures _ (block_returns _ _ _ _ _ _ _ _ _ ready.0 ready.1 _ _ _ c.in_ok-inner.ensures _ _ c.in_ok-ran.ensures) _ c.past_choice.ensures
+    choice_returns _ _ _ _ _ _ _ _ _ c.requires.0 c.requires.1 _ _ _ _ c.chosen-block.ensures _ _ c.place_at.ensures c.in-Ok.ensures _ (block_returns _ _ _ _ _ _ _ _ _ ready.0 ready.1 _ _ _ c.run_block-inner.ensures _ _ c.close_block-ran.ensures) _ c.past_choice.ensures
