@@ -17,8 +17,11 @@ use Rattle.syntax.specs.Reader.{Cursor, nothing_left, over, script, term, start,
 use Rattle.syntax.specs.Measures.{size}
 use Rattle.syntax.specs.Within.{Under}
 use Rattle.syntax.specs.ByteParts.{Ready, Got, got_of, RowsAfter, Reading, version_at, lead_judged, read_script, whole_got, ScriptRead}
-use Rattle.script_reader.specs.Lent.{Inside, RowsFor, reached, lead_got, remaining, read_outermost, TermRead, OutermostRead, end_judged, with_version}
+use Rattle.script_reader.specs.Lent.{Inside, RowsFor, reached, lead_got, remaining, read_outermost, script_got, TermRead, OutermostRead, end_judged, with_version}
 use Rattle.syntax.specs.ByteParts as got
+use Rattle.syntax.specs.declared.refusals.Refusal as answer
+use Rattle.std.specs.Prelude as prelude
+use Rattle.script_reader.specs.declared.script.Script.{Script}
 use Rattle.syntax.proofs.Answers.{then, ran, same, is_done}
 use Rattle.syntax.proofs.Lists.{under_drop}
 use Rattle.syntax.proofs.HeadSound.{under_got}
@@ -113,6 +116,10 @@ module _ (l : Limits) (k : ℕ) (t : List ℕ) (u : Under 256 t) (rows rows₁ :
           let o : r ≡ got.Refused n p = subst (λ (g : Got). OutermostRead l k g t (reached 0 g) rows rows₁ r) a b in
           subst (λ (g : Got). Read (end_judged g t (reached (reached 0 lead) g))) (sym o) (whole_lead n p (lead_narrow t k ∙ ap (narrowed (leb v k)) e))
 
+  -- The same where each answer of the reader tells where it stands after it.
+  pub whole_moved : (lead r end : Got) (s₁ s₂ : List ℕ) (a₁ a₂ : ℕ) → lead ≡ lead_got v (lead_judged newest t 0) → s₁ ≡ t → a₁ ≡ reached 0 lead → OutermostRead l k lead s₁ a₁ rows rows₁ r → s₂ ≡ s₁ → a₂ ≡ reached a₁ r → end ≡ end_judged r s₂ a₂ → Read end
+  whole_moved lead r end s₁ s₂ a₁ a₂ a s p o s' p' e = whole_read lead r end a (rw (s, p) at o) (rw (s', p', s, p) at e)
+
 -- The cursor of a whole script has counted its terms, and they fit.
 pub script_size : (l : Limits) (k : ℕ) (t : List ℕ) → Under 256 t → (x : Whole) (s : Cursor) → read_script l k t ≡ ok (x, s) → (s.terms ≡ size x.term) × (size x.term ≤ l.terms)
 unfolding whole_script script over
@@ -164,3 +171,8 @@ ends_there l k t u rows rows₁ a b c q = (go (read_script l k t) refl q.0, q.1)
         let i : a ≡ o.1.at = cc in
         rw (sym (i ∙ z)) h
     go (err e) f h = let z : ◌≡◌ {A = ℕ} 0 1 = cc in absurd (omega arith)
+
+-- The same of the code's answer.
+pub ends_told : (l : Limits) (k : ℕ) (t : List ℕ) → Under 256 t → (rows rows₁ : List ℕ) (a : ℕ) (r : prelude.Result Script answer.Refusal) → ScriptRead l k t rows rows₁ (script_got a r) → ScriptRead l k t rows rows₁ (script_got (length t) r)
+ends_told l k t u rows rows₁ a (prelude.Ok s) q = ends_there l k t u rows rows₁ a s.terms s.version q
+ends_told l k t u rows rows₁ a (prelude.Err e) q = q

@@ -50,19 +50,15 @@ told_got f (prelude.Err r) = Refused (refusal_of r).0 (refusal_of r).1
 abbrev pub version_got : ℕ → prelude.Result ℕ answer.Refusal → Got
 version_got next r = told_got (λ v. Fine next 0 v) r
 
--- That for the outermost term of version v, with the version in place of the boxes, which no caller asks for: as progress, and as a number of
--- terms where the term ends at an offset.
+-- That for the outermost term of version v, with the version in place of the boxes, which no caller asks for.
 abbrev pub progress_got : ℕ → prelude.Result Progress answer.Refusal → Got
 progress_got v r = told_got (λ (p : Progress). Fine p.at p.terms v) r
-
-abbrev pub terms_got : ℕ → ℕ → prelude.Result ℕ answer.Refusal → Got
-terms_got v next r = told_got (λ n. Fine next n v) r
 
 -- That for what is left after an answer.
 abbrev pub end_got : Got → prelude.Result (Unit {0}) answer.Refusal → Got
 end_got g r = told_got (λ u. g) r
 
--- That for a whole script, which ends at an offset.
+-- That for the outermost term and for a whole script, which end at an offset.
 abbrev pub script_got : ℕ → prelude.Result Script answer.Refusal → Got
 script_got next r = told_got (λ (s : Script). Fine next s.terms s.version) r
 

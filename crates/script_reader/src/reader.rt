@@ -4,8 +4,9 @@ ghost use Rattle.std.specs.Prelude.{◌≡◌, ℕ, ◌+◌, [], ◌∷◌, leb}
 ghost use Rattle.syntax.specs.Result.{ok};
 ghost use Rattle.syntax.specs.Refusals.{told};
 ghost use Rattle.syntax.specs.ByteParts.{Fine};
-ghost use Rattle.script_reader.specs.Lent.{begun, advanced, Inside, RowsFor, marked, version_got, progress_got, terms_got, end_got, LeadRead, TermRead, OutermostRead, end_judged};
+ghost use Rattle.script_reader.specs.Lent.{begun, advanced, Inside, RowsFor, marked, version_got, progress_got, script_got, end_got, LeadRead, TermRead, OutermostRead, end_judged};
 
+use crate::script::Script;
 use syntax::kinds::{NEWEST, knows_version};
 use syntax::limits;
 use syntax::limits::Limits;
@@ -145,28 +146,35 @@ impl<'a> Reader<'a> {
         Ok(version)
     }
 
-    // The outermost term (LANGUAGE 2.1), from the next offset on: its number of terms.
+    // The outermost term (LANGUAGE 2.1), from the next offset on, with the kinds of the version that was read before it: the
+    // version and the number of terms. A refusal before it is answered again.
     pub fn read_outermost(
         &mut self,
         limits: &Limits,
         newest: usize,
-        version: u32,
+        lead: Result<u32, Refusal>,
         rows: &mut [u32],
-    ) -> Result<usize, Refusal>
+    ) -> Result<Script, Refusal>
         requires { Inside self.old.script.now self.old.at × RowsFor limits.now rows.old }
-        ensures read { OutermostRead limits.now newest (Fine self.old.at 0 version) self.old.script.now self.old.at rows.old rows.new (terms_got version self.new.at result) }
-        ensures moved { self.new ≡ advanced self.old (terms_got version self.new.at result) }
+        ensures read { OutermostRead limits.now newest (version_got self.old.at lead) self.old.script.now self.old.at rows.old rows.new (script_got self.new.at result) }
+        ensures moved { self.new ≡ advanced self.old (script_got self.new.at result) }
     {
-        let version = version as usize;
-        let progress = read_outermost_term(limits, newest, version, self.script, self.at, rows)?;
+        let version = lead?;
+        let (script, at) = (self.script, self.at);
+        let progress = read_outermost_term(limits, newest, version as usize, script, at, rows)?;
         self.at = progress.at;
-        Ok(progress.terms)
+        Ok(Script {
+            version,
+            terms: progress.terms,
+        })
     }
 
-    // The end (LANGUAGE 2.1): no byte stands at the next offset, or 19.
-    pub fn read_end(&self) -> Result<(), Refusal>
-        ensures { (terms version : ℕ) → end_got (Fine self.now.at terms version) result ≡ end_judged (Fine self.now.at terms version) self.now.script.now self.now.at }
+    // The end (LANGUAGE 2.1): no byte stands at the next offset, or 19. A refusal before it is answered again.
+    pub fn read_end(&self, got: Result<Script, Refusal>) -> Result<Script, Refusal>
+        ensures { script_got self.now.at result ≡ end_judged (script_got self.now.at got) self.now.script.now self.now.at }
     {
-        judge_end(self.script, self.at)
+        let script = got?;
+        judge_end(self.script, self.at)?;
+        Ok(script)
     }
 }

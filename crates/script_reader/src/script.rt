@@ -28,10 +28,9 @@ pub fn read_script(
     ensures { ScriptRead limits.now newest script.now rows.old rows.new (script_got (length script.now) result) }
 {
     let mut reader = Reader::new(script);
-    let version = reader.read_lead()?;
-    let terms = reader.read_outermost(limits, newest, version, rows)?;
-    reader.read_end()?;
-    Ok(Script { version, terms })
+    let lead = reader.read_lead();
+    let outermost = reader.read_outermost(limits, newest, lead, rows);
+    reader.read_end(outermost)
 }
 
 // 0 in every field from `from` on: the unused rows (LANGUAGE 2.10), and all of them after a refusal (5.4).
