@@ -50,8 +50,8 @@ pub fn find_uses(rows: &[u32], terms: usize, uses: &mut [u32])
     }
 }
 
-// A variable in use holds a borrow of the root that counts, of those that may hold one. Most often none may: what the terms
-// around name is gathered only where one may.
+// A variable in use holds a borrow of the root that counts, of those that may hold one. Most often none may, and the two
+// below ask that first: so a term costs a call, and what the terms around name is gathered, only where one may.
 fn is_barred(
     script: &Script,
     around: &Around,
@@ -64,9 +64,6 @@ fn is_barred(
     requires { AllAround script.now around.now × TableFor env.now script.now.variables × (length script.now.uses.now ≡ script.now.variables) × (root < script.now.variables) × MayHold env.now which root may }
     ensures { (ns : Unfinished) → LaterIs script.now.variables script.now.uses.now from (named_around script.now around.now) ns → result ≡ held (borrows_by which) (in_use script.now.variables ns (environment_of env.now)) script.now.variables (environment_of env.now) root }
 {
-    if is_empty(may) {
-        return false;
-    }
     let later = Later {
         uses: script.uses,
         from,
@@ -81,6 +78,9 @@ pub fn read_barred(script: &Script, around: &Around, from: usize, env: &[Row], r
     ensures { (ns : Unfinished) → LaterIs script.now.variables script.now.uses.now from (named_around script.now around.now) ns → result ≡ read_barred script.now.variables ns (environment_of env.now) root }
 {
     let may = may_bar_reading(env, script.variables, root);
+    if is_empty(may) {
+        return false;
+    }
     is_barred(script, around, from, env, root, Borrows::Exclusive, may)
 }
 
@@ -90,5 +90,8 @@ pub fn write_barred(script: &Script, around: &Around, from: usize, env: &[Row], 
     ensures { (ns : Unfinished) → LaterIs script.now.variables script.now.uses.now from (named_around script.now around.now) ns → result ≡ write_barred script.now.variables ns (environment_of env.now) root }
 {
     let may = may_bar_writing(env, script.variables, root);
+    if is_empty(may) {
+        return false;
+    }
     is_barred(script, around, from, env, root, Borrows::Any, may)
 }

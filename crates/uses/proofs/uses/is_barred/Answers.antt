@@ -1,11 +1,7 @@
 -- `uses::uses::is_barred` meets its contract. Assumes nothing.
-use mathlib.Core.Path.{sym, ◌∙◌}
 use Rattle.uses.specs.RowUses.{named_around}
-use Rattle.uses.proofs.BarredLaws.{nobody_holds, later_has}
+use Rattle.uses.proofs.BarredLaws.{later_has}
 use Rattle.uses.proofs.uses.is_barred.Goals as goal
-
-pub returns-then-is_empty : goal.returns-then-is_empty
-returns-then-is_empty c = λ ns later. sym (nobody_holds _ _ _ _ c.requires.4 (sym c.is_empty.ensures ∙ c.if-is_empty.true) _ _)
 
 pub is_held-requires : goal.is_held-requires
 is_held-requires c =
