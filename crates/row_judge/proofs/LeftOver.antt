@@ -1,11 +1,12 @@
 -- The numbers after a script's last row: their bits, the first that is not 0, and what the reader says of them.
-use Prim.Native.Nat.{ℕ, zero, suc, ◌+◌, ◌/◌, ◌≤◌}
+use Prim.Native.Nat.{ℕ, zero, suc, ◌+◌, ◌-◌, ◌/◌, ◌≤◌, ◌<◌}
 use native.Mathlib.Omega.{arith}
-use mathlib.Core.Path.{◌≡◌, ap, ◌∙◌}
+use native.Mathlib.Numerals.{add-one}
+use mathlib.Core.Path.{◌≡◌, sym, ap, ◌∙◌}
 use mathlib.Core.Bool.{Bool, true, false}
 use mathlib.Core.List.{List, [], ◌∷◌}
-use lib.ListN.{length, take, drop, length-drop}
-use lib.Seq.{drop-drop}
+use lib.ListN.{length, take, drop, get_or, length-drop, drop_of_length-le}
+use lib.Seq.{drop-cons, drop-drop}
 use lib.Dec.{ltb, eqb}
 use lib.Bits.{bit_or, and_le_l, and_le_r, or_add_and}
 use borrow.Author.Tests.{lt-ltb, le-ltb, eq-eqb}
@@ -13,6 +14,31 @@ use Rattle.syntax.specs.Result.{ok, err, need, pick, ◌>>=◌}
 use Rattle.syntax.specs.Layout.{in_rows}
 use Rattle.syntax.specs.Reader.{nothing_left}
 use Rattle.syntax.specs.RowParts.{bits_of, first_used}
+
+first_left : (rows : List ℕ) (i : ℕ) → i < length rows → drop i rows ≡ get_or rows i 0 ∷ drop (i + 1) rows
+first_left rows i h = rw (add-one, drop-cons rows i 0)
+
+-- The bits of n numbers, of which k have been looked at.
+pub bits_more : (rows : List ℕ) (b from k n : ℕ) → k < n → from + n ≤ length rows
+    → bits_of b (take (n - k) (drop (from + k) rows)) ≡ bits_of (bit_or b (get_or rows (from + k) 0)) (take (n - (k + 1)) (drop (from + (k + 1)) rows))
+unfolding bits_of
+bits_more rows b from k n h m =
+    let e : n - k ≡ suc (n - (k + 1)) = omega (arith, h) in
+    let s : from + (k + 1) ≡ from + k + 1 = omega arith in
+    rw (e, s, first_left rows (from + k) (omega (arith, h, m)))
+
+pub bits_none : (rows : List ℕ) (b from k n : ℕ) → n ≤ k → b ≡ bits_of b (take (n - k) (drop (from + k) rows))
+unfolding bits_of
+bits_none rows b from k n h = let e : n - k ≡ 0 = omega (arith, h) in rw e
+
+-- The bits of all numbers from i on.
+pub rest_bits_more : (rows : List ℕ) (b i : ℕ) → i < length rows → bits_of b (drop i rows) ≡ bits_of (bit_or b (get_or rows i 0)) (drop (i + 1) rows)
+unfolding bits_of
+rest_bits_more rows b i h = ap (bits_of b) (first_left rows i h)
+
+pub rest_bits_none : (rows : List ℕ) (b i : ℕ) → length rows ≤ i → b ≡ bits_of b (drop i rows)
+unfolding bits_of
+rest_bits_none rows b i h = sym (ap (bits_of b) (drop_of_length-le rows h))
 
 no_bits : (a b : ℕ) → bit_or a b ≡ 0 → (a ≡ 0) × (b ≡ 0)
 no_bits a b h = omega (arith, or_add_and a b, and_le_l a b, and_le_r a b)

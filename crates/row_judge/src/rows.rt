@@ -9,7 +9,7 @@ ghost use Rattle.syntax.specs.Refusals.{told};
 ghost use Rattle.syntax.specs.RowParts.{field_at, fields_fit, no_block, row_number, RowJudged, RowsReady, term_rows, block_rows, branch_rows, span_of, bits_of, first_used};
 
 use syntax::fields::{field_at, index_at};
-use syntax::kinds::Kind;
+use syntax::kinds::{Kind, known};
 use syntax::limits::{self, Limits};
 use syntax::refusals::{Reason, Refusal};
 
@@ -70,10 +70,8 @@ pub fn no_block(version: usize, rows: &[u32], i: usize) -> bool
     if rows.len() <= at {
         return false;
     }
-    match Kind::in_version(version, rows[at]) {
-        Some(kind) => !matches!(kind, Kind::Block),
-        None => false,
-    }
+    let kind = rows[at];
+    known(version, kind) && kind != Kind::Block.number()
 }
 
 // The kind of row i, or why it is refused, in the order 12, 13, 15, 17, 14 (LANGUAGE 5.12). 16 cannot be met, since the rows
