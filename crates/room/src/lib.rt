@@ -1,5 +1,5 @@
 // Runs scripts that the check accepts, from term rows (LANGUAGE 6.6) or from bytes (6.8). What the check accepts runs
-// without a fault, so the answers have no case for one.
+// without a fault, so no answer is one.
 #![tactic(auto)]
 
 ghost use Rattle.std.specs.Prelude.{◌≡◌, Ok};
@@ -8,7 +8,7 @@ ghost use Rattle.room.specs.Running.{told_run, run_of, SafeRun};
 ghost use Rattle.room.specs.Calling.{told_call, call_fits, call_of, SafeCall};
 ghost use Rattle.room.specs.Parts.{RunAccepted};
 
-use machine::Ran;
+pub use machine::Ran;
 use syntax::limits::Limits;
 use syntax::refusals::{Reason, Refusal};
 use syntax::{kinds, limits};
